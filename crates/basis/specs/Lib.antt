@@ -1,0 +1,5 @@
+pub mod Pick
+pub mod Left
+pub mod Only
+pub mod Lists
+pub mod Table

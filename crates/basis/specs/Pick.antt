@@ -1,0 +1,25 @@
+-- A choice by a test, and the laws by which a proof rewrites tests.
+use mathlib.Core.Bool.{Bool, true, false}
+use mathlib.Core.Path.{_≡_, refl, ap}
+use borrow.Author.Tests.{lt-ltb, le-ltb, le-leb, lt-leb, eq-eqb, ne-eqb}
+
+unfoldable pub pick : {A : Type 0} → Bool → A → A → A
+pick true a b = a
+pick false a b = b
+
+pub pick-yes : {A : Type 0} (t : Bool) (a b : A) → t ≡ true → pick t a b ≡ a
+unfolding pick
+pick-yes t a b h = ap (λ (u : Bool). pick u a b) h
+
+pub pick-no : {A : Type 0} (t : Bool) (a b : A) → t ≡ false → pick t a b ≡ b
+unfolding pick
+pick-no t a b h = ap (λ (u : Bool). pick u a b) h
+
+-- `search tests` finds each premise among the tests that the code has passed.
+pub ruleset tests = (pick-yes, pick-no, lt-ltb, le-ltb, le-leb, lt-leb, eq-eqb, ne-eqb)
+
+-- What holds of both choices, each under its test, holds of the choice.
+pub pick-all : {A : Type 0} (P : A → Type 0) (t : Bool) (a b : A) → (t ≡ true → P a) → (t ≡ false → P b) → P (pick t a b)
+unfolding pick
+pick-all P true a b y n = y refl
+pick-all P false a b y n = n refl

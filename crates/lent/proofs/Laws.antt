@@ -1,0 +1,63 @@
+-- What `put` leaves, said of its parts: for callers that know whether there is room.
+use Prim.Native.Nat.{ℕ, _+_, _<_, _≤_}
+use mathlib.Core.Path.{_≡_, refl, _∙_}
+use mathlib.Core.List.{List, _++_, append-assoc}
+use native.Mathlib.Nat.{zero-add}
+use native.Mathlib.Omega.{arith}
+use borrow.Author.Tests.{leb-true}
+use lib.ListN.{length, take, drop, length-append, length-take, length-drop}
+use lib.Dec.{leb}
+use lib.Seq.{take-at, drop-at, length-take-le, drop-drop, take-append-seam, drop-append-add}
+use Rattle.basis.specs.Pick.{tests, pick-all}
+use Rattle.basis.specs.Left.{Left, left}
+use Rattle.lent.specs.Put.{pasted, putOf}
+use Rattle.lent.specs.Led.{led}
+use Rattle.lent.specs.declared.Placed.{Placed}
+use Rattle.lent.specs.declared.Placed.the-variants.{Stored, NoRoom}
+
+pub put-fits : (d : List ℕ) (at : ℕ) (s : List ℕ) → at + length s ≤ length d → putOf d at s ≡ left Stored (pasted d at s)
+unfolding putOf
+put-fits d at s h = simp tests
+
+pub put-passes : (d : List ℕ) (at : ℕ) (s : List ℕ) → length d < at + length s → putOf d at s ≡ left NoRoom d
+unfolding putOf
+put-passes d at s h = simp tests
+
+-- Put at the very start, a message leads the buffer.
+pub put-leads : (s d : List ℕ) → length s ≤ length d → putOf d 0 s ≡ left Stored (led s d)
+put-leads s d h = put-fits d 0 s (simp zero-add h) ∙ simp zero-add
+
+-- Before the place all is as it was, at the place lies the part, and behind it all is as it was.
+module _ (d : List ℕ) (at : ℕ) (s : List ℕ) (h : at ≤ length d) where
+  pub pasted-before : take at (pasted d at s) ≡ take at d
+  pasted-before = simp append-assoc (take-at (take at d) (s ++ drop (at + length s) d) at (length-take-le at d h))
+
+  pub pasted-there : take (at + length s) (pasted d at s) ≡ take at d ++ s
+  pasted-there =
+      let e = length-take-le at d h in
+      take-at (take at d ++ s) (drop (at + length s) d) (at + length s) (simp length-append (omega arith))
+
+  pub pasted-behind : drop (at + length s) (pasted d at s) ≡ drop (at + length s) d
+  pasted-behind =
+      let e = length-take-le at d h in
+      drop-at (take at d ++ s) (drop (at + length s) d) (at + length s) (simp length-append (omega arith))
+
+-- Lent memory is neither longer nor shorter afterwards.
+pub pasted-length : (d : List ℕ) (at : ℕ) (s : List ℕ) → at + length s ≤ length d → length (pasted d at s) ≡ length d
+pasted-length d at s h = simp (length-append, length-take, length-drop) (omega arith)
+
+pub put-length : (d : List ℕ) (at : ℕ) (s : List ℕ) → length (putOf d at s .memory) ≡ length d
+unfolding putOf
+put-length d at s =
+    pick-all (λ (x : Left Placed). length (x .memory) ≡ length d) (leb (at + length s) (length d)) _ _
+    (λ t. pasted-length d at s (leb-true (at + length s) (length d) t))
+    (λ _. refl)
+
+-- A head and then a block behind it lead the buffer as one message.
+pub led-two : (h b d : List ℕ) → length h + length b ≤ length d → putOf (led h d) (length h) b ≡ left Stored (led (h ++ b) d)
+led-two h b d k =
+    let l : length (led h d) ≡ length d = simp (length-append, length-drop) (omega arith) in
+    let front : take (length h) (led h d) ≡ h = take-append-seam h (drop (length h) d) in
+    let rest : drop (length h + length b) (led h d) ≡ drop (length (h ++ b)) d =
+    drop-append-add h (drop (length h) d) (length b) ∙ simp (drop-drop, length-append) in
+    put-fits (led h d) (length h) b (omega arith) ∙ rw (front, rest)

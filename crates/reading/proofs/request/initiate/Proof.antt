@@ -1,0 +1,14 @@
+use Rattle.basis.specs.Pick.{tests}
+use Rattle.wire.specs.Request.{initiateOf}
+use borrow.Author.Needs.{needs}
+use Rattle.reading.proofs.request.initiate.Statement.{statement}
+use Rattle.reading.proofs.request.initiate.Tie as tie
+
+pub initiate-spec : {M : Type 1} → statement M
+unfolding initiateOf
+initiate-spec =
+    tie.close
+    (tie.spec
+    (λ c κs. search needs)
+    (λ c. search (tests, c .versions-at .ensures, c .before .if1 .taken))
+    (λ c. search (tests, c .if1 .left)))

@@ -1,0 +1,19 @@
+use Rattle.basis.specs.Pick.{pick}
+use Rattle.wire.specs.Request.{requestOf}
+use Rattle.wire.proofs.Walk.{header-says}
+use mathlib.Core.Path.{_∙_, sym}
+use denote.Ref.{now}
+use borrow.Author.Needs.{needs}
+use Rattle.reading.proofs.request.read_request.Statement.{statement}
+use Rattle.reading.proofs.request.read_request.Tie as tie
+
+pub read-request-spec : {M : Type 1} → statement M
+unfolding requestOf pick
+read-request-spec =
+    tie.close
+    (tie.spec
+    (λ c κs. search needs)
+    (λ c. header-says (now (c .before .before .before .before .args .msg)) (sym (c .before .before .has-header .ensures) ∙ c .before .if1 .taken) .long)
+    (λ c κs. search needs)
+    (λ c. rw (← (c .before .before .before .has-header .ensures), c .before .before .if1 .taken) (c .typed .ensures))
+    (λ c. rw (← (c .before .has-header .ensures), c .if1 .left)))

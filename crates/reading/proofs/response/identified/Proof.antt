@@ -1,0 +1,17 @@
+use Rattle.basis.specs.Pick.{tests}
+use Rattle.wire.specs.Response.{identifiedOf}
+use borrow.Author.Tests.{eq-eqb}
+use borrow.Author.Needs.{needs}
+use Rattle.reading.proofs.response.identified.Statement.{statement}
+use Rattle.reading.proofs.response.identified.Tie as tie
+
+pub identified-spec : {M : Type 1} → statement M
+unfolding identifiedOf
+identified-spec =
+    tie.close
+    (tie.spec
+    (λ c. search needs)
+    (λ c κs. search needs)
+    (λ c κs. search needs)
+    (λ c. simp (tests, c .cleared .ensures, c .before .identity-in .ensures, eq-eqb _ _ (c .before .before .before .if1 .taken)))
+    (λ c. search (tests, c .if1 .left)))

@@ -1,0 +1,22 @@
+use Rattle.basis.specs.Pick.{tests}
+use Rattle.wire.specs.Response.{typedOf}
+use borrow.Author.Needs.{needs}
+use Rattle.reading.proofs.response.typed.Statement.{statement}
+use Rattle.reading.proofs.response.typed.Tie as tie
+
+pub typed-spec : {M : Type 1} → statement M
+unfolding typedOf
+typed-spec =
+    tie.close
+    (tie.spec
+    (λ c κs. search needs)
+    (λ c. search tests)
+    (λ c κs. search needs)
+    (λ c. search tests)
+    (λ c κs. search needs)
+    (λ c. search tests)
+    (λ c κs. search needs)
+    (λ c. search tests)
+    (λ c. search tests)
+    (λ c. search tests)
+    (λ c. search tests))

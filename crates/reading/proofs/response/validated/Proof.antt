@@ -1,0 +1,16 @@
+use Rattle.basis.specs.Pick.{tests}
+use Rattle.wire.specs.Response.{validatedOf}
+use borrow.Author.Needs.{needs}
+use Rattle.reading.proofs.response.validated.Statement.{statement}
+use Rattle.reading.proofs.response.validated.Tie as tie
+
+pub validated-spec : {M : Type 1} → statement M
+unfolding validatedOf
+validated-spec =
+    tie.close
+    (tie.spec
+    (λ c. search needs)
+    (λ c. search needs)
+    (λ c. search needs)
+    (λ c. search tests)
+    (λ c. search tests))

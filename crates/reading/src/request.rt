@@ -1,0 +1,79 @@
+// A request, by its length, version and type (001 T5-3 to T5-15).
+use crate::header::has_header;
+use crate::number::versions_at;
+use crate::number::word_at;
+use wire::codes;
+use wire::request::Parsed;
+use wire::request::Request;
+ghost use mathlib.Core.Path.{_≡_};
+ghost use Rattle.wire.specs.Request.{requestOf, typedOf, bareOf, initiateOf, dataOf};
+
+pub fn read_request(msg: &[u8]) -> Parsed
+    ensures { λ r. ⌜ r ≡ requestOf (now (msg .entry)) ⌝ }
+{
+    if has_header(msg) {
+        return typed(msg, msg[1]);
+    }
+    Parsed::Malformed
+}
+
+fn typed(msg: &[u8], t: u8) -> Parsed
+    ensures { λ r. ⌜ r ≡ typedOf (now (msg .entry)) t ⌝ }
+{
+    if t == codes::GET_FW_ID {
+        return bare(msg, Request::GetFwId);
+    }
+    if t == codes::INITIATE {
+        return initiate(msg);
+    }
+    if t == codes::DATA {
+        return block(msg);
+    }
+    if t == codes::VALIDATE {
+        return bare(msg, Request::Validate);
+    }
+    if t == codes::ABORT {
+        return bare(msg, Request::Abort);
+    }
+    if t == codes::DATA_NR {
+        return Parsed::Valid(Request::NotBuilt);
+    }
+    if t == codes::DATA_PAUSE {
+        return Parsed::Valid(Request::NotBuilt);
+    }
+    if t == codes::VENDOR_SPECIFIC {
+        return Parsed::Valid(Request::NotBuilt);
+    }
+    Parsed::Malformed
+}
+
+fn bare(msg: &[u8], request: Request) -> Parsed
+    ensures { λ r. ⌜ r ≡ bareOf (now (msg .entry)) request ⌝ }
+{
+    if msg.len() == codes::HEADER {
+        return Parsed::Valid(request);
+    }
+    Parsed::Malformed
+}
+
+fn initiate(msg: &[u8]) -> Parsed
+    ensures { λ r. ⌜ r ≡ initiateOf (now (msg .entry)) ⌝ }
+{
+    if msg.len() == codes::INITIATE_LENGTH {
+        return Parsed::Valid(Request::Initiate(versions_at(msg, 2)));
+    }
+    Parsed::Malformed
+}
+
+fn block(msg: &[u8]) -> Parsed
+    ensures { λ r. ⌜ r ≡ dataOf (now (msg .entry)) ⌝ }
+{
+    let n = msg.len();
+    if n < codes::DATA_HEAD {
+        return Parsed::Malformed;
+    }
+    Parsed::Valid(Request::Data {
+        number: word_at(msg, 2),
+        size: n - codes::DATA_HEAD,
+    })
+}

@@ -1,0 +1,74 @@
+-- The paper's sentences on settings and silence, said back of the definitions.
+use Prim.Native.Nat.{ℕ, _+_, _<_, _≤_}
+use mathlib.Core.Path.{_≡_, refl}
+use native.Mathlib.Omega.{arith}
+use borrow.Author.Tests.{ltb-true, ltb-false}
+use lib.Dec.{ltb}
+use Rattle.basis.specs.Pick.{tests, pick-all}
+use Rattle.silence.specs.Settings.{settingsOf, numberOf}
+use Rattle.silence.specs.Expiry.{grownOf, grown}
+use Rattle.silence.specs.declared.Settings.{Settings}
+use Rattle.silence.specs.declared.Checked.{Checked}
+use Rattle.silence.specs.declared.Checked.the-variants.{Made}
+use Rattle.silence.specs.declared.Grown.{Grown}
+use Rattle.silence.specs.declared.Event.the-variants.{Quiet, Resend, NoneLeft}
+
+pub record Within (limit resends : ℕ) : Type 0 where
+  pub low : 1 ≤ limit
+  pub high : limit ≤ 10000
+  pub few : resends ≤ 10
+
+-- Settings within the limits are made as they were asked for; settings outside these: 29.
+pub within-made : (limit resends : ℕ) → Within limit resends → settingsOf limit resends ≡ Made (record { limit = limit; resends = resends })
+unfolding settingsOf
+within-made limit resends h =
+    let a = h .low in
+    let b = h .high in
+    let c = h .few in
+    simp tests
+
+pub outside-29 : (limit resends : ℕ) → (Within limit resends → ⊥) → numberOf (settingsOf limit resends) ≡ 29
+unfolding settingsOf
+outside-29 limit resends h =
+    let P : Checked → Type 0 = λ x. numberOf x ≡ 29 in
+    pick-all P (ltb limit 1) _ _ (λ _. refl)
+    (λ a. pick-all P (ltb 10000 limit) _ _ (λ _. refl)
+    (λ b. pick-all P (ltb 10 resends) _ _ (λ _. refl)
+    (λ c. absurd (h (record { low = ltb-false limit 1 a; high = ltb-false 10000 limit b; few = ltb-false 10 resends c })))))
+
+module _ (silence elapsed made : ℕ) (settings : Settings) where
+  abbrev after : Grown
+  after = grownOf silence elapsed made settings
+
+  walk : (P : Grown → Type 0) → (silence + elapsed < settings .limit → P (grown (silence + elapsed) made Quiet))
+      → (settings .limit ≤ silence + elapsed → made < settings .resends → P (grown 0 (made + 1) Resend))
+      → (settings .limit ≤ silence + elapsed → settings .resends ≤ made → P (grown 0 made NoneLeft)) → P after
+  unfolding grownOf
+  walk P quiet resend none =
+      pick-all P (ltb (silence + elapsed) (settings .limit)) _ _
+      (λ t. quiet (ltb-true (silence + elapsed) (settings .limit) t))
+      (λ f. pick-all P (ltb made (settings .resends)) _ _
+      (λ t. resend (ltb-false (silence + elapsed) (settings .limit) f) (ltb-true made (settings .resends) t))
+      (λ g. none (ltb-false (silence + elapsed) (settings .limit) f) (ltb-false made (settings .resends) g)))
+
+  -- An expiry sets silence to zero.
+  pub expiry-zero : (after .event ≡ Quiet → ⊥) → after .silence ≡ 0
+  expiry-zero = walk (λ g. (g .event ≡ Quiet → ⊥) → g .silence ≡ 0) (λ _ h. absurd (h refl)) (λ _ _ _. refl) (λ _ _ _. refl)
+
+  -- Silence that reaches the limit exactly is an expiry, and so is any longer one.
+  pub limit-expires : settings .limit ≤ silence + elapsed → after .event ≡ Quiet → ⊥
+  limit-expires =
+      walk (λ g. settings .limit ≤ silence + elapsed → g .event ≡ Quiet → ⊥) (λ t h _. omega arith)
+      (λ _ _ _ e. let z : _≡_ {A = ℕ} 0 1 = cc in omega arith)
+      (λ _ _ _ e. let z : _≡_ {A = ℕ} 0 1 = cc in omega arith)
+
+  -- What is left is always below a limit that a session can have.
+  pub below-limit : 1 ≤ settings .limit → after .silence < settings .limit
+  below-limit = walk (λ g. 1 ≤ settings .limit → g .silence < settings .limit) (λ t _. t) (λ _ _ h. h) (λ _ _ h. h)
+
+  -- One call that passes several limits is one expiry: at most one resend, and never more than the settings allow.
+  pub one-expiry : after .resends ≤ made + 1
+  one-expiry = walk (λ g. g .resends ≤ made + 1) (λ _. omega arith) (λ _ _. omega arith) (λ _ _. omega arith)
+
+  pub resends-within : made ≤ settings .resends → after .resends ≤ settings .resends
+  resends-within = walk (λ g. made ≤ settings .resends → g .resends ≤ settings .resends) (λ _ h. h) (λ _ t _. omega arith) (λ _ _ h. h)

@@ -1,0 +1,42 @@
+-- Numbers taken into bytes and put together again.
+use Prim.Native.Nat.{ℕ, _+_, _*_, _/_, _%_, _<_}
+use mathlib.Core.Path.{_≡_}
+use mathlib.Core.List.{List}
+use native.Mathlib.Omega.{arith}
+use Rattle.wire.specs.Numbers.{Bytes, byteAt}
+
+pub word-back : (n : ℕ) → n < 65536 → n % 256 + 256 * (n / 256 % 256) ≡ n
+word-back n h = omega arith
+
+pub size-back : (n : ℕ) → n < 1048576 → n % 256 + 256 * (n / 256 % 256) + 65536 * (n / 65536 % 16 % 16) ≡ n
+size-back n h = omega arith
+
+pub low-back : (a b : ℕ) → a < 256 → (a + 256 * b) % 256 ≡ a
+low-back a b h = omega arith
+
+pub high-back : (a b : ℕ) → a < 256 → b < 256 → (a + 256 * b) / 256 % 256 ≡ b
+high-back a b h k =
+    let q : (a + 256 * b) / 256 ≡ b = omega arith in
+    rw q (omega arith)
+
+-- The same of two bytes of a message.
+pub bytes-low : (m : List ℕ) → Bytes m → (i j : ℕ) → (byteAt m i + 256 * byteAt m j) % 256 ≡ byteAt m i
+bytes-low m small i j = low-back (byteAt m i) (byteAt m j) (small i)
+
+pub bytes-high : (m : List ℕ) → Bytes m → (i j : ℕ) → (byteAt m i + 256 * byteAt m j) / 256 % 256 ≡ byteAt m j
+bytes-high m small i j = high-back (byteAt m i) (byteAt m j) (small i) (small j)
+
+-- The three bytes of a MaxImageSize.
+module _ (a b d : ℕ) (p : a < 256) (q : b < 256) (r : d < 16) where
+  pub first-back : (a + 256 * b + 65536 * d) % 256 ≡ a
+  first-back = omega arith
+
+  pub second-back : (a + 256 * b + 65536 * d) / 256 % 256 ≡ b
+  second-back =
+      let x : (a + 256 * b + 65536 * d) / 256 ≡ b + 256 * d = omega arith in
+      rw x (omega arith)
+
+  pub third-back : (a + 256 * b + 65536 * d) / 65536 % 16 ≡ d
+  third-back =
+      let y : (a + 256 * b + 65536 * d) / 65536 ≡ d = omega arith in
+      rw y (omega arith)

@@ -1,0 +1,7 @@
+pub mod Halves
+pub mod RoundTrip
+pub mod Walk
+pub mod RequestBytes
+pub mod ResponseBytes
+pub mod Bench
+pub mod Unique

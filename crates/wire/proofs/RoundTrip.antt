@@ -1,0 +1,80 @@
+-- Reading what was written gives back the fields as sent, for every request and every response.
+use borrow.Author.Tests.{le-ltb}
+use Prim.Native.Nat.{ℕ, _-_, _*_, _/_, _%_, _<_, _≤_}
+use mathlib.Core.Bool.{true, false}
+use mathlib.Core.Path.{_≡_, refl}
+use mathlib.Core.List.{List, _++_}
+use native.Mathlib.Nat.{mod-mod}
+use native.Mathlib.Omega.{arith}
+use lib.ListN.{length}
+use Rattle.basis.specs.Pick.{pick}
+use Rattle.wire.specs.Header.{headed}
+use Rattle.wire.specs.Identity.{cleared}
+use Rattle.wire.specs.Request as request
+use Rattle.wire.specs.Response as response
+use Rattle.wire.specs.Written.{bareBytes, initiateBytes, headBytes, identifiedBytes, initiatedBytes, receiptBytes, validatedBytes, requestBytes, responseBytes}
+use Rattle.wire.specs.Fields.{Words, Sendable, Answerable, asSent}
+use Rattle.wire.specs.declared.request.Versions.{Versions}
+use Rattle.wire.specs.declared.request.Request.{Request}
+use Rattle.wire.specs.declared.request.Request.the-variants as Req
+use Rattle.wire.specs.declared.request.Parsed.the-variants as Asked
+use Rattle.wire.specs.declared.response.Identity.{Identity}
+use Rattle.wire.specs.declared.response.Response.{Response}
+use Rattle.wire.specs.declared.response.Response.the-variants as Res
+use Rattle.wire.specs.declared.response.Parsed.the-variants as Told
+use Rattle.wire.proofs.Halves.{word-back, size-back}
+
+upper-twice : (x : ℕ) → x / 16 * 16 / 16 * 16 ≡ x / 16 * 16
+upper-twice x = omega arith
+
+rest-twice : (k x : ℕ) → x % k % k ≡ x % k
+rest-twice k x = mod-mod x k
+
+initiate-back : (v : Versions) → Words v → request.requestOf (initiateBytes v) ≡ Asked.Valid (Req.Initiate v)
+unfolding request.requestOf headed initiateBytes request.typedOf request.initiateOf pick
+initiate-back v w = rw (word-back (v .first) (w .0), word-back (v .second) (w .1), word-back (v .third) (w .2), word-back (v .fourth) (w .3))
+
+data-back : (n : ℕ) (b : List ℕ) → n < 65536 → length b ≤ 256 → request.requestOf (headBytes n ++ b) ≡ Asked.Valid (Req.Data n (length b))
+unfolding request.requestOf headed headBytes request.typedOf request.dataOf pick
+data-back n b h k =
+    let shortest : 2 ≤ length (headBytes n ++ b) = omega arith in
+    let longest : length (headBytes n ++ b) ≤ 260 = omega arith in
+    let head : 4 ≤ length (headBytes n ++ b) = omega arith in
+    let rest : length (headBytes n ++ b) - 4 ≡ length b = omega arith in
+    simp (le-ltb _ _ shortest, le-ltb _ _ longest, le-ltb _ _ head, rest, word-back n h)
+
+pub request-back : (r : Request) (block : List ℕ) → Sendable r block → request.requestOf (requestBytes r ++ block) ≡ Asked.Valid r
+unfolding requestBytes bareBytes initiateBytes request.requestOf headed request.typedOf request.bareOf pick
+request-back Req.GetFwId b e = rw e
+request-back (Req.Initiate v) b h = rw (h .0) (initiate-back v (h .1))
+request-back (Req.Data n size) b h = rw (← (h .1)) (data-back n b (h .0) (rw (h .1) (h .2)))
+request-back Req.Validate b e = rw e
+request-back Req.Abort b e = rw e
+request-back Req.NotBuilt b h = absurd h
+
+identity-back : (st : ℕ) (i : Identity) → Answerable (Res.GetFwId st i) → response.responseOf (identifiedBytes st i) ≡ Told.Valid (Res.GetFwId st (cleared i))
+unfolding response.responseOf headed identifiedBytes response.typedOf response.identifiedOf pick
+identity-back st i h =
+    let v = i .versions in
+    let w = h .2 in
+    simp (
+      word-back (i .vendor) (h .0),
+      word-back (i .product) (h .1),
+      word-back (v .first) (w .0),
+      word-back (v .second) (w .1),
+      word-back (v .third) (w .2),
+      word-back (v .fourth) (w .3),
+      upper-twice,
+      rest-twice 16,
+      rest-twice 4,
+      rest-twice 32,
+    )
+
+pub response-back : (r : Response) → Answerable r → response.responseOf (responseBytes r) ≡ Told.Valid (asSent r)
+unfolding responseBytes initiatedBytes receiptBytes validatedBytes response.responseOf headed response.typedOf response.initiatedOf response.receiptOf response.validatedOf pick
+response-back (Res.GetFwId st i) h = identity-back st i h
+response-back (Res.Initiate st w size) h = rw (size-back size h)
+response-back (Res.Data st w n) h = rw (word-back n h)
+response-back (Res.Validate st w true) h = refl
+response-back (Res.Validate st w false) h = refl
+response-back Res.NotBuilt h = absurd h

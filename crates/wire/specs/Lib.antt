@@ -1,0 +1,9 @@
+pub mod Codes
+pub mod Status
+pub mod Numbers
+pub mod Header
+pub mod Identity
+pub mod Request
+pub mod Response
+pub mod Written
+pub mod Fields

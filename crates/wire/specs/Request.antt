@@ -1,0 +1,41 @@
+-- What a request says: its header, its type and the length of that type decide, in this order; else it is malformed.
+use Prim.Native.Nat.{ℕ, _-_}
+use mathlib.Core.List.{List}
+use lib.ListN.{length}
+use lib.Dec.{ltb, eqb}
+use Rattle.basis.specs.Pick.{pick}
+use Rattle.wire.specs.Codes.{header, initiateLength, dataHead, getFwId, initiate, datum, dataNr, validate, abort, dataPause, vendorSpecific}
+use Rattle.wire.specs.Header.{headed}
+use Rattle.wire.specs.Numbers.{byteAt, wordAt}
+use Rattle.wire.specs.Identity.{versionsAt}
+use Rattle.wire.specs.declared.request.Request.{Request}
+use Rattle.wire.specs.declared.request.Request.the-variants.{GetFwId, Initiate, Data, Validate, Abort, NotBuilt}
+use Rattle.wire.specs.declared.request.Parsed.{Parsed}
+use Rattle.wire.specs.declared.request.Parsed.the-variants.{Valid, Malformed}
+
+-- 001 T5-4, T5-11, T5-12: a header alone
+unfoldable pub bareOf : List ℕ → Request → Parsed
+bareOf m r = pick (eqb (length m) header) (Valid r) Malformed
+
+-- 001 T5-6
+unfoldable pub initiateOf : List ℕ → Parsed
+initiateOf m = pick (eqb (length m) initiateLength) (Valid (Initiate (versionsAt m 2))) Malformed
+
+-- 001 T5-8
+unfoldable pub dataOf : List ℕ → Parsed
+dataOf m = pick (ltb (length m) dataHead) Malformed (Valid (Data (wordAt m 2) (length m - dataHead)))
+
+-- 001 T5-3
+unfoldable pub typedOf : List ℕ → ℕ → Parsed
+typedOf m t =
+    pick (eqb t getFwId) (bareOf m GetFwId)
+    (pick (eqb t initiate) (initiateOf m)
+    (pick (eqb t datum) (dataOf m)
+    (pick (eqb t validate) (bareOf m Validate)
+    (pick (eqb t abort) (bareOf m Abort)
+    (pick (eqb t dataNr) (Valid NotBuilt)
+    (pick (eqb t dataPause) (Valid NotBuilt)
+    (pick (eqb t vendorSpecific) (Valid NotBuilt) Malformed)))))))
+
+unfoldable pub requestOf : List ℕ → Parsed
+requestOf m = pick (headed m) (typedOf m (byteAt m 1)) Malformed

@@ -1,0 +1,43 @@
+-- What a response says: its header, its type and the length of that type decide, in this order; else it is malformed.
+-- Reserved bits are ignored (001 section 1.4.2.8).
+use Prim.Native.Nat.{ℕ, _+_, _*_, _%_}
+use mathlib.Core.List.{List}
+use lib.ListN.{length}
+use lib.Dec.{eqb}
+use Rattle.basis.specs.Pick.{pick}
+use Rattle.wire.specs.Codes.{getFwIdResponse, initiateResponse, dataResponse, validateResponse, dataPauseResponse, vendorSpecificResponse, getFwIdResponseLength, initiateResponseLength, dataResponseLength, validateResponseLength}
+use Rattle.wire.specs.Header.{headed}
+use Rattle.wire.specs.Numbers.{byteAt, wordAt}
+use Rattle.wire.specs.Identity.{cleared, identityIn}
+use Rattle.wire.specs.declared.response.Response.the-variants.{GetFwId, Initiate, Data, Validate, NotBuilt}
+use Rattle.wire.specs.declared.response.Parsed.{Parsed}
+use Rattle.wire.specs.declared.response.Parsed.the-variants.{Valid, Malformed}
+
+-- 001 T5-18
+unfoldable pub identifiedOf : List ℕ → Parsed
+identifiedOf m = pick (eqb (length m) getFwIdResponseLength) (Valid (GetFwId (byteAt m 2) (cleared (identityIn m)))) Malformed
+
+-- 001 T5-20: MaxImageSize is its bits 19:0
+unfoldable pub initiatedOf : List ℕ → Parsed
+initiatedOf m = pick (eqb (length m) initiateResponseLength) (Valid (Initiate (byteAt m 2) (byteAt m 3) (wordAt m 4 + 65536 * (byteAt m 6 % 16)))) Malformed
+
+-- 001 T5-22: NumDataNR is not looked at
+unfoldable pub receiptOf : List ℕ → Parsed
+receiptOf m = pick (eqb (length m) dataResponseLength) (Valid (Data (byteAt m 2) (byteAt m 3) (wordAt m 5))) Malformed
+
+-- 001 T5-24: success is bit 0 of Flags
+unfoldable pub validatedOf : List ℕ → Parsed
+validatedOf m = pick (eqb (length m) validateResponseLength) (Valid (Validate (byteAt m 2) (byteAt m 3) (eqb (byteAt m 4 % 2) 1))) Malformed
+
+-- 001 T5-16
+unfoldable pub typedOf : List ℕ → ℕ → Parsed
+typedOf m t =
+    pick (eqb t getFwIdResponse) (identifiedOf m)
+    (pick (eqb t initiateResponse) (initiatedOf m)
+    (pick (eqb t dataResponse) (receiptOf m)
+    (pick (eqb t validateResponse) (validatedOf m)
+    (pick (eqb t dataPauseResponse) (Valid NotBuilt)
+    (pick (eqb t vendorSpecificResponse) (Valid NotBuilt) Malformed)))))
+
+unfoldable pub responseOf : List ℕ → Parsed
+responseOf m = pick (headed m) (typedOf m (byteAt m 1)) Malformed
