@@ -8,6 +8,7 @@ use wire::response::Parsed;
 use wire::response::Response;
 ghost use mathlib.Core.Path.{_≡_};
 ghost use lib.ListN.{length};
+ghost use Rattle.wire.specs.Codes.{getFwIdResponseLength};
 ghost use Rattle.wire.specs.Identity.{identityIn};
 ghost use Rattle.wire.specs.Response.{responseOf, typedOf, identifiedOf, initiatedOf, receiptOf, validatedOf};
 
@@ -57,7 +58,7 @@ fn identified(msg: &[u8]) -> Parsed
 
 // 001 T5-18.
 fn identity_in(msg: &[u8]) -> Identity
-    requires { ⌜ length (now msg) ≡ 22 ⌝ }
+    requires { ⌜ length (now msg) ≡ getFwIdResponseLength ⌝ }
     ensures { λ r. ⌜ r ≡ identityIn (now (msg .entry)) ⌝ }
 {
     let vendor = word_at(msg, 3);

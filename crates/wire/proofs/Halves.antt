@@ -2,14 +2,21 @@
 use Prim.Native.Nat.{ℕ, _+_, _*_, _/_, _%_, _<_}
 use mathlib.Core.Path.{_≡_}
 use mathlib.Core.List.{List}
+use native.Mathlib.Nat.{mod-mod}
 use native.Mathlib.Omega.{arith}
-use Rattle.wire.specs.Numbers.{Bytes, byteAt}
+use Rattle.wire.specs.Numbers.{Bytes, byteAt, wordAt}
 
 pub word-back : (n : ℕ) → n < 65536 → n % 256 + 256 * (n / 256 % 256) ≡ n
 word-back n h = omega arith
 
 pub size-back : (n : ℕ) → n < 1048576 → n % 256 + 256 * (n / 256 % 256) + 65536 * (n / 65536 % 16 % 16) ≡ n
 size-back n h = omega arith
+
+pub upper-twice : (x : ℕ) → x / 16 * 16 / 16 * 16 ≡ x / 16 * 16
+upper-twice x = omega arith
+
+pub rest-twice : (k x : ℕ) → x % k % k ≡ x % k
+rest-twice k x = mod-mod x k
 
 pub low-back : (a b : ℕ) → a < 256 → (a + 256 * b) % 256 ≡ a
 low-back a b h = omega arith
@@ -25,6 +32,12 @@ bytes-low m small i j = low-back (byteAt m i) (byteAt m j) (small i)
 
 pub bytes-high : (m : List ℕ) → Bytes m → (i j : ℕ) → (byteAt m i + 256 * byteAt m j) / 256 % 256 ≡ byteAt m j
 bytes-high m small i j = high-back (byteAt m i) (byteAt m j) (small i) (small j)
+
+pub bytes-word : (m : List ℕ) → Bytes m → (i : ℕ) → wordAt m i < 65536
+bytes-word m small i =
+    let a = small i in
+    let b = small (i + 1) in
+    omega arith
 
 -- The three bytes of a MaxImageSize.
 module _ (a b d : ℕ) (p : a < 256) (q : b < 256) (r : d < 16) where

@@ -3,5 +3,6 @@ pub mod RoundTrip
 pub mod Walk
 pub mod RequestBytes
 pub mod ResponseBytes
+pub mod Types
 pub mod Bench
 pub mod Unique

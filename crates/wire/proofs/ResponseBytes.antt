@@ -1,28 +1,33 @@
--- Every byte string that is read as a response is the bytes that writing it gives, exactly where its reserved bits and NumDataNR are zero.
+-- Every byte string that is read as a response is the bytes that writing it gives, exactly where its reserved bits and NumDataNR are zero;
+-- and its fields are such as can be sent, reserved bits cleared.
 use Prim.Native.Nat.{ℕ, zero, suc, _+_, _*_, _/_, _%_, _<_, _≤_}
 use mathlib.Core.Bool.{Bool, true, false}
-use mathlib.Core.Path.{_≡_, refl, ap}
+use mathlib.Core.Path.{_≡_, refl, _∙_, ap}
 use mathlib.Core.List.{List}
 use native.Mathlib.Omega.{arith}
 use lib.ListN.{length}
 use lib.Dec.{eqb}
 use Rattle.basis.specs.Lists.{spell, spelled-all}
+use Rattle.wire.specs.Codes.{getFwIdResponse, initiateResponse, dataResponse, validateResponse, dataPauseResponse, vendorSpecificResponse}
 use Rattle.wire.specs.Numbers.{Bytes, byteAt, wordAt}
 use Rattle.wire.specs.Identity.{cleared, identityIn}
 use Rattle.wire.specs.Response.{responseOf, typedOf, identifiedOf, initiatedOf, receiptOf, validatedOf}
 use Rattle.wire.specs.Written.{responseBytes, identifiedBytes, initiatedBytes, receiptBytes, validatedBytes, flagOf}
-use Rattle.wire.specs.Fields.{Plain}
+use Rattle.wire.specs.Fields.{BuiltResponse, Plain, Answerable, asSent}
 use Rattle.wire.specs.declared.response.Response.{Response}
 use Rattle.wire.specs.declared.response.Response.the-variants.{GetFwId, Initiate, Data, Validate, NotBuilt}
 use Rattle.wire.specs.declared.response.Parsed.{Parsed}
 use Rattle.wire.specs.declared.response.Parsed.the-variants.{Valid, Malformed}
 use Rattle.wire.proofs.Walk.{Reader, Told, refused, told, of-length, of-type, with-header}
-use Rattle.wire.proofs.Halves.{bytes-low, bytes-high, first-back, second-back, third-back}
+use Rattle.wire.proofs.RoundTrip.{response-back}
+use Rattle.wire.proofs.Halves.{bytes-low, bytes-high, bytes-word, upper-twice, rest-twice, first-back, second-back, third-back}
 
 -- What the bytes of m and the response r that they are read as have to do with each other.
 pub record Same (m : List ℕ) (r : Response) : Type 0 where
   pub there : Plain m r → responseBytes r ≡ m
   pub back : responseBytes r ≡ m → Plain m r
+  pub fields : Answerable r
+  pub cleared-already : asSent r ≡ r
 
 inner : (a b : Response) → Valid a ≡ Valid b → a ≡ b
 inner a b e = cc
@@ -47,11 +52,12 @@ byte-same : (l m : List ℕ) (i : ℕ) → l ≡ m → byteAt l i ≡ byteAt m i
 byte-same l m i e = ap (λ (x : List ℕ). byteAt x i) e
 
 module _ (m : List ℕ) (small : Bytes m) (v : byteAt m 0 ≡ 1) where
-  identity-same : byteAt m 1 ≡ 0x01 → length m ≡ 22 → Same m (GetFwId (byteAt m 2) (cleared (identityIn m)))
+  identity-same : byteAt m 1 ≡ getFwIdResponse → length m ≡ 22 → Same m (GetFwId (byteAt m 2) (cleared (identityIn m)))
   unfolding responseBytes identifiedBytes spell
   identity-same e n =
       let low = bytes-low m small in
       let high = bytes-high m small in
+      let word = bytes-word m small in
       record {
         there = λ p.
             let p0 = p .0 in
@@ -73,9 +79,11 @@ module _ (m : List ℕ) (small : Bytes m) (v : byteAt m 0 ≡ 1) where
             let b3 : byteAt m 20 % 32 % 32 ≡ byteAt m 20 = byte-same _ m 20 w in
             let b4 : byteAt m 21 % 16 % 16 ≡ byteAt m 21 = byte-same _ m 21 w in
             (omega arith, omega arith, omega arith, omega arith, omega arith);
+        fields = (word 3, word 5, (word 9, word 11, word 13, word 15));
+        cleared-already = simp (upper-twice, rest-twice 16, rest-twice 4, rest-twice 32);
       }
 
-  ready-same : byteAt m 1 ≡ 0x02 → length m ≡ 7 → Same m (Initiate (byteAt m 2) (byteAt m 3) (wordAt m 4 + 65536 * (byteAt m 6 % 16)))
+  ready-same : byteAt m 1 ≡ initiateResponse → length m ≡ 7 → Same m (Initiate (byteAt m 2) (byteAt m 3) (wordAt m 4 + 65536 * (byteAt m 6 % 16)))
   unfolding responseBytes initiatedBytes spell
   ready-same e n =
       let s4 = small 4 in
@@ -91,42 +99,54 @@ module _ (m : List ℕ) (small : Bytes m) (v : byteAt m 0 ≡ 1) where
         back = λ w.
             let b : (wordAt m 4 + 65536 * (byteAt m 6 % 16)) / 65536 % 16 ≡ byteAt m 6 = byte-same _ m 6 w in
             omega arith;
+        fields = omega arith;
+        cleared-already = refl;
       }
 
-  receipt-same : byteAt m 1 ≡ 0x03 → length m ≡ 7 → Same m (Data (byteAt m 2) (byteAt m 3) (wordAt m 5))
+  receipt-same : byteAt m 1 ≡ dataResponse → length m ≡ 7 → Same m (Data (byteAt m 2) (byteAt m 3) (wordAt m 5))
   unfolding responseBytes receiptBytes spell
   receipt-same e n = record {
     there = λ z. rw (bytes-low m small 5 6, bytes-high m small 5 6) (cc (spelled-all 7 m n, v, e, z));
     back = λ w. let b : 0 ≡ byteAt m 4 = byte-same _ m 4 w in omega arith;
+    fields = bytes-word m small 5;
+    cleared-already = refl;
   }
 
-  validated-same : byteAt m 1 ≡ 0x05 → length m ≡ 5 → Same m (Validate (byteAt m 2) (byteAt m 3) (eqb (byteAt m 4 % 2) 1))
+  validated-same : byteAt m 1 ≡ validateResponse → length m ≡ 5 → Same m (Validate (byteAt m 2) (byteAt m 3) (eqb (byteAt m 4 % 2) 1))
   unfolding responseBytes validatedBytes spell
   validated-same e n = record {
     there = λ z. rw (flag-back (byteAt m 4) z) (cc (spelled-all 5 m n, v, e));
     back = λ w.
         let b : flagOf (eqb (byteAt m 4 % 2) 1) ≡ byteAt m 4 = byte-same _ m 4 w in
         rw b at (flag-small (eqb (byteAt m 4 % 2) 1));
+    fields = tt;
+    cleared-already = refl;
   }
 
   not-built : 2 ≤ length m → Told responses (Same m) (Valid NotBuilt)
   unfolding responseBytes
   not-built long =
       told responses (Same m) NotBuilt
-      (record { there = λ p. absurd p; back = λ e. let l : length m ≡ 0 = rw (← e) in omega arith })
+      (record { there = λ p. absurd p; back = λ e. let l : length m ≡ 0 = rw (← e) in omega arith; fields = tt; cleared-already = refl })
 
   typed-read : 2 ≤ length m → Told responses (Same m) (typedOf m (byteAt m 1))
   unfolding typedOf identifiedOf initiatedOf receiptOf validatedOf
   typed-read long =
       let by = of-type responses (Same m) (byteAt m 1) in
       let sized = of-length responses (Same m) m in
-      by 0x01 _ _ (λ e. sized 22 _ (identity-same e))
-      (by 0x02 _ _ (λ e. sized 7 _ (ready-same e))
-      (by 0x03 _ _ (λ e. sized 7 _ (receipt-same e))
-      (by 0x05 _ _ (λ e. sized 5 _ (validated-same e))
-      (by 0x07 _ _ (λ _. not-built long)
-      (by 0x7F _ _ (λ _. not-built long) (refused responses (Same m)))))))
+      by getFwIdResponse _ _ (λ e. sized 22 _ (identity-same e))
+      (by initiateResponse _ _ (λ e. sized 7 _ (ready-same e))
+      (by dataResponse _ _ (λ e. sized 7 _ (receipt-same e))
+      (by validateResponse _ _ (λ e. sized 5 _ (validated-same e))
+      (by dataPauseResponse _ _ (λ _. not-built long)
+      (by vendorSpecificResponse _ _ (λ _. not-built long) (refused responses (Same m)))))))
 
 pub response-same : (m : List ℕ) → Bytes m → (r : Response) → responseOf m ≡ Valid r → Same m r
 unfolding responseOf Told
 response-same m small = with-header responses (Same m) m (typedOf m (byteAt m 1)) (λ h. typed-read m small (h .version) (h .long))
+
+-- Reserved bits are ignored: a response that is written anew, without them, is read as it was read with them.
+pub response-again : (m : List ℕ) → Bytes m → (r : Response) → responseOf m ≡ Valid r → BuiltResponse r → responseOf (responseBytes r) ≡ Valid r
+response-again m small r e b =
+    let s = response-same m small r e in
+    response-back r b (s .fields) ∙ ap Valid (s .cleared-already)

@@ -4,7 +4,6 @@ use Prim.Native.Nat.{ℕ, _-_, _*_, _/_, _%_, _<_, _≤_}
 use mathlib.Core.Bool.{true, false}
 use mathlib.Core.Path.{_≡_, refl}
 use mathlib.Core.List.{List, _++_}
-use native.Mathlib.Nat.{mod-mod}
 use native.Mathlib.Omega.{arith}
 use lib.ListN.{length}
 use Rattle.basis.specs.Pick.{pick}
@@ -13,7 +12,7 @@ use Rattle.wire.specs.Identity.{cleared}
 use Rattle.wire.specs.Request as request
 use Rattle.wire.specs.Response as response
 use Rattle.wire.specs.Written.{bareBytes, initiateBytes, headBytes, identifiedBytes, initiatedBytes, receiptBytes, validatedBytes, requestBytes, responseBytes}
-use Rattle.wire.specs.Fields.{Words, Sendable, Answerable, asSent}
+use Rattle.wire.specs.Fields.{Words, BuiltRequest, BuiltResponse, Sendable, Answerable, asSent}
 use Rattle.wire.specs.declared.request.Versions.{Versions}
 use Rattle.wire.specs.declared.request.Request.{Request}
 use Rattle.wire.specs.declared.request.Request.the-variants as Req
@@ -22,13 +21,7 @@ use Rattle.wire.specs.declared.response.Identity.{Identity}
 use Rattle.wire.specs.declared.response.Response.{Response}
 use Rattle.wire.specs.declared.response.Response.the-variants as Res
 use Rattle.wire.specs.declared.response.Parsed.the-variants as Told
-use Rattle.wire.proofs.Halves.{word-back, size-back}
-
-upper-twice : (x : ℕ) → x / 16 * 16 / 16 * 16 ≡ x / 16 * 16
-upper-twice x = omega arith
-
-rest-twice : (k x : ℕ) → x % k % k ≡ x % k
-rest-twice k x = mod-mod x k
+use Rattle.wire.proofs.Halves.{word-back, size-back, upper-twice, rest-twice}
 
 initiate-back : (v : Versions) → Words v → request.requestOf (initiateBytes v) ≡ Asked.Valid (Req.Initiate v)
 unfolding request.requestOf headed initiateBytes request.typedOf request.initiateOf pick
@@ -43,14 +36,14 @@ data-back n b h k =
     let rest : length (headBytes n ++ b) - 4 ≡ length b = omega arith in
     simp (le-ltb _ _ shortest, le-ltb _ _ longest, le-ltb _ _ head, rest, word-back n h)
 
-pub request-back : (r : Request) (block : List ℕ) → Sendable r block → request.requestOf (requestBytes r ++ block) ≡ Asked.Valid r
+pub request-back : (r : Request) (block : List ℕ) → BuiltRequest r → Sendable r block → request.requestOf (requestBytes r ++ block) ≡ Asked.Valid r
 unfolding requestBytes bareBytes initiateBytes request.requestOf headed request.typedOf request.bareOf pick
-request-back Req.GetFwId b e = rw e
-request-back (Req.Initiate v) b h = rw (h .0) (initiate-back v (h .1))
-request-back (Req.Data n size) b h = rw (← (h .1)) (data-back n b (h .0) (rw (h .1) (h .2)))
-request-back Req.Validate b e = rw e
-request-back Req.Abort b e = rw e
-request-back Req.NotBuilt b h = absurd h
+request-back Req.GetFwId b _ e = rw e
+request-back (Req.Initiate v) b _ h = rw (h .0) (initiate-back v (h .1))
+request-back (Req.Data n size) b _ h = rw (← (h .1)) (data-back n b (h .0) (rw (h .1) (h .2)))
+request-back Req.Validate b _ e = rw e
+request-back Req.Abort b _ e = rw e
+request-back Req.NotBuilt b h _ = absurd h
 
 identity-back : (st : ℕ) (i : Identity) → Answerable (Res.GetFwId st i) → response.responseOf (identifiedBytes st i) ≡ Told.Valid (Res.GetFwId st (cleared i))
 unfolding response.responseOf headed identifiedBytes response.typedOf response.identifiedOf pick
@@ -70,11 +63,11 @@ identity-back st i h =
       rest-twice 32,
     )
 
-pub response-back : (r : Response) → Answerable r → response.responseOf (responseBytes r) ≡ Told.Valid (asSent r)
+pub response-back : (r : Response) → BuiltResponse r → Answerable r → response.responseOf (responseBytes r) ≡ Told.Valid (asSent r)
 unfolding responseBytes initiatedBytes receiptBytes validatedBytes response.responseOf headed response.typedOf response.initiatedOf response.receiptOf response.validatedOf pick
-response-back (Res.GetFwId st i) h = identity-back st i h
-response-back (Res.Initiate st w size) h = rw (size-back size h)
-response-back (Res.Data st w n) h = rw (word-back n h)
-response-back (Res.Validate st w true) h = refl
-response-back (Res.Validate st w false) h = refl
-response-back Res.NotBuilt h = absurd h
+response-back (Res.GetFwId st i) _ h = identity-back st i h
+response-back (Res.Initiate st w size) _ h = rw (size-back size h)
+response-back (Res.Data st w n) _ h = rw (word-back n h)
+response-back (Res.Validate st w true) _ _ = refl
+response-back (Res.Validate st w false) _ _ = refl
+response-back Res.NotBuilt h _ = absurd h

@@ -15,6 +15,22 @@ use Rattle.wire.specs.declared.response.Response.the-variants as Res
 abbrev pub Words : Versions → Type 0
 Words v = (v .first < 65536) × (v .second < 65536) × (v .third < 65536) × (v .fourth < 65536)
 
+-- What is known and not built is never written.
+abbrev pub BuiltRequest : Request → Type 0
+BuiltRequest Req.GetFwId = Unit
+BuiltRequest (Req.Initiate v) = Unit
+BuiltRequest (Req.Data n size) = Unit
+BuiltRequest Req.Validate = Unit
+BuiltRequest Req.Abort = Unit
+BuiltRequest Req.NotBuilt = ⊥
+
+abbrev pub BuiltResponse : Response → Type 0
+BuiltResponse (Res.GetFwId st i) = Unit
+BuiltResponse (Res.Initiate st w size) = Unit
+BuiltResponse (Res.Data st w n) = Unit
+BuiltResponse (Res.Validate st w success) = Unit
+BuiltResponse Res.NotBuilt = ⊥
+
 -- A request with the block behind it: numbers as wide as their fields, and a block of 0 to 256 bytes in DATA alone.
 abbrev pub Sendable : Request → List ℕ → Type 0
 Sendable Req.GetFwId block = block ≡ []
@@ -22,7 +38,7 @@ Sendable (Req.Initiate v) block = (block ≡ []) × Words v
 Sendable (Req.Data n size) block = (n < 65536) × (length block ≡ size) × (size ≤ 256)
 Sendable Req.Validate block = block ≡ []
 Sendable Req.Abort block = block ≡ []
-Sendable Req.NotBuilt block = ⊥
+Sendable Req.NotBuilt block = block ≡ []
 
 -- The block is the part of a DATA request from its fifth byte (01, Sizes and numbers).
 abbrev pub blockIn : List ℕ → Request → List ℕ
@@ -33,22 +49,13 @@ blockIn m Req.Validate = []
 blockIn m Req.Abort = []
 blockIn m Req.NotBuilt = []
 
--- What is known and not built is never written.
-abbrev pub Built : Request → Type 0
-Built Req.GetFwId = Unit
-Built (Req.Initiate v) = Unit
-Built (Req.Data n size) = Unit
-Built Req.Validate = Unit
-Built Req.Abort = Unit
-Built Req.NotBuilt = ⊥
-
--- Numbers as wide as their fields, MaxImageSize below 2^20.
+-- A response whose numbers are as wide as their fields, MaxImageSize below 2^20.
 abbrev pub Answerable : Response → Type 0
 Answerable (Res.GetFwId st i) = (i .vendor < 65536) × (i .product < 65536) × Words (i .versions)
 Answerable (Res.Initiate st w size) = size < 1048576
 Answerable (Res.Data st w n) = n < 65536
 Answerable (Res.Validate st w success) = Unit
-Answerable Res.NotBuilt = ⊥
+Answerable Res.NotBuilt = Unit
 
 -- A response as it arrives: the identity without its reserved bits, all else as sent.
 abbrev pub asSent : Response → Response

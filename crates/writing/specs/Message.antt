@@ -6,13 +6,14 @@ use lib.Dec.{ltb}
 use Rattle.basis.specs.Pick.{pick}
 use Rattle.basis.specs.Left.{Left, left}
 use Rattle.lent.specs.Led.{led}
+use Rattle.wire.specs.Codes.{getFwIdResponseLength}
 use Rattle.writing.specs.declared.message.Message.{Message}
 use Rattle.writing.specs.declared.message.Sent.{Sent}
 use Rattle.writing.specs.declared.message.Sent.the-variants.{Written, TooShort}
 
 -- 001 T5-18: the longest message that has no block
 abbrev pub most : ℕ
-most = 22
+most = getFwIdResponseLength
 
 -- The bytes of a message, and zeros behind them to the array's end.
 unfoldable pub messageOf : List ℕ → Message

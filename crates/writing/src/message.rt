@@ -1,15 +1,16 @@
 // A message to be written, and the one routine that puts it into a lent buffer.
+use wire::codes;
 ghost use mathlib.Core.Path.{_≡_};
 ghost use Prim.Native.Nat.{_≤_};
 ghost use lib.ListN.{length};
 ghost use Rattle.basis.specs.Left.{left};
-ghost use Rattle.writing.specs.Message.{messageOf, sentOf, sendOf};
+ghost use Rattle.writing.specs.Message.{most, messageOf, sentOf, sendOf};
 
 // The longest message that has no block is a GET_FW_ID response (001 T5-18).
-const MOST: usize = 22;
+const MOST: usize = codes::GET_FW_ID_RESPONSE_LENGTH;
 
 pub struct Message {
-    pub bytes: [u8; 22],
+    pub bytes: [u8; MOST],
     pub len: usize,
 }
 
@@ -21,10 +22,10 @@ pub enum Sent {
 
 // These bytes, and zeros behind them.
 pub(crate) fn made(bytes: &[u8]) -> Message
-    requires { ⌜ length (now bytes) ≤ 22 ⌝ }
+    requires { ⌜ length (now bytes) ≤ most ⌝ }
     ensures { λ r. ⌜ r ≡ messageOf (now (bytes .entry)) ⌝ }
 {
-    let mut all = [0u8; 22];
+    let mut all = [0u8; MOST];
     lent::put(&mut all, 0, bytes);
     Message {
         bytes: all,
@@ -42,7 +43,7 @@ impl Message {
     }
 }
 
-fn lead(out: &mut [u8], bytes: [u8; 22], len: usize) -> Sent
+fn lead(out: &mut [u8], bytes: [u8; MOST], len: usize) -> Sent
     ensures { λ r. ⌜ left r (now (out .exit)) ≡ sentOf bytes len (now (out .entry)) ⌝ }
 {
     if MOST < len {

@@ -1,0 +1,67 @@
+-- 001 T5-3 and T5-16 said back row by row, whatever else the message holds: what each type is read as, and that every other type is refused.
+use Prim.Native.Nat.{ℕ}
+use mathlib.Core.Path.{_≡_, refl}
+use mathlib.Core.List.{List, [], _∷_, map}
+use lib.ListN.{replicate}
+use Rattle.basis.specs.Pick.{pick}
+use Rattle.basis.specs.Table.{tabulate}
+use Rattle.wire.specs.Request as request
+use Rattle.wire.specs.Response as response
+use Rattle.wire.specs.declared.request.Request.the-variants as Req
+use Rattle.wire.specs.declared.request.Parsed.the-variants as Asked
+use Rattle.wire.specs.declared.response.Response.the-variants as Res
+use Rattle.wire.specs.declared.response.Parsed.the-variants as Told
+
+-- n types from t on
+abbrev from : ℕ → ℕ → List ℕ
+from t n = tabulate (λ u. u) t n
+
+module _ (m : List ℕ) where
+  -- 81h to 87h, FFh
+  pub request-types :
+      map (request.typedOf m) (0x81 ∷ 0x82 ∷ 0x83 ∷ 0x84 ∷ 0x85 ∷ 0x86 ∷ 0x87 ∷ 0xFF ∷ [])
+      ≡ request.bareOf m Req.GetFwId
+      ∷ request.initiateOf m
+      ∷ request.dataOf m
+      ∷ Asked.Valid Req.NotBuilt
+      ∷ request.bareOf m Req.Validate
+      ∷ request.bareOf m Req.Abort
+      ∷ Asked.Valid Req.NotBuilt
+      ∷ Asked.Valid Req.NotBuilt
+      ∷ []
+  unfolding request.typedOf pick
+  request-types = refl
+
+  -- 00h to 7Fh are responses' and 80h is reserved; so are 88h to FEh
+  pub request-types-low : map (request.typedOf m) (from 0x00 129) ≡ replicate 129 Asked.Malformed
+  unfolding request.typedOf pick
+  request-types-low = refl
+
+  pub request-types-high : map (request.typedOf m) (from 0x88 119) ≡ replicate 119 Asked.Malformed
+  unfolding request.typedOf pick
+  request-types-high = refl
+
+  -- 00h to 07h, 04h and 06h being reserved, and 7Fh
+  pub response-types :
+      map (response.typedOf m) (0x00 ∷ 0x01 ∷ 0x02 ∷ 0x03 ∷ 0x04 ∷ 0x05 ∷ 0x06 ∷ 0x07 ∷ 0x7F ∷ [])
+      ≡ Told.Malformed
+      ∷ response.identifiedOf m
+      ∷ response.initiatedOf m
+      ∷ response.receiptOf m
+      ∷ Told.Malformed
+      ∷ response.validatedOf m
+      ∷ Told.Malformed
+      ∷ Told.Valid Res.NotBuilt
+      ∷ Told.Valid Res.NotBuilt
+      ∷ []
+  unfolding response.typedOf pick
+  response-types = refl
+
+  -- 08h to 7Eh are reserved and 80h to FFh are requests'
+  pub response-types-low : map (response.typedOf m) (from 0x08 119) ≡ replicate 119 Told.Malformed
+  unfolding response.typedOf pick
+  response-types-low = refl
+
+  pub response-types-high : map (response.typedOf m) (from 0x80 128) ≡ replicate 128 Told.Malformed
+  unfolding response.typedOf pick
+  response-types-high = refl
