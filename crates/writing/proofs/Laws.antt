@@ -5,8 +5,10 @@ use mathlib.Core.List.{List}
 use native.Mathlib.Omega.{arith}
 use lib.ListN.{length, drop, replicate}
 use lib.Seq.{take-append-seam}
-use Rattle.basis.specs.Pick.{tests}
-use Rattle.basis.specs.Left.{left}
+use lib.Dec.{ltb}
+use borrow.Author.Tests.{ltb-false}
+use Rattle.basis.specs.Pick.{tests, pick-all}
+use Rattle.basis.specs.Left.{Left, left}
 use Rattle.lent.specs.Led.{led}
 use Rattle.wire.specs.Written.{requestBytes, responseBytes, bareBytes, initiateBytes, headBytes, identifiedBytes, initiatedBytes, receiptBytes, validatedBytes}
 use Rattle.wire.specs.declared.request.Request.{Request}
@@ -14,6 +16,8 @@ use Rattle.wire.specs.declared.request.Request.the-variants as Req
 use Rattle.wire.specs.declared.response.Response.{Response}
 use Rattle.wire.specs.declared.response.Response.the-variants as Res
 use Rattle.writing.specs.Message.{messageOf, sentOf, sendOf}
+use Rattle.writing.specs.declared.message.Message.{Message}
+use Rattle.writing.specs.declared.message.Sent.{Sent}
 use Rattle.writing.specs.declared.message.Sent.the-variants.{Written, TooShort}
 
 module _ (l out : List ℕ) (h : length l ≤ 22) where
@@ -26,6 +30,18 @@ module _ (l out : List ℕ) (h : length l ≤ 22) where
   pub sends-nothing : length out < length l → sendOf (messageOf l) out ≡ left TooShort out
   unfolding messageOf sentOf
   sends-nothing k = simp tests
+
+-- No more is written than the buffer holds.
+abbrev pub Fits : ℕ → Sent → Type 0
+Fits room (Written n) = n ≤ room
+Fits room TooShort = Unit
+
+pub send-fits : (m : Message) (out : List ℕ) → Fits (length out) (sendOf m out .answer)
+unfolding sentOf
+send-fits m out =
+    let P : Left Sent → Type 0 = λ x. Fits (length out) (x .answer) in
+    pick-all P (ltb 22 (m .len)) _ _ (λ _. tt)
+    (λ _. pick-all P (ltb (length out) (m .len)) _ _ (λ _. tt) (ltb-false (length out) (m .len)))
 
 -- Every message that is made fits the array that it is made in.
 pub request-fits : (r : Request) → length (requestBytes r) ≤ 22

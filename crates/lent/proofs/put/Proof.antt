@@ -1,6 +1,6 @@
 use Rattle.basis.specs.Pick.{tests}
 use Rattle.lent.specs.Put.{putOf}
-use Rattle.lent.specs.Room.{room}
+use Rattle.lent.proofs.Room.{room}
 use borrow.Author.Needs.{needs}
 use Rattle.lent.proofs.put.Statement.{statement}
 use Rattle.lent.proofs.put.Tie as tie

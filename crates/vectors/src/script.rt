@@ -1,0 +1,155 @@
+// Lines of the script, and the words in them. One space stands before each word but a line's first.
+use crate::hex;
+use crate::hex::Byte;
+ghost use mathlib.Core.Path.{_≡_};
+ghost use Prim.Native.Nat.{_≤_};
+ghost use lib.ListN.{length};
+ghost use Rattle.io.specs.Counts.{Counts};
+
+// What a word at the start of a line asks for. `asking` is true of a request and false of a response.
+pub(crate) enum Word {
+    Message { asking: bool },
+    Sweep(Varied),
+    Other,
+}
+
+// The byte at a place goes through every value, or the length through every length that there is room for.
+pub(crate) enum Varied {
+    Nothing,
+    Byte(usize),
+    Length,
+}
+
+// The version of a message is its byte 0 and the type its byte 1 (001 T5-1).
+pub(crate) fn word_of(s: &[u8]) -> Word {
+    if check::same(s, b"request") {
+        return Word::Message { asking: true };
+    }
+    if check::same(s, b"response") {
+        return Word::Message { asking: false };
+    }
+    if check::same(s, b"versions") {
+        return Word::Sweep(Varied::Byte(0));
+    }
+    if check::same(s, b"types") {
+        return Word::Sweep(Varied::Byte(1));
+    }
+    if check::same(s, b"lengths") {
+        return Word::Sweep(Varied::Length);
+    }
+    Word::Other
+}
+
+pub(crate) fn is_heading(line: &[u8]) -> bool {
+    if line.len() == 0 {
+        return true;
+    }
+    line[0] == b'#'
+}
+
+// The message that words spell: its length, and whether every word was a byte or a run of bytes.
+pub(crate) struct Spelled {
+    pub known: bool,
+    pub len: usize,
+}
+
+// Puts the message at the start of `out`.
+pub(crate) fn spell(words: &[u8], out: &mut [u8]) -> Spelled
+    ensures { λ r. ⌜ Counts (r .len) (now (out .exit)) ⌝ }
+    ensures { λ r. ⌜ length (now (out .entry)) ≡ length (now (out .exit)) ⌝ }
+{
+    let mut len = 0;
+    let mut at = 0;
+    while at < words.len() {
+        let start = at + 1;
+        let end = bytes::scan::find(words, start, words.len(), b' ');
+        let run = run_of(&words[start..end]);
+        let Run::Of { byte, times } = run else {
+            return Spelled {
+                known: false,
+                len: 0,
+            };
+        };
+        len = fill(out, len, byte, times);
+        at = end;
+    }
+    Spelled { known: true, len }
+}
+
+// One byte, or one that stands several times.
+enum Run {
+    Of { byte: u8, times: usize },
+    Other,
+}
+
+// `HH`, or `HH*N`.
+fn run_of(w: &[u8]) -> Run {
+    if w.len() < 2 {
+        return Run::Other;
+    }
+    let found = hex::byte_of(w[0], w[1]);
+    let Byte::Of(byte) = found else {
+        return Run::Other;
+    };
+    if w.len() == 2 {
+        return Run::Of { byte, times: 1 };
+    }
+    if w[2] != b'*' {
+        return Run::Other;
+    }
+    times_of(byte, &w[3..])
+}
+
+fn times_of(byte: u8, digits: &[u8]) -> Run {
+    let count = decimal(digits);
+    match count {
+        Count::Of(times) => Run::Of { byte, times },
+        Count::Other => Run::Other,
+    }
+}
+
+enum Count {
+    Of(usize),
+    Other,
+}
+
+// A number of up to four digits.
+fn decimal(s: &[u8]) -> Count {
+    if s.len() == 0 {
+        return Count::Other;
+    }
+    let mut n: usize = 0;
+    for i in 0..s.len() {
+        let d = hex::digit(s[i]);
+        if d > 9 {
+            return Count::Other;
+        }
+        if n > 999 {
+            return Count::Other;
+        }
+        n = 10 * n + d as usize;
+    }
+    Count::Of(n)
+}
+
+// What does not fit is left out. Answers where the bytes end.
+fn fill(out: &mut [u8], from: usize, byte: u8, times: usize) -> usize
+    requires { ⌜ from ≤ length (now out) ⌝ }
+    ensures { λ r. ⌜ r ≤ length (now (out .exit)) ⌝ }
+{
+    let end = ended(from, times, out.len());
+    for i in from..end {
+        out[i] = byte;
+    }
+    end
+}
+
+fn ended(from: usize, times: usize, room: usize) -> usize
+    requires { ⌜ from ≤ room ⌝ }
+    ensures { λ r. ⌜ r ≤ room ⌝ }
+{
+    if times < room - from {
+        return from + times;
+    }
+    room
+}
