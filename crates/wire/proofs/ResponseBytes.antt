@@ -13,7 +13,7 @@ use Rattle.wire.specs.Numbers.{Bytes, byteAt, wordAt}
 use Rattle.wire.specs.Identity.{cleared, identityIn}
 use Rattle.wire.specs.Response.{responseOf, typedOf, identifiedOf, initiatedOf, receiptOf, validatedOf}
 use Rattle.wire.specs.Written.{responseBytes, identifiedBytes, initiatedBytes, receiptBytes, validatedBytes, flagOf}
-use Rattle.wire.specs.Fields.{BuiltResponse, Plain, Answerable, asSent}
+use Rattle.wire.specs.Fields.{BuiltResponse, Plain, Answerable, asRead}
 use Rattle.wire.specs.declared.response.Response.{Response}
 use Rattle.wire.specs.declared.response.Response.the-variants.{GetFwId, Initiate, Data, Validate, NotBuilt}
 use Rattle.wire.specs.declared.response.Parsed.{Parsed}
@@ -27,7 +27,7 @@ pub record Same (m : List ℕ) (r : Response) : Type 0 where
   pub there : Plain m r → responseBytes r ≡ m
   pub back : responseBytes r ≡ m → Plain m r
   pub fields : Answerable r
-  pub cleared-already : asSent r ≡ r
+  pub cleared-already : asRead r ≡ r
 
 inner : (a b : Response) → Valid a ≡ Valid b → a ≡ b
 inner a b e = cc

@@ -12,7 +12,7 @@ use Rattle.wire.specs.Identity.{cleared}
 use Rattle.wire.specs.Request as request
 use Rattle.wire.specs.Response as response
 use Rattle.wire.specs.Written.{bareBytes, initiateBytes, headBytes, identifiedBytes, initiatedBytes, receiptBytes, validatedBytes, requestBytes, responseBytes}
-use Rattle.wire.specs.Fields.{Words, BuiltRequest, BuiltResponse, Sendable, Answerable, asSent}
+use Rattle.wire.specs.Fields.{Words, BuiltRequest, BuiltResponse, Sendable, Answerable, asRead}
 use Rattle.wire.specs.declared.request.Versions.{Versions}
 use Rattle.wire.specs.declared.request.Request.{Request}
 use Rattle.wire.specs.declared.request.Request.the-variants as Req
@@ -63,7 +63,7 @@ identity-back st i h =
       rest-twice 32,
     )
 
-pub response-back : (r : Response) → BuiltResponse r → Answerable r → response.responseOf (responseBytes r) ≡ Told.Valid (asSent r)
+pub response-back : (r : Response) → BuiltResponse r → Answerable r → response.responseOf (responseBytes r) ≡ Told.Valid (asRead r)
 unfolding responseBytes initiatedBytes receiptBytes validatedBytes response.responseOf headed response.typedOf response.initiatedOf response.receiptOf response.validatedOf pick
 response-back (Res.GetFwId st i) _ h = identity-back st i h
 response-back (Res.Initiate st w size) _ h = rw (size-back size h)

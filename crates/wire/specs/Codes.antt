@@ -12,7 +12,7 @@ shortest = 2
 abbrev pub longest : ℕ
 longest = 260
 
--- 001 T5-3
+-- 001 T5-3; `data` is a word of this language, so that DATA is `datum`
 abbrev pub getFwId : ℕ
 getFwId = 0x81
 

@@ -58,12 +58,12 @@ Answerable (Res.Validate st w success) = Unit
 Answerable Res.NotBuilt = Unit
 
 -- A response as it arrives: the identity without its reserved bits, all else as sent.
-abbrev pub asSent : Response → Response
-asSent (Res.GetFwId st i) = Res.GetFwId st (cleared i)
-asSent (Res.Initiate st w size) = Res.Initiate st w size
-asSent (Res.Data st w n) = Res.Data st w n
-asSent (Res.Validate st w success) = Res.Validate st w success
-asSent Res.NotBuilt = Res.NotBuilt
+abbrev pub asRead : Response → Response
+asRead (Res.GetFwId st i) = Res.GetFwId st (cleared i)
+asRead (Res.Initiate st w size) = Res.Initiate st w size
+asRead (Res.Data st w n) = Res.Data st w n
+asRead (Res.Validate st w success) = Res.Validate st w success
+asRead Res.NotBuilt = Res.NotBuilt
 
 -- The bytes of a response whose reserved bits (001 T5-18, T5-20, T5-24) and NumDataNR (T5-22) are zero.
 abbrev pub Plain : List ℕ → Response → Type 0
