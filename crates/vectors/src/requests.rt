@@ -3,6 +3,7 @@ use crate::say;
 use crate::written;
 use wire::request::Parsed;
 use wire::request::Request;
+use wire::request::Versions;
 
 pub(crate) fn is_valid(msg: &[u8]) -> bool {
     let parsed = reading::read_request(msg);
@@ -27,17 +28,21 @@ pub(crate) fn show(msg: &[u8]) {
 fn told(request: Request) {
     match request {
         Request::GetFwId => say::text(b" GET_FW_ID"),
-        Request::Initiate(versions) => {
-            say::text(b" INITIATE");
-            say::versions(versions);
-        }
-        Request::Data { number, size } => {
-            say::text(b" DATA");
-            say::number(number as u64);
-            say::number(size as u64);
-        }
+        Request::Initiate(versions) => initiate(versions),
+        Request::Data { number, size } => block(number, size),
         Request::Validate => say::text(b" VALIDATE"),
         Request::Abort => say::text(b" ABORT"),
         Request::NotBuilt => say::text(b" not built"),
     }
+}
+
+fn initiate(versions: Versions) {
+    say::text(b" INITIATE");
+    say::versions(versions);
+}
+
+fn block(number: u16, size: usize) {
+    say::text(b" DATA");
+    say::number(number as u64);
+    say::number(size as u64);
 }

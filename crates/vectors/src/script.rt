@@ -20,7 +20,6 @@ pub(crate) enum Varied {
     Length,
 }
 
-// The version of a message is its byte 0 and the type its byte 1 (001 T5-1).
 pub(crate) fn word_of(s: &[u8]) -> Word {
     if check::same(s, b"request") {
         return Word::Message { asking: true };
@@ -28,6 +27,11 @@ pub(crate) fn word_of(s: &[u8]) -> Word {
     if check::same(s, b"response") {
         return Word::Message { asking: false };
     }
+    sweep_of(s)
+}
+
+// The version of a message is its byte 0 and the type its byte 1 (001 T5-1).
+fn sweep_of(s: &[u8]) -> Word {
     if check::same(s, b"versions") {
         return Word::Sweep(Varied::Byte(0));
     }
