@@ -1,5 +1,6 @@
 pub mod Parts
 pub mod Adding
 pub mod Laws
+pub mod Whole
 pub mod Bench
 pub mod Unique

@@ -2,7 +2,7 @@
 -- and its fields are such as can be sent.
 use borrow.Author.Tests.{ltb-false}
 use Prim.Native.Nat.{ℕ, _+_, _-_, _≤_}
-use mathlib.Core.Path.{_≡_, refl, _∙_, sym}
+use mathlib.Core.Path.{_≡_, refl, _∙_}
 use mathlib.Core.List.{List, [], _++_}
 use native.Mathlib.Omega.{arith}
 use lib.ListN.{length, drop, length-drop}
@@ -16,7 +16,7 @@ use Rattle.wire.specs.Request.{requestOf, typedOf, bareOf, initiateOf, d
 use Rattle.wire.specs.Written.{requestBytes, bareBytes, initiateBytes, headBytes}
 use Rattle.wire.specs.Fields.{BuiltRequest, Sendable, blockIn}
 use Rattle.wire.specs.declared.request.Request.{Request}
-use Rattle.wire.specs.declared.request.Request.the-variants.{GetFwId, Initiate, Data, Validate, Abort, NotBuilt}
+use Rattle.wire.specs.declared.request.Request.the-variants.{GetFwId, Validate, Abort, NotBuilt}
 use Rattle.wire.specs.declared.request.Parsed.{Parsed}
 use Rattle.wire.specs.declared.request.Parsed.the-variants.{Valid, Malformed}
 use Rattle.wire.proofs.Walk.{Headed, Reader, Told, refused, told, of-length, of-type, with-header}

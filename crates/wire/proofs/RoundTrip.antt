@@ -1,6 +1,6 @@
 -- Reading what was written gives back the fields as sent, for every request and every response.
 use borrow.Author.Tests.{le-ltb}
-use Prim.Native.Nat.{ℕ, _-_, _*_, _/_, _%_, _<_, _≤_}
+use Prim.Native.Nat.{ℕ, _-_, _<_, _≤_}
 use mathlib.Core.Bool.{true, false}
 use mathlib.Core.Path.{_≡_, refl}
 use mathlib.Core.List.{List, _++_}
