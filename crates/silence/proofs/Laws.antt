@@ -2,10 +2,10 @@
 use Prim.Native.Nat.{ℕ, _+_, _<_, _≤_}
 use mathlib.Core.Path.{_≡_, refl}
 use native.Mathlib.Omega.{arith}
-use borrow.Author.Tests.{ltb-true, ltb-false}
+use borrow.Author.Tests.{ltb-true, ltb-false, le-ltb}
 use lib.Dec.{ltb}
-use Rattle.basis.specs.Pick.{tests, pick-all}
-use Rattle.silence.specs.Settings.{settingsOf, numberOf}
+use Rattle.basis.specs.Pick.{pick, pick-all}
+use Rattle.silence.specs.Settings.{limitLeast, limitMost, resendsMost, settingsOf, numberOf}
 use Rattle.silence.specs.Expiry.{grownOf, grown}
 use Rattle.silence.specs.declared.Settings.{Settings}
 use Rattle.silence.specs.declared.Checked.{Checked}
@@ -20,21 +20,25 @@ pub record Within (limit resends : ℕ) : Type 0 where
 
 -- Settings within the limits are made as they were asked for; settings outside these: 29.
 pub within-made : (limit resends : ℕ) → Within limit resends → settingsOf limit resends ≡ Made (record { limit = limit; resends = resends })
-unfolding settingsOf
+unfolding settingsOf pick
 within-made limit resends h =
-    let a = h .low in
-    let b = h .high in
-    let c = h .few in
-    simp tests
+    let a : limitLeast ≤ limit = omega arith in
+    let b : limit ≤ limitMost = omega arith in
+    let c : resends ≤ resendsMost = omega arith in
+    simp (le-ltb limit limitLeast a, le-ltb limitMost limit b, le-ltb resendsMost resends c)
 
 pub outside-29 : (limit resends : ℕ) → (Within limit resends → ⊥) → numberOf (settingsOf limit resends) ≡ 29
 unfolding settingsOf
 outside-29 limit resends h =
     let P : Checked → Type 0 = λ x. numberOf x ≡ 29 in
-    pick-all P (ltb limit 1) _ _ (λ _. refl)
-    (λ a. pick-all P (ltb 10000 limit) _ _ (λ _. refl)
-    (λ b. pick-all P (ltb 10 resends) _ _ (λ _. refl)
-    (λ c. absurd (h (record { low = ltb-false limit 1 a; high = ltb-false 10000 limit b; few = ltb-false 10 resends c })))))
+    pick-all P (ltb limit limitLeast) _ _ (λ _. refl)
+    (λ a. pick-all P (ltb limitMost limit) _ _ (λ _. refl)
+    (λ b. pick-all P (ltb resendsMost resends) _ _ (λ _. refl)
+    (λ c.
+    let low = ltb-false limit limitLeast a in
+    let high = ltb-false limitMost limit b in
+    let few = ltb-false resendsMost resends c in
+    absurd (h (record { low = omega arith; high = omega arith; few = omega arith })))))
 
 module _ (silence elapsed made : ℕ) (settings : Settings) where
   abbrev after : Grown
@@ -50,6 +54,17 @@ module _ (silence elapsed made : ℕ) (settings : Settings) where
       (λ f. pick-all P (ltb made (settings .resends)) _ _
       (λ t. resend (ltb-false (silence + elapsed) (settings .limit) f) (ltb-true made (settings .resends) t))
       (λ g. none (ltb-false (silence + elapsed) (settings .limit) f) (ltb-false made (settings .resends) g)))
+
+  -- Below the limit silence grows by what has elapsed, and nothing is sent again.
+  pub below-quiet : silence + elapsed < settings .limit → after ≡ grown (silence + elapsed) made Quiet
+  below-quiet = walk (λ g. silence + elapsed < settings .limit → g ≡ grown (silence + elapsed) made Quiet) (λ _ _. refl) (λ f _ h. absurd (omega arith)) (λ f _ h. absurd (omega arith))
+
+  -- At the limit, while resends are left, there is one; with none left, none.
+  pub left-resends : settings .limit ≤ silence + elapsed → made < settings .resends → after ≡ grown 0 (made + 1) Resend
+  left-resends = walk (λ g. settings .limit ≤ silence + elapsed → made < settings .resends → g ≡ grown 0 (made + 1) Resend) (λ t h _. absurd (omega arith)) (λ _ _ _ _. refl) (λ _ g _ h. absurd (omega arith))
+
+  pub none-left-ends : settings .limit ≤ silence + elapsed → settings .resends ≤ made → after ≡ grown 0 made NoneLeft
+  none-left-ends = walk (λ g. settings .limit ≤ silence + elapsed → settings .resends ≤ made → g ≡ grown 0 made NoneLeft) (λ t h _. absurd (omega arith)) (λ _ t _ h. absurd (omega arith)) (λ _ _ _ _. refl)
 
   -- An expiry sets silence to zero.
   pub expiry-zero : (after .event ≡ Quiet → ⊥) → after .silence ≡ 0
