@@ -28,13 +28,13 @@ pub record Same (m : List ℕ) (r : Request) : Type 0 where
   pub back : requestBytes r ++ blockIn m r ≡ m → BuiltRequest r
   pub fields : Sendable r (blockIn m r)
 
-inner : (a b : Request) → Valid a ≡ Valid b → a ≡ b
+pub inner : (a b : Request) → Valid a ≡ Valid b → a ≡ b
 inner a b e = cc
 
-apart : (r : Request) → Malformed ≡ Valid r → ⊥
+pub apart : (r : Request) → Malformed ≡ Valid r → ⊥
 apart r e = let z : _≡_ {A = ℕ} 0 1 = cc in omega arith
 
-abbrev requests : Reader Request Parsed
+abbrev pub requests : Reader Request Parsed
 requests = record { valid = Valid; malformed = Malformed; inner = inner; apart = apart }
 
 bare-same : (m : List ℕ) (t : ℕ) → byteAt m 0 ≡ 1 → byteAt m 1 ≡ t → length m ≡ 2 → bareBytes t ++ [] ≡ m

@@ -83,3 +83,7 @@ dataResponseLength = 7
 -- 001 T5-24
 abbrev pub validateResponseLength : ℕ
 validateResponseLength = 5
+
+-- The WaitTime of a responder that takes no more (001 T5-20, T5-22, T5-24)
+abbrev pub unable : ℕ
+unable = 255

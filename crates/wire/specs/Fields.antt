@@ -49,6 +49,15 @@ blockIn m Req.Validate = []
 blockIn m Req.Abort = []
 blockIn m Req.NotBuilt = []
 
+-- The bytes of a DATA request hold its head and then a block of its size, 0 to 256 bytes.
+abbrev pub Sized : List ℕ → Request → Type 0
+Sized m Req.GetFwId = Unit
+Sized m (Req.Initiate v) = Unit
+Sized m (Req.Data n size) = (dataHead ≤ length m) × (length (drop dataHead m) ≡ size) × (size ≤ 256)
+Sized m Req.Validate = Unit
+Sized m Req.Abort = Unit
+Sized m Req.NotBuilt = Unit
+
 -- A response whose numbers are as wide as their fields, MaxImageSize below 2^20.
 abbrev pub Answerable : Response → Type 0
 Answerable (Res.GetFwId st i) = (i .vendor < 65536) × (i .product < 65536) × Words (i .versions)

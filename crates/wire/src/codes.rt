@@ -58,3 +58,6 @@ pub const DATA_RESPONSE_LENGTH: usize = 7;
 
 // 001 T5-24.
 pub const VALIDATE_RESPONSE_LENGTH: usize = 5;
+
+// The WaitTime of a responder that takes no more (001 T5-20, T5-22, T5-24).
+pub const UNABLE: u8 = 255;

@@ -1,0 +1,16 @@
+use Rattle.receiver.specs.Respond.{replyBytes}
+use borrow.Author.Needs.{needs}
+use Rattle.receiver.proofs.respond.deliver.Statement.{statement}
+use Rattle.receiver.proofs.respond.deliver.Tie as tie
+
+pub deliver-spec : {M : Type 1} → statement M
+unfolding replyBytes
+deliver-spec =
+    tie.close
+    (tie.spec
+    (λ c. search needs)
+    (λ c. search needs)
+    (λ c κs. search needs)
+    (λ c. rw (c .enum-told .given .1))
+    (λ c. search needs)
+    (λ c. rw (c .before .before .before .before .before .reply .given .1) (c .before .before .send .ensures)))

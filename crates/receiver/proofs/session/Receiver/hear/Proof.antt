@@ -1,0 +1,18 @@
+use Rattle.basis.specs.Left.{answers, leaves}
+use Rattle.receiver.proofs.Holds.{decide-has}
+use denote.Ref.{now}
+use borrow.Author.Needs.{needs}
+use Rattle.receiver.proofs.session.Receiver.hear.Statement.{statement}
+use Rattle.receiver.proofs.session.Receiver.hear.Tie as tie
+
+pub hear-spec : {M : Type 1} → statement M
+hear-spec =
+    tie.close
+    (tie.spec
+    (λ c κs. search needs)
+    (λ c κs. let a = c .before .before .before .before .before .before .args in rw (c .before .decide .ensures) (decide-has (now (a .request)) (a .self .phase) (a .valid) (a .self .capacity) (a .readiness) (a .verdict) (c .before .before .before .before .before .before .pre .1)))
+    (λ c κs. search needs)
+    (λ c κs. search needs)
+    (λ c. search needs)
+    (λ c. search needs)
+    (λ c. rw (← (c .before .before .before .before .before .before .before .before .before .decide .ensures), c .moved .ensures, answers (c .before .before .before .respond .ensures), leaves (c .before .before .before .respond .ensures), c .before .before .before .before .before .before .before .keep .ensures)))

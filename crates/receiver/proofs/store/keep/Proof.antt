@@ -1,0 +1,16 @@
+use Rattle.receiver.specs.Request.{imageOf}
+use borrow.Author.Needs.{needs}
+use Rattle.receiver.proofs.store.keep.Statement.{statement}
+use Rattle.receiver.proofs.store.keep.Tie as tie
+
+pub keep-spec : {M : Type 1} → statement M
+unfolding imageOf
+keep-spec =
+    tie.close
+    (tie.spec
+    (λ c. search needs)
+    (λ c. search needs)
+    (λ c κs. rw (c .before .before .store .given .1) at (c .before .before .before .before .before .before .pre))
+    (λ c. rw (c .enum-told .given .1))
+    (λ c. search needs)
+    (λ c. rw (c .before .before .before .before .before .store .given .1) (c .before .before .put .ensures)))

@@ -1,0 +1,5 @@
+pub mod Session
+pub mod Respond
+pub mod Request
+pub mod Time
+pub mod Sum

@@ -1,0 +1,13 @@
+// The receiver's calls that borrow memory: a session's start, one request, one time call, the image sum
+// (01, The receiver's phases).
+mod request;
+mod respond;
+mod session;
+mod store;
+mod sum;
+mod time;
+
+pub use session::Outcome;
+pub use session::Receiver;
+pub use session::Started;
+pub use sum::Summed;

@@ -1,0 +1,41 @@
+// The response that goes out with an answer, in the first bytes of the lent buffer (01, Numbers we answer).
+use receiver_steps::answer::Answer;
+use receiver_steps::answer::Reply;
+use wire::response::Identity;
+use wire::response::Response;
+ghost use mathlib.Core.Path.{_≡_};
+ghost use Prim.Native.Nat.{_≤_};
+ghost use lib.ListN.{length};
+ghost use Rattle.basis.specs.Left.{left};
+ghost use Rattle.wire.specs.Codes.{longest};
+ghost use Rattle.wire.specs.Written.{responseBytes};
+ghost use Rattle.receiver_steps.specs.Answer.{replyOf};
+ghost use Rattle.receiver.specs.Respond.{replyBytes, leads};
+
+pub(crate) fn respond(out: &mut [u8], identity: Identity, capacity: u32, answer: Answer) -> usize
+    requires { ⌜ longest ≤ length (now out) ⌝ }
+    ensures { λ r. ⌜ left r (now (out .exit)) ≡ leads (replyBytes (replyOf identity capacity answer)) (now (out .entry)) ⌝ }
+{
+    let reply = answer.reply(identity, capacity);
+    deliver(out, reply)
+}
+
+fn deliver(out: &mut [u8], reply: Reply) -> usize
+    requires { ⌜ longest ≤ length (now out) ⌝ }
+    ensures { λ r. ⌜ left r (now (out .exit)) ≡ leads (replyBytes reply) (now (out .entry)) ⌝ }
+{
+    match reply {
+        Reply::Nothing => 0,
+        Reply::Sends(response) => send(out, response),
+    }
+}
+
+fn send(out: &mut [u8], response: Response) -> usize
+    requires { ⌜ longest ≤ length (now out) ⌝ }
+    ensures { λ r. ⌜ left r (now (out .exit)) ≡ leads (responseBytes response) (now (out .entry)) ⌝ }
+{
+    let message = writing::write_response(response);
+    let written = message.len;
+    message.send(out);
+    written
+}

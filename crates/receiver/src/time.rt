@@ -1,0 +1,43 @@
+// One time call. It borrows the output buffer alone, so only 27 can refuse it.
+use crate::respond::respond;
+use crate::session::Outcome;
+use crate::session::Receiver;
+use receiver_steps::answer::Answer;
+use receiver_steps::time::pass;
+use wire::codes;
+ghost use mathlib.Core.Path.{_≡_};
+ghost use Prim.Native.Nat.{_≤_};
+ghost use lib.ListN.{length};
+ghost use Rattle.basis.specs.Left.{left};
+ghost use Rattle.wire.specs.Codes.{longest};
+ghost use Rattle.receiver.specs.Time.{spendOf, timeOf};
+
+impl Receiver {
+    pub fn time(self, elapsed: u16, out: &mut [u8]) -> Outcome
+        ensures { λ r. ⌜ left r (now (out .exit)) ≡ timeOf self elapsed (now (out .entry)) ⌝ }
+    {
+        if out.len() < codes::LONGEST {
+            return self.refuse(Answer::BufferShort);
+        }
+        self.spend(elapsed, out)
+    }
+
+    fn spend(self, elapsed: u16, out: &mut [u8]) -> Outcome
+        requires { ⌜ longest ≤ length (now out) ⌝ }
+        ensures { λ r. ⌜ left r (now (out .exit)) ≡ spendOf self elapsed (now (out .entry)) ⌝ }
+    {
+        let before = self.phase;
+        let settings = self.settings;
+        let identity = self.identity;
+        let tick = pass(before, self.silence, elapsed, self.resends, settings);
+        let answer = tick.answer;
+        let phase = tick.phase;
+        let written = respond(out, identity, self.capacity, answer);
+        let state = self.moved(phase, tick.silence, tick.resends);
+        Outcome {
+            state,
+            answer,
+            written,
+        }
+    }
+}

@@ -1,0 +1,25 @@
+use mathlib.Core.Path.{_∙_, sym}
+use native.Mathlib.Omega.{arith}
+use Rattle.receiver_steps.proofs.Within.{within}
+use Rattle.basis.specs.Pick.{tests}
+use Rattle.receiver_steps.specs.Request.{transferOf}
+use borrow.Author.Needs.{needs}
+use Rattle.receiver_steps.proofs.request.transfer.Statement.{statement}
+use Rattle.receiver_steps.proofs.request.transfer.Tie as tie
+
+pub transfer-spec : {M : Type 1} → statement M
+unfolding transferOf
+transfer-spec =
+    tie.close
+    (tie.spec
+    (λ c κs. search needs)
+    (λ c. search tests)
+    (λ c κs. search needs)
+    (λ c. search tests)
+    (λ c κs. search needs)
+    (λ c. search tests)
+    (λ c κs. search needs)
+    (λ c κs. search needs)
+    (λ c. search (← (c .before .before .passes-any .ensures), tests))
+    (λ c κs. let a = c .before .before .before .before .before .args in let w = within (a .number) (a .size) (a .capacity) (sym (c .before .passes-any .ensures) ∙ c .if4 .left) in (omega arith, omega arith))
+    (λ c. search (← (c .before .before .passes-any .ensures), tests)))

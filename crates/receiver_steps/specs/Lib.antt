@@ -1,0 +1,5 @@
+pub mod Phase
+pub mod Answer
+pub mod Range
+pub mod Request
+pub mod Time
