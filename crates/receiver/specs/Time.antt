@@ -8,7 +8,7 @@ use Rattle.basis.specs.Left.{Left, left}
 use Rattle.lent.specs.Led.{led}
 use Rattle.wire.specs.Codes.{longest}
 use Rattle.receiver_steps.specs.Time.{passOf}
-use Rattle.receiver_steps.specs.declared.answer.Answer.the-variants.{BufferShort}
+use Rattle.receiver_answers.specs.declared.Answer.the-variants.{BufferShort}
 use Rattle.receiver_steps.specs.declared.time.Tick.{Tick}
 use Rattle.receiver.specs.Session.{ends, moved}
 use Rattle.receiver.specs.Respond.{bytesOf}

@@ -1,5 +1,5 @@
 // A session of the receiver: what it was started with, and where it stands.
-use receiver_steps::answer::Answer;
+use receiver_answers::Answer;
 use receiver_steps::phase::Phase;
 use silence::Checked;
 use silence::Settings;

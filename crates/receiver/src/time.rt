@@ -2,7 +2,7 @@
 use crate::respond::respond;
 use crate::session::Outcome;
 use crate::session::Receiver;
-use receiver_steps::answer::Answer;
+use receiver_answers::Answer;
 use receiver_steps::time::pass;
 use wire::codes;
 ghost use mathlib.Core.Path.{_≡_};

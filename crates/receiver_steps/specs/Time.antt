@@ -8,8 +8,8 @@ use Rattle.silence.specs.declared.Event.{Event}
 use Rattle.silence.specs.declared.Event.the-variants.{Quiet, Resend, NoneLeft}
 use Rattle.receiver_steps.specs.declared.phase.Phase.{Phase}
 use Rattle.receiver_steps.specs.declared.phase.Phase.the-variants.{Idle, Transfer, Await, Good}
-use Rattle.receiver_steps.specs.declared.answer.Answer.{Answer}
-use Rattle.receiver_steps.specs.declared.answer.Answer.the-variants.{Asking, Closed, Passed}
+use Rattle.receiver_answers.specs.declared.Answer.{Answer}
+use Rattle.receiver_answers.specs.declared.Answer.the-variants.{Asking, Closed, Passed}
 use Rattle.receiver_steps.specs.declared.time.Tick.{Tick}
 
 abbrev pub after : Phase → ℕ → ℕ → Answer → Tick

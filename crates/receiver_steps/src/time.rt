@@ -1,6 +1,6 @@
 // What the receiver does when time passes (01, The receiver's phases).
-use crate::answer::Answer;
 use crate::phase::Phase;
+use receiver_answers::Answer;
 use silence::Event;
 use silence::Settings;
 ghost use mathlib.Core.Path.{_≡_};

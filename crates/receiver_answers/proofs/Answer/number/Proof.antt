@@ -1,7 +1,7 @@
-use Rattle.receiver_steps.specs.Answer.{numberOf}
+use Rattle.receiver_answers.specs.Answer.{numberOf}
 use borrow.Author.Needs.{needs}
-use Rattle.receiver_steps.proofs.answer.Answer.number.Statement.{statement}
-use Rattle.receiver_steps.proofs.answer.Answer.number.Tie as tie
+use Rattle.receiver_answers.proofs.Answer.number.Statement.{statement}
+use Rattle.receiver_answers.proofs.Answer.number.Tie as tie
 
 pub number-spec : {M : Type 1} → statement M
 unfolding numberOf

@@ -1,7 +1,7 @@
-use Rattle.receiver_steps.specs.Answer.{replyOf}
+use Rattle.receiver_answers.specs.Answer.{replyOf}
 use borrow.Author.Needs.{needs}
-use Rattle.receiver_steps.proofs.answer.Answer.reply.Statement.{statement}
-use Rattle.receiver_steps.proofs.answer.Answer.reply.Tie as tie
+use Rattle.receiver_answers.proofs.Answer.reply.Statement.{statement}
+use Rattle.receiver_answers.proofs.Answer.reply.Tie as tie
 
 pub reply-spec : {M : Type 1} → statement M
 unfolding replyOf

@@ -1,7 +1,7 @@
-use Rattle.receiver_steps.specs.Answer.{identified}
+use Rattle.receiver_answers.specs.Answer.{identified}
 use borrow.Author.Needs.{needs}
-use Rattle.receiver_steps.proofs.answer.identified.Statement.{statement}
-use Rattle.receiver_steps.proofs.answer.identified.Tie as tie
+use Rattle.receiver_answers.proofs.identified.Statement.{statement}
+use Rattle.receiver_answers.proofs.identified.Tie as tie
 
 pub identified-spec : {M : Type 1} → statement M
 unfolding identified

@@ -4,7 +4,7 @@ use wire::response::Identity;
 use wire::response::Response;
 use wire::status::Status;
 ghost use mathlib.Core.Path.{_≡_};
-ghost use Rattle.receiver_steps.specs.Answer.{identified, initiated, receipt, validated, numberOf, replyOf};
+ghost use Rattle.receiver_answers.specs.Answer.{identified, initiated, receipt, validated, numberOf, replyOf};
 
 pub enum Answer {
     // 0, by what was asked; `Passed` is time's.

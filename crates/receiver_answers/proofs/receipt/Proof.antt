@@ -1,7 +1,7 @@
-use Rattle.receiver_steps.specs.Answer.{receipt}
+use Rattle.receiver_answers.specs.Answer.{receipt}
 use borrow.Author.Needs.{needs}
-use Rattle.receiver_steps.proofs.answer.receipt.Statement.{statement}
-use Rattle.receiver_steps.proofs.answer.receipt.Tie as tie
+use Rattle.receiver_answers.proofs.receipt.Statement.{statement}
+use Rattle.receiver_answers.proofs.receipt.Tie as tie
 
 pub receipt-spec : {M : Type 1} → statement M
 unfolding receipt

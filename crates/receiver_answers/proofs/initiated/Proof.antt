@@ -1,7 +1,7 @@
-use Rattle.receiver_steps.specs.Answer.{initiated}
+use Rattle.receiver_answers.specs.Answer.{initiated}
 use borrow.Author.Needs.{needs}
-use Rattle.receiver_steps.proofs.answer.initiated.Statement.{statement}
-use Rattle.receiver_steps.proofs.answer.initiated.Tie as tie
+use Rattle.receiver_answers.proofs.initiated.Statement.{statement}
+use Rattle.receiver_answers.proofs.initiated.Tie as tie
 
 pub initiated-spec : {M : Type 1} → statement M
 unfolding initiated

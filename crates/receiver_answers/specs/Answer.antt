@@ -7,10 +7,10 @@ use Rattle.wire.specs.declared.response.Identity.{Identity}
 use Rattle.wire.specs.declared.response.Response.the-variants as Res
 use Rattle.wire.specs.declared.status.Status.{Status}
 use Rattle.wire.specs.declared.status.Status.the-variants.{Ok, File, Address, UnexpectedRequest}
-use Rattle.receiver_steps.specs.declared.answer.Answer.{Answer}
-use Rattle.receiver_steps.specs.declared.answer.Answer.the-variants.{Identified, Offered, Asking, Closed, Success, Later, Aborted, Passed, Malformed, UnexpectedInitiate, UnexpectedData, UnexpectedValidate, Unexpected, NotDue, PassesCapacity, WrongFile, VerdictBad, OutOfRange, BufferShort, ImageLength}
-use Rattle.receiver_steps.specs.declared.answer.Reply.{Reply}
-use Rattle.receiver_steps.specs.declared.answer.Reply.the-variants.{Nothing, Sends}
+use Rattle.receiver_answers.specs.declared.Answer.{Answer}
+use Rattle.receiver_answers.specs.declared.Answer.the-variants.{Identified, Offered, Asking, Closed, Success, Later, Aborted, Passed, Malformed, UnexpectedInitiate, UnexpectedData, UnexpectedValidate, Unexpected, NotDue, PassesCapacity, WrongFile, VerdictBad, OutOfRange, BufferShort, ImageLength}
+use Rattle.receiver_answers.specs.declared.Reply.{Reply}
+use Rattle.receiver_answers.specs.declared.Reply.the-variants.{Nothing, Sends}
 
 abbrev pub numberOf : Answer → ℕ
 numberOf Identified = 0

@@ -1,7 +1,7 @@
-use Rattle.receiver_steps.specs.Answer.{validated}
+use Rattle.receiver_answers.specs.Answer.{validated}
 use borrow.Author.Needs.{needs}
-use Rattle.receiver_steps.proofs.answer.validated.Statement.{statement}
-use Rattle.receiver_steps.proofs.answer.validated.Tie as tie
+use Rattle.receiver_answers.proofs.validated.Statement.{statement}
+use Rattle.receiver_answers.proofs.validated.Tie as tie
 
 pub validated-spec : {M : Type 1} → statement M
 unfolding validated
