@@ -1,6 +1,6 @@
 -- A choice by a test, and the laws by which a proof rewrites tests.
-use mathlib.Core.Bool.{Bool, true, false}
-use mathlib.Core.Path.{_≡_, refl, ap}
+use mathlib.Core.Bool.{Bool, true, false, true≢false}
+use mathlib.Core.Path.{_≡_, refl, sym, ap}
 use borrow.Author.Tests.{lt-ltb, le-ltb, le-leb, lt-leb, eq-eqb, ne-eqb}
 
 unfoldable pub pick : {A : Type 0} → Bool → A → A → A
@@ -23,3 +23,12 @@ pub pick-all : {A : Type 0} (P : A → Type 0) (t : Bool) (a b : A) → (t ≡ t
 unfolding pick
 pick-all P true a b y n = y refl
 pick-all P false a b y n = n refl
+
+-- What is owed under a test alone.
+abbrev pub When : Bool → Type 0 → Type 0
+When true A = A
+When false A = Unit
+
+pub when-met : {A : Type 0} (t : Bool) → When t A → t ≡ true → A
+when-met true a e = a
+when-met false a e = absurd (true≢false (sym e))

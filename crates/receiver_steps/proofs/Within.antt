@@ -1,8 +1,9 @@
--- What a block that does not pass any capacity has room for.
-use Prim.Native.Nat.{ℕ, _+_, _*_, _≤_}
-use mathlib.Core.Bool.{Bool, false, true≢false}
-use mathlib.Core.Path.{_≡_}
-use borrow.Author.Tests.{ltb-false}
+-- Which blocks pass a capacity, and what one that does not has room for.
+use Prim.Native.Nat.{ℕ, _+_, _*_, _<_, _≤_}
+use mathlib.Core.Bool.{Bool, true, false, true≢false}
+use mathlib.Core.Path.{_≡_, refl}
+use native.Mathlib.Omega.{arith}
+use borrow.Author.Tests.{lt-ltb, le-ltb, ltb-true, ltb-false}
 use lib.Dec.{ltb}
 use Rattle.basis.specs.Pick.{pick-all}
 use Rattle.image.specs.Blocks.{passesOf}
@@ -14,3 +15,21 @@ within number size capacity =
     pick-all (λ (t : Bool). t ≡ false → (number ≤ lastNumber) × (256 * number + size ≤ capacity)) (ltb lastNumber number) _ _
     (λ _ e. absurd (true≢false e))
     (λ t e. (ltb-false lastNumber number t, ltb-false capacity (256 * number + size) e))
+
+module _ (number size capacity : ℕ) where
+  pub number-passes : 4095 < number → passesAny number size capacity ≡ true
+  unfolding passesAny
+  number-passes h =
+      pick-all (λ (t : Bool). t ≡ true) (ltb lastNumber number) _ _ (λ _. refl)
+      (λ t. let low = ltb-false lastNumber number t in absurd (omega arith))
+
+  pub end-passes : capacity < 256 * number + size → passesAny number size capacity ≡ true
+  unfolding passesAny passesOf
+  end-passes h = pick-all (λ (t : Bool). t ≡ true) (ltb lastNumber number) _ _ (λ _. refl) (λ _. lt-ltb capacity (256 * number + size) h)
+
+  pub none-passes : number ≤ 4095 → 256 * number + size ≤ capacity → passesAny number size capacity ≡ false
+  unfolding passesAny passesOf
+  none-passes low fits =
+      pick-all (λ (t : Bool). t ≡ false) (ltb lastNumber number) _ _
+      (λ t. let high = ltb-true lastNumber number t in absurd (omega arith))
+      (λ _. le-ltb capacity (256 * number + size) fits)

@@ -1,0 +1,102 @@
+-- What is written into the lent buffer: at most one response a call, in the first bytes (01, Numbers we answer).
+use Prim.Native.Nat.{ℕ, _≤_}
+use mathlib.Core.Path.{_≡_, refl, sym, _∙_}
+use mathlib.Core.List.{List, []}
+use native.Mathlib.Omega.{arith}
+use lib.ListN.{length, drop, length-append, length-drop}
+use lib.Seq.{drop-append-seam}
+use Rattle.lent.specs.Led.{led}
+use Rattle.writing.proofs.Laws.{response-fits}
+use Rattle.wire.proofs.RequestBytes.{inner}
+use Rattle.wire.specs.Request as message
+use Rattle.wire.specs.declared.request.Request.{Request}
+use Rattle.wire.specs.declared.request.Request.the-variants as Req
+use Rattle.wire.specs.declared.request.Parsed.the-variants.{Valid}
+use Rattle.receiver_answers.specs.Answer.{replyOf}
+use Rattle.receiver_answers.specs.declared.Answer.{Answer}
+use Rattle.receiver_answers.specs.declared.Reply.{Reply}
+use Rattle.receiver_answers.specs.declared.Reply.the-variants.{Nothing, Sends}
+use Rattle.receiver_steps.specs.Request.{decideOf, abortOf}
+use Rattle.receiver_steps.specs.Time.{passOf}
+use Rattle.receiver_steps.specs.declared.phase.Phase.{Phase}
+use Rattle.receiver_steps.specs.declared.phase.Phase.the-variants.{Idle, Transfer, Await, Good}
+use Rattle.receiver_steps.specs.declared.range.Verdict.{Verdict}
+use Rattle.receiver.specs.Respond.{replyBytes, bytesOf}
+use Rattle.receiver.specs.Request.{requestOf}
+use Rattle.receiver.specs.Time.{timeOf}
+use Rattle.receiver.specs.declared.session.Receiver.{Receiver}
+use Rattle.receiver.specs.declared.session.Outcome.{Outcome}
+use Rattle.receiver.proofs.Walk.{request-walk, time-walk}
+
+reply-fits : (reply : Reply) → length (replyBytes reply) ≤ 22
+unfolding replyBytes
+reply-fits Nothing = omega arith
+reply-fits (Sends response) = response-fits response
+
+-- The buffer begins with the answer's one response, or with none; behind it all is as it was.
+pub record Leads (r : Receiver) (out : List ℕ) (outcome : Outcome) (out′ : List ℕ) : Type 0 where
+  pub first : out′ ≡ led (bytesOf r (outcome .answer)) out
+  pub written : outcome .written ≡ length (bytesOf r (outcome .answer))
+
+module _ (r : Receiver) (out : List ℕ) (outcome : Outcome) (out′ : List ℕ) (l : Leads r out outcome out′) where
+  -- A message is at most 260 bytes (01, Sizes and numbers); ours are at most 22.
+  pub written-most : (outcome .written ≤ 22) × (outcome .written ≤ 260)
+  written-most =
+      let fits = reply-fits (replyOf (r .identity) (r .capacity) (outcome .answer)) in
+      let n = l .written in
+      (omega arith, omega arith)
+
+  pub rest-kept : drop (outcome .written) out′ ≡ drop (outcome .written) out
+  rest-kept = rw (l .written, l .first) (drop-append-seam (bytesOf r (outcome .answer)) (drop (length (bytesOf r (outcome .answer))) out))
+
+module _ (r : Receiver) (image request : List ℕ) (readiness : ℕ) (verdict : Verdict) (out : List ℕ) where
+  pub request-leads : Leads r out (requestOf r image request readiness verdict out .outcome) (requestOf r image request readiness verdict out .out)
+  unfolding replyBytes replyOf
+  request-leads =
+      request-walk r image request readiness verdict out (λ x. Leads r out (x .outcome) (x .out))
+      (record { first = refl; written = refl })
+      (record { first = refl; written = refl })
+      (record { first = refl; written = refl })
+      (record { first = refl; written = refl })
+      (λ _ _ _ _. record { first = refl; written = refl })
+
+pub time-leads : (r : Receiver) (elapsed : ℕ) (out : List ℕ) → Leads r out (timeOf r elapsed out .answer) (timeOf r elapsed out .memory)
+unfolding replyBytes replyOf
+time-leads r elapsed out =
+    time-walk r elapsed out (λ x. Leads r out (x .answer) (x .memory))
+    (record { first = refl; written = refl })
+    (λ _. record { first = refl; written = refl })
+
+-- ABORT, and the types that are known and not built: DATA_NR, DATA_PAUSE, VENDOR_SPECIFIC.
+abbrev pub Unanswered : Request → Type 0
+Unanswered Req.GetFwId = ⊥
+Unanswered (Req.Initiate v) = ⊥
+Unanswered (Req.Data number size) = ⊥
+Unanswered Req.Validate = ⊥
+Unanswered Req.Abort = Unit
+Unanswered Req.NotBuilt = Unit
+
+unanswered-silent : (r : Receiver) (q : Request) (readiness : ℕ) (verdict : Verdict) (before : Phase) → Unanswered q
+    → bytesOf r (decideOf before q (r .capacity) readiness verdict .answer) ≡ []
+unfolding decideOf abortOf replyBytes replyOf
+unanswered-silent r Req.GetFwId readiness verdict before h = absurd h
+unanswered-silent r (Req.Initiate v) readiness verdict before h = absurd h
+unanswered-silent r (Req.Data number size) readiness verdict before h = absurd h
+unanswered-silent r Req.Validate readiness verdict before h = absurd h
+unanswered-silent r Req.Abort readiness verdict Idle h = refl
+unanswered-silent r Req.Abort readiness verdict (Transfer p) h = refl
+unanswered-silent r Req.Abort readiness verdict (Await a) h = refl
+unanswered-silent r Req.Abort readiness verdict (Good a) h = refl
+unanswered-silent r Req.NotBuilt readiness verdict before h = refl
+
+module _ (r : Receiver) (image request : List ℕ) (readiness : ℕ) (verdict : Verdict) (out : List ℕ) where
+  -- Nothing is written for them, whatever the phase and the answer.
+  pub nothing-written : (q : Request) → message.requestOf request ≡ Valid q → Unanswered q
+      → (requestOf r image request readiness verdict out .out ≡ out) × (requestOf r image request readiness verdict out .outcome .written ≡ 0)
+  nothing-written q e h =
+      request-walk r image request readiness verdict out (λ x. (x .out ≡ out) × (x .outcome .written ≡ 0))
+      (refl, refl) (refl, refl) (refl, refl) (refl, refl)
+      (λ q′ _ _ e′.
+      let same : q′ ≡ q = inner q′ q (sym e′ ∙ e) in
+      let none : bytesOf r (decideOf (r .phase) q′ (r .capacity) readiness verdict .answer) ≡ [] = rw same (unanswered-silent r q readiness verdict (r .phase) h) in
+      (rw none, rw none))
