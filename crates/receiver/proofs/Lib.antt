@@ -5,3 +5,9 @@ pub mod Entering
 pub mod Stored
 pub mod Written
 pub mod Orders
+pub mod TimeLaws
+pub mod SessionLaws
+pub mod Held
+pub mod Keeps
+pub mod InPlace
+pub mod Unique

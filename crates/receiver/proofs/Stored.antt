@@ -28,7 +28,7 @@ use Rattle.receiver.proofs.Walk.{request-walk}
 use Rattle.receiver.proofs.Laws.{after, next}
 
 -- A taken block, and the image that it leaves: the block in its place, and every byte before and behind it as it was.
-pub record Stored (before : Phase) (request image image′ : List ℕ) (then : Phase) : Type 0 where
+pub record Stored (before : Phase) (capacity : ℕ) (request image image′ : List ℕ) (then : Phase) : Type 0 where
   pub p : Progress
   pub transfer : before ≡ Transfer p
   pub number : ℕ
@@ -40,15 +40,16 @@ pub record Stored (before : Phase) (request image image′ : List ℕ) (then : P
   pub some : 0 < size
   pub most : size ≤ 256
   pub low : number ≤ 4095
-  pub fits : 256 * number + size ≤ length image
+  pub lent : length image ≡ capacity
+  pub fits : 256 * number + size ≤ capacity
   pub ahead : take (256 * number) image′ ≡ take (256 * number) image
   pub there : take (256 * number + size) image′ ≡ take (256 * number) image ++ drop 4 request
   pub behind : drop (256 * number + size) image′ ≡ drop (256 * number + size) image
   pub counted : then ≡ Transfer (progress (accepts (number + 1) (256 * number + size)) (ltb size 256))
 
 module _ (image request : List ℕ) (capacity : ℕ) (room : length image ≡ capacity) where
-  taken-stored : (p : Progress) (q : Request) (number : ℕ) (then : Phase) → message.requestOf request ≡ Valid q → Taken p q capacity number then
-      → Stored (Transfer p) request image (imageOf (At number) image request) then
+  pub taken-stored : (p : Progress) (q : Request) (number : ℕ) (then : Phase) → message.requestOf request ≡ Valid q → Taken p q capacity number then
+      → Stored (Transfer p) capacity request image (imageOf (At number) image request) then
   unfolding imageOf
   taken-stored p q number then e t =
       let asked : message.requestOf request ≡ Valid (Req.Data number (t .size)) = e ∙ ap (λ x. Valid x) (t .asked) in
@@ -69,7 +70,8 @@ module _ (image request : List ℕ) (capacity : ℕ) (room : length image ≡ ca
         some = t .some;
         most = size .2;
         low = t .low;
-        fits = omega arith;
+        lent = room;
+        fits = fits;
         ahead = pasted-before image (256 * number) (drop 4 request) at;
         there = rw (← (size .1)) (pasted-there image (256 * number) (drop 4 request) at);
         behind = rw (← (size .1)) (pasted-behind image (256 * number) (drop 4 request) at);
@@ -77,7 +79,7 @@ module _ (image request : List ℕ) (capacity : ℕ) (room : length image ≡ ca
       })
 
   store-image : (before : Phase) (q : Request) (then : Phase) (s : Store) → message.requestOf request ≡ Valid q → Puts before q capacity then s
-      → (imageOf s image request ≡ image) ⊎ Stored before request image (imageOf s image request) then
+      → (imageOf s image request ≡ image) ⊎ Stored before capacity request image (imageOf s image request) then
   unfolding imageOf
   store-image before q then Nowhere e h = inl refl
   store-image Idle q then (At number) e h = absurd h
@@ -88,10 +90,10 @@ module _ (image request : List ℕ) (capacity : ℕ) (room : length image ≡ ca
 module _ (r : Receiver) (image request : List ℕ) (readiness : ℕ) (verdict : Verdict) (out : List ℕ) where
   -- The image changes only when a non-empty block with the due number that fits is taken, and then only in that block's place.
   pub image-changes : (after r image request readiness verdict out .image ≡ image)
-      ⊎ Stored (r .phase) request image (after r image request readiness verdict out .image) (next r image request readiness verdict out .phase)
+      ⊎ Stored (r .phase) (r .capacity) request image (after r image request readiness verdict out .image) (next r image request readiness verdict out .phase)
   image-changes =
       request-walk r image request readiness verdict out
-      (λ x. (x .image ≡ image) ⊎ Stored (r .phase) request image (x .image) (x .outcome .state .phase))
+      (λ x. (x .image ≡ image) ⊎ Stored (r .phase) (r .capacity) request image (x .image) (x .outcome .state .phase))
       (inl refl) (inl refl) (inl refl) (inl refl)
       (λ q room _ e.
       let s = decideOf (r .phase) q (r .capacity) readiness verdict in

@@ -3,3 +3,4 @@ pub mod Respond
 pub mod Request
 pub mod Time
 pub mod Sum
+pub mod History

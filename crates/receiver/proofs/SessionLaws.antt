@@ -1,0 +1,69 @@
+-- How a session starts, in the paper's own numbers (01, Sizes and numbers), and what its sum refuses.
+use Prim.Native.Nat.{ℕ, _<_, _≤_}
+use mathlib.Core.Path.{_≡_, refl}
+use mathlib.Core.List.{List}
+use native.Mathlib.Omega.{arith}
+use borrow.Author.Tests.{le-ltb, ltb-false, eq-eqb, ne-eqb}
+use lib.Dec.{ltb}
+use lib.ListN.{length, take}
+use Rattle.basis.specs.Pick.{pick, pick-all}
+use Rattle.image.specs.Sum as sums
+use Rattle.silence.specs.Settings as silent
+use Rattle.silence.proofs.Laws.{Within, within-made, outside-29}
+use Rattle.silence.specs.declared.Checked.{Checked}
+use Rattle.silence.specs.declared.Checked.the-variants as Che
+use Rattle.wire.specs.declared.response.Identity.{Identity}
+use Rattle.receiver_steps.specs.Phase.{acceptedOf}
+use Rattle.receiver_steps.specs.declared.phase.Phase.the-variants.{Idle}
+use Rattle.receiver.specs.Session.{capacityMost, freshOf, startOf, numberOf}
+use Rattle.receiver.specs.Sum.{sumOf}
+use Rattle.receiver.specs.declared.session.Receiver.{Receiver}
+use Rattle.receiver.specs.declared.session.Started.{Started}
+use Rattle.receiver.specs.declared.session.Started.the-variants.{Made, Refused}
+use Rattle.receiver.specs.declared.sum.Summed.the-variants.{Sum, ImageLength}
+
+abbrev pub fresh : ℕ → ℕ → Identity → ℕ → Receiver
+fresh limit resends identity capacity = record {
+  settings = record { limit = limit; resends = resends };
+  identity = identity;
+  capacity = capacity;
+  phase = Idle;
+  silence = 0;
+  resends = 0;
+}
+
+module _ (limit resends : ℕ) (identity : Identity) (capacity : ℕ) where
+  -- Settings within the limits make a session in Idle; a capacity of 0 is allowed.
+  pub start-made : Within limit resends → capacity ≤ 1048575 → startOf limit resends identity capacity ≡ Made (fresh limit resends identity capacity)
+  unfolding startOf freshOf pick
+  start-made h c =
+      let few : capacity ≤ capacityMost = omega arith in
+      rw (le-ltb capacityMost capacity few, within-made limit resends h)
+
+  -- Above a capacity of 1,048,575: 29.
+  pub start-29-capacity : 1048575 < capacity → numberOf (startOf limit resends identity capacity) ≡ 29
+  unfolding startOf
+  start-29-capacity h =
+      pick-all (λ (x : Started). numberOf x ≡ 29) (ltb capacityMost capacity) _ _ (λ _. refl)
+      (λ t. let few = ltb-false capacityMost capacity t in absurd (omega arith))
+
+  fresh-29 : (x : Checked) → silent.numberOf x ≡ 29 → numberOf (freshOf x identity capacity) ≡ 29
+  unfolding freshOf
+  fresh-29 (Che.Made settings) e = absurd (omega arith)
+  fresh-29 Che.Refused e = refl
+
+  -- A silence limit or resend count outside its limits: 29.
+  pub start-29-settings : (Within limit resends → ⊥) → numberOf (startOf limit resends identity capacity) ≡ 29
+  unfolding startOf
+  start-29-settings h =
+      pick-all (λ (x : Started). numberOf x ≡ 29) (ltb capacityMost capacity) _ _ (λ _. refl)
+      (λ _. fresh-29 (silent.settingsOf limit resends) (outside-29 limit resends h))
+
+module _ (r : Receiver) (image : List ℕ) where
+  pub sum-28 : (length image ≡ r .capacity → ⊥) → sumOf r image ≡ ImageLength
+  unfolding sumOf pick
+  sum-28 h = rw (ne-eqb (length image) (r .capacity) h)
+
+  pub sum-0 : length image ≡ r .capacity → sumOf r image ≡ Sum (sums.sumOf (take (acceptedOf (r .phase) .bytes) image))
+  unfolding sumOf pick
+  sum-0 h = rw (eq-eqb (length image) (r .capacity) h)
