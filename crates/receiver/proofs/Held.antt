@@ -7,10 +7,10 @@ use native.Mathlib.Omega.{arith}
 use borrow.Author.Tests.{ltb-false}
 use lib.Dec.{ltb}
 use lib.ListN.{length, take, drop, length-append}
-use Rattle.receiver_steps.specs.declared.phase.Accepted.{Accepted}
-use Rattle.receiver_steps.specs.declared.phase.Phase.{Phase}
-use Rattle.receiver_steps.specs.declared.phase.Phase.the-variants.{Idle, Transfer, Await, Good}
-use Rattle.receiver_steps.specs.Phase.{nothing}
+use Rattle.receiver_phases.specs.declared.phase.Accepted.{Accepted}
+use Rattle.receiver_phases.specs.declared.phase.Phase.{Phase}
+use Rattle.receiver_phases.specs.declared.phase.Phase.the-variants.{Idle, Transfer, Await, Good}
+use Rattle.receiver_phases.specs.Phase.{nothing}
 use Rattle.receiver_steps.specs.Request.{progress}
 use Rattle.receiver.specs.History.{inOrder, forgets}
 

@@ -16,14 +16,14 @@ use Rattle.wire.proofs.Sizes.{request-sized}
 use Rattle.wire.specs.declared.request.Request.{Request}
 use Rattle.wire.specs.declared.request.Request.the-variants as Req
 use Rattle.wire.specs.declared.request.Parsed.the-variants.{Valid}
-use Rattle.receiver_answers.specs.Answer.{numberOf}
-use Rattle.receiver_answers.specs.declared.Answer.{Answer}
+use Rattle.receiver_phases.specs.Answer.{numberOf}
+use Rattle.receiver_phases.specs.declared.answer.Answer.{Answer}
 use Rattle.receiver_steps.specs.Request.{decideOf}
 use Rattle.receiver_steps.proofs.Row.{keepsAll, keepsPhase, endsIdle, Stays, ToGood, ToAwait, Enters, Taken, Puts, Row, decide-row}
-use Rattle.receiver_steps.specs.declared.phase.Accepted.{Accepted}
-use Rattle.receiver_steps.specs.declared.phase.Progress.{Progress}
-use Rattle.receiver_steps.specs.declared.phase.Phase.{Phase}
-use Rattle.receiver_steps.specs.declared.phase.Phase.the-variants.{Idle, Transfer, Await, Good}
+use Rattle.receiver_phases.specs.declared.phase.Accepted.{Accepted}
+use Rattle.receiver_phases.specs.declared.phase.Progress.{Progress}
+use Rattle.receiver_phases.specs.declared.phase.Phase.{Phase}
+use Rattle.receiver_phases.specs.declared.phase.Phase.the-variants.{Idle, Transfer, Await, Good}
 use Rattle.receiver_steps.specs.declared.range.Verdict.{Verdict}
 use Rattle.receiver_steps.specs.declared.range.Verdict.the-variants as Ver
 use Rattle.receiver_steps.specs.declared.request.Store.{Store}

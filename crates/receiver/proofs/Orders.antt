@@ -9,7 +9,7 @@ use Rattle.basis.specs.Pick.{pick}
 use Rattle.wire.specs.Request as message
 use Rattle.wire.specs.declared.request.Request.{Request}
 use Rattle.wire.specs.declared.request.Parsed.the-variants as Par
-use Rattle.receiver_answers.specs.declared.Answer.the-variants.{Malformed, OutOfRange, BufferShort, ImageLength}
+use Rattle.receiver_phases.specs.declared.answer.Answer.the-variants.{Malformed, OutOfRange, BufferShort, ImageLength}
 use Rattle.receiver_steps.specs.Range.{outOfRange}
 use Rattle.receiver_steps.specs.declared.range.Verdict.{Verdict}
 use Rattle.receiver.specs.Request.{kept, readOf, requestOf}

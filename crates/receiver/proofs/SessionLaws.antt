@@ -13,8 +13,8 @@ use Rattle.silence.proofs.Laws.{Within, within-made, outside-29}
 use Rattle.silence.specs.declared.Checked.{Checked}
 use Rattle.silence.specs.declared.Checked.the-variants as Che
 use Rattle.wire.specs.declared.response.Identity.{Identity}
-use Rattle.receiver_steps.specs.Phase.{acceptedOf}
-use Rattle.receiver_steps.specs.declared.phase.Phase.the-variants.{Idle}
+use Rattle.receiver_phases.specs.Phase.{acceptedOf}
+use Rattle.receiver_phases.specs.declared.phase.Phase.the-variants.{Idle}
 use Rattle.receiver.specs.Session.{capacityMost, freshOf, startOf, numberOf}
 use Rattle.receiver.specs.Sum.{sumOf}
 use Rattle.receiver.specs.declared.session.Receiver.{Receiver}

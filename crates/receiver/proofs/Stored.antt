@@ -13,12 +13,12 @@ use Rattle.wire.proofs.Sizes.{request-sized}
 use Rattle.wire.specs.declared.request.Request.{Request}
 use Rattle.wire.specs.declared.request.Request.the-variants as Req
 use Rattle.wire.specs.declared.request.Parsed.the-variants.{Valid}
-use Rattle.receiver_steps.specs.Phase.{accepts}
+use Rattle.receiver_phases.specs.Phase.{accepts}
 use Rattle.receiver_steps.specs.Request.{progress, decideOf}
 use Rattle.receiver_steps.proofs.Row.{Taken, Puts, decide-row}
-use Rattle.receiver_steps.specs.declared.phase.Progress.{Progress}
-use Rattle.receiver_steps.specs.declared.phase.Phase.{Phase}
-use Rattle.receiver_steps.specs.declared.phase.Phase.the-variants.{Idle, Transfer, Await, Good}
+use Rattle.receiver_phases.specs.declared.phase.Progress.{Progress}
+use Rattle.receiver_phases.specs.declared.phase.Phase.{Phase}
+use Rattle.receiver_phases.specs.declared.phase.Phase.the-variants.{Idle, Transfer, Await, Good}
 use Rattle.receiver_steps.specs.declared.range.Verdict.{Verdict}
 use Rattle.receiver_steps.specs.declared.request.Store.{Store}
 use Rattle.receiver_steps.specs.declared.request.Store.the-variants.{Nowhere, At}

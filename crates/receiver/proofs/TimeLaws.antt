@@ -8,13 +8,13 @@ use lib.ListN.{length}
 use Rattle.basis.specs.Pick.{pick}
 use Rattle.basis.specs.Left.{left}
 use Rattle.silence.specs.declared.Settings.{Settings}
-use Rattle.receiver_answers.specs.Answer.{numberOf}
-use Rattle.receiver_answers.specs.declared.Answer.the-variants.{BufferShort, Passed}
-use Rattle.receiver_steps.specs.Time.{after, passOf}
-use Rattle.receiver_steps.proofs.TimeRow.{Lasts, idle-still, good-still, pass-ticks}
-use Rattle.receiver_steps.specs.declared.phase.Accepted.{Accepted}
-use Rattle.receiver_steps.specs.declared.phase.Phase.{Phase}
-use Rattle.receiver_steps.specs.declared.phase.Phase.the-variants.{Idle, Transfer, Await, Good}
+use Rattle.receiver_phases.specs.Answer.{numberOf}
+use Rattle.receiver_phases.specs.declared.answer.Answer.the-variants.{BufferShort, Passed}
+use Rattle.receiver_time.specs.Time.{after, passOf}
+use Rattle.receiver_time.proofs.Laws.{Lasts, idle-still, good-still, pass-ticks}
+use Rattle.receiver_phases.specs.declared.phase.Accepted.{Accepted}
+use Rattle.receiver_phases.specs.declared.phase.Phase.{Phase}
+use Rattle.receiver_phases.specs.declared.phase.Phase.the-variants.{Idle, Transfer, Await, Good}
 use Rattle.receiver.specs.Session.{ends}
 use Rattle.receiver.specs.Time.{tickedOf, spendOf, timeOf}
 use Rattle.receiver.specs.declared.session.Receiver.{Receiver}

@@ -12,14 +12,14 @@ use Rattle.wire.specs.Request as message
 use Rattle.wire.specs.declared.request.Request.{Request}
 use Rattle.wire.specs.declared.request.Request.the-variants as Req
 use Rattle.wire.specs.declared.request.Parsed.the-variants.{Valid}
-use Rattle.receiver_answers.specs.Answer.{replyOf}
-use Rattle.receiver_answers.specs.declared.Answer.{Answer}
-use Rattle.receiver_answers.specs.declared.Reply.{Reply}
-use Rattle.receiver_answers.specs.declared.Reply.the-variants.{Nothing, Sends}
+use Rattle.receiver_phases.specs.Answer.{replyOf}
+use Rattle.receiver_phases.specs.declared.answer.Answer.{Answer}
+use Rattle.receiver_phases.specs.declared.answer.Reply.{Reply}
+use Rattle.receiver_phases.specs.declared.answer.Reply.the-variants.{Nothing, Sends}
 use Rattle.receiver_steps.specs.Request.{decideOf, abortOf}
-use Rattle.receiver_steps.specs.Time.{passOf}
-use Rattle.receiver_steps.specs.declared.phase.Phase.{Phase}
-use Rattle.receiver_steps.specs.declared.phase.Phase.the-variants.{Idle, Transfer, Await, Good}
+use Rattle.receiver_time.specs.Time.{passOf}
+use Rattle.receiver_phases.specs.declared.phase.Phase.{Phase}
+use Rattle.receiver_phases.specs.declared.phase.Phase.the-variants.{Idle, Transfer, Await, Good}
 use Rattle.receiver_steps.specs.declared.range.Verdict.{Verdict}
 use Rattle.receiver.specs.Respond.{replyBytes, bytesOf}
 use Rattle.receiver.specs.Request.{requestOf}

@@ -14,9 +14,9 @@ use Rattle.wire.specs.declared.request.Request.the-variants as Req
 use Rattle.wire.specs.declared.request.Parsed.{Parsed}
 use Rattle.wire.specs.declared.request.Parsed.the-variants as Par
 use Rattle.wire.specs.declared.response.Identity.{Identity}
-use Rattle.receiver_answers.specs.Answer.{numberOf}
-use Rattle.receiver_steps.specs.declared.phase.Phase.{Phase}
-use Rattle.receiver_steps.specs.declared.phase.Phase.the-variants.{Idle, Transfer, Await, Good}
+use Rattle.receiver_phases.specs.Answer.{numberOf}
+use Rattle.receiver_phases.specs.declared.phase.Phase.{Phase}
+use Rattle.receiver_phases.specs.declared.phase.Phase.the-variants.{Idle, Transfer, Await, Good}
 use Rattle.receiver_steps.specs.declared.range.Verdict.{Verdict}
 use Rattle.receiver.specs.Session.{startOf}
 use Rattle.receiver.specs.Request.{requestOf}

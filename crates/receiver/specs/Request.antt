@@ -14,8 +14,8 @@ use Rattle.wire.specs.declared.request.Parsed.the-variants as Par
 use Rattle.receiver_steps.specs.Range.{outOfRange}
 use Rattle.receiver_steps.specs.Request.{decideOf}
 use Rattle.receiver_steps.specs.declared.range.Verdict.{Verdict}
-use Rattle.receiver_answers.specs.declared.Answer.{Answer}
-use Rattle.receiver_answers.specs.declared.Answer.the-variants.{Malformed, OutOfRange, BufferShort, ImageLength}
+use Rattle.receiver_phases.specs.declared.answer.Answer.{Answer}
+use Rattle.receiver_phases.specs.declared.answer.Answer.the-variants.{Malformed, OutOfRange, BufferShort, ImageLength}
 use Rattle.receiver_steps.specs.declared.request.Store.{Store}
 use Rattle.receiver_steps.specs.declared.request.Store.the-variants.{Nowhere, At}
 use Rattle.receiver_steps.specs.declared.request.Step.{Step}

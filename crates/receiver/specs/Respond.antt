@@ -5,10 +5,10 @@ use lib.ListN.{length}
 use Rattle.basis.specs.Left.{Left, left}
 use Rattle.lent.specs.Led.{led}
 use Rattle.wire.specs.Written.{responseBytes}
-use Rattle.receiver_answers.specs.Answer.{replyOf}
-use Rattle.receiver_answers.specs.declared.Answer.{Answer}
-use Rattle.receiver_answers.specs.declared.Reply.{Reply}
-use Rattle.receiver_answers.specs.declared.Reply.the-variants.{Nothing, Sends}
+use Rattle.receiver_phases.specs.Answer.{replyOf}
+use Rattle.receiver_phases.specs.declared.answer.Answer.{Answer}
+use Rattle.receiver_phases.specs.declared.answer.Reply.{Reply}
+use Rattle.receiver_phases.specs.declared.answer.Reply.the-variants.{Nothing, Sends}
 use Rattle.receiver.specs.declared.session.Receiver.{Receiver}
 
 unfoldable pub replyBytes : Reply → List ℕ

@@ -6,9 +6,9 @@ use Rattle.silence.specs.Settings.{settingsOf}
 use Rattle.silence.specs.declared.Checked.{Checked}
 use Rattle.silence.specs.declared.Checked.the-variants as Che
 use Rattle.wire.specs.declared.response.Identity.{Identity}
-use Rattle.receiver_answers.specs.declared.Answer.{Answer}
-use Rattle.receiver_steps.specs.declared.phase.Phase.{Phase}
-use Rattle.receiver_steps.specs.declared.phase.Phase.the-variants.{Idle}
+use Rattle.receiver_phases.specs.declared.answer.Answer.{Answer}
+use Rattle.receiver_phases.specs.declared.phase.Phase.{Phase}
+use Rattle.receiver_phases.specs.declared.phase.Phase.the-variants.{Idle}
 use Rattle.receiver.specs.declared.session.Receiver.{Receiver}
 use Rattle.receiver.specs.declared.session.Outcome.{Outcome}
 use Rattle.receiver.specs.declared.session.Started.{Started}

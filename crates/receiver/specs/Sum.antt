@@ -5,7 +5,7 @@ use lib.Dec.{eqb}
 use lib.ListN.{length, take}
 use Rattle.basis.specs.Pick.{pick}
 use Rattle.image.specs.Sum as sums
-use Rattle.receiver_steps.specs.Phase.{acceptedOf}
+use Rattle.receiver_phases.specs.Phase.{acceptedOf}
 use Rattle.receiver.specs.declared.session.Receiver.{Receiver}
 use Rattle.receiver.specs.declared.sum.Summed.{Summed}
 use Rattle.receiver.specs.declared.sum.Summed.the-variants.{Sum, ImageLength}

@@ -4,7 +4,7 @@ use crate::respond::respond;
 use crate::session::Outcome;
 use crate::session::Receiver;
 use crate::store::keep;
-use receiver_answers::Answer;
+use receiver_phases::answer::Answer;
 use receiver_steps::range;
 use receiver_steps::range::Verdict;
 use receiver_steps::request::decide;

@@ -1,6 +1,6 @@
 // The response that goes out with an answer, in the first bytes of the lent buffer (01, Numbers we answer).
-use receiver_answers::Answer;
-use receiver_answers::Reply;
+use receiver_phases::answer::Answer;
+use receiver_phases::answer::Reply;
 use wire::response::Identity;
 use wire::response::Response;
 ghost use mathlib.Core.Path.{_≡_};
@@ -9,7 +9,7 @@ ghost use lib.ListN.{length};
 ghost use Rattle.basis.specs.Left.{left};
 ghost use Rattle.wire.specs.Codes.{longest};
 ghost use Rattle.wire.specs.Written.{responseBytes};
-ghost use Rattle.receiver_answers.specs.Answer.{replyOf};
+ghost use Rattle.receiver_phases.specs.Answer.{replyOf};
 ghost use Rattle.receiver.specs.Respond.{replyBytes, leads};
 
 pub(crate) fn respond(out: &mut [u8], identity: Identity, capacity: u32, answer: Answer) -> usize

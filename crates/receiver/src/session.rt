@@ -1,6 +1,6 @@
 // A session of the receiver: what it was started with, and where it stands.
-use receiver_answers::Answer;
-use receiver_steps::phase::Phase;
+use receiver_phases::answer::Answer;
+use receiver_phases::phase::Phase;
 use silence::Checked;
 use silence::Settings;
 use wire::response::Identity;

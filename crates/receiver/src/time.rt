@@ -2,8 +2,8 @@
 use crate::respond::respond;
 use crate::session::Outcome;
 use crate::session::Receiver;
-use receiver_answers::Answer;
-use receiver_steps::time::pass;
+use receiver_phases::answer::Answer;
+use receiver_time::pass;
 use wire::codes;
 ghost use mathlib.Core.Path.{_≡_};
 ghost use Prim.Native.Nat.{_≤_};

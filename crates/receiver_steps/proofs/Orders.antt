@@ -5,11 +5,11 @@ use mathlib.Core.Path.{_≡_}
 use borrow.Author.Tests.{eq-eqb, ne-eqb}
 use lib.Dec.{ltb}
 use Rattle.basis.specs.Pick.{pick}
-use Rattle.receiver_answers.specs.declared.Answer.the-variants.{Asking, Closed, NotDue, PassesCapacity, WrongFile}
-use Rattle.receiver_steps.specs.Phase.{accepts}
+use Rattle.receiver_phases.specs.declared.answer.Answer.the-variants.{Asking, Closed, NotDue, PassesCapacity, WrongFile}
+use Rattle.receiver_phases.specs.Phase.{accepts}
 use Rattle.receiver_steps.specs.Request.{to, progress, passesAny, closeOf, takeOf, transferOf}
-use Rattle.receiver_steps.specs.declared.phase.Progress.{Progress}
-use Rattle.receiver_steps.specs.declared.phase.Phase.the-variants.{Idle, Transfer, Await}
+use Rattle.receiver_phases.specs.declared.phase.Progress.{Progress}
+use Rattle.receiver_phases.specs.declared.phase.Phase.the-variants.{Idle, Transfer, Await}
 use Rattle.receiver_steps.specs.declared.request.Store.the-variants.{At}
 use Rattle.receiver_steps.specs.declared.request.Step.{Step}
 use Rattle.receiver_steps.proofs.Within.{number-passes, end-passes, none-passes}

@@ -8,14 +8,14 @@ use lib.Dec.{ltb, eqb}
 use Rattle.basis.specs.Pick.{pick-all, When}
 use Rattle.wire.specs.declared.request.Request.{Request}
 use Rattle.wire.specs.declared.request.Request.the-variants as Req
-use Rattle.receiver_answers.specs.Answer.{numberOf}
-use Rattle.receiver_answers.specs.declared.Answer.{Answer}
-use Rattle.receiver_steps.specs.Phase.{accepts}
+use Rattle.receiver_phases.specs.Answer.{numberOf}
+use Rattle.receiver_phases.specs.declared.answer.Answer.{Answer}
+use Rattle.receiver_phases.specs.Phase.{accepts}
 use Rattle.receiver_steps.specs.Request.{to, progress, offerOf, againOf, initiateOf, passesAny, closeOf, takeOf, transferOf, dataOf, judgeOf, validateOf, abortOf, decideOf}
-use Rattle.receiver_steps.specs.declared.phase.Accepted.{Accepted}
-use Rattle.receiver_steps.specs.declared.phase.Progress.{Progress}
-use Rattle.receiver_steps.specs.declared.phase.Phase.{Phase}
-use Rattle.receiver_steps.specs.declared.phase.Phase.the-variants.{Idle, Transfer, Await, Good}
+use Rattle.receiver_phases.specs.declared.phase.Accepted.{Accepted}
+use Rattle.receiver_phases.specs.declared.phase.Progress.{Progress}
+use Rattle.receiver_phases.specs.declared.phase.Phase.{Phase}
+use Rattle.receiver_phases.specs.declared.phase.Phase.the-variants.{Idle, Transfer, Await, Good}
 use Rattle.receiver_steps.specs.declared.range.Verdict.{Verdict}
 use Rattle.receiver_steps.specs.declared.range.Verdict.the-variants as Ver
 use Rattle.receiver_steps.specs.declared.request.Store.{Store}

@@ -1,4 +1,2 @@
-pub mod Phase
 pub mod Range
 pub mod Request
-pub mod Time

@@ -6,15 +6,15 @@ use Rattle.basis.specs.Pick.{pick}
 use Rattle.image.specs.Blocks.{blockSize, placeOf, passesOf}
 use Rattle.wire.specs.declared.request.Request.{Request}
 use Rattle.wire.specs.declared.request.Request.the-variants as Req
-use Rattle.receiver_steps.specs.Phase.{accepts, nothing}
-use Rattle.receiver_steps.specs.declared.phase.Accepted.{Accepted}
-use Rattle.receiver_steps.specs.declared.phase.Progress.{Progress}
-use Rattle.receiver_steps.specs.declared.phase.Phase.{Phase}
-use Rattle.receiver_steps.specs.declared.phase.Phase.the-variants.{Idle, Transfer, Await, Good}
+use Rattle.receiver_phases.specs.Phase.{accepts, nothing}
+use Rattle.receiver_phases.specs.declared.phase.Accepted.{Accepted}
+use Rattle.receiver_phases.specs.declared.phase.Progress.{Progress}
+use Rattle.receiver_phases.specs.declared.phase.Phase.{Phase}
+use Rattle.receiver_phases.specs.declared.phase.Phase.the-variants.{Idle, Transfer, Await, Good}
 use Rattle.receiver_steps.specs.declared.range.Verdict.{Verdict}
 use Rattle.receiver_steps.specs.declared.range.Verdict.the-variants as Ver
-use Rattle.receiver_answers.specs.declared.Answer.{Answer}
-use Rattle.receiver_answers.specs.declared.Answer.the-variants.{Identified, Offered, Asking, Closed, Success, Later, Aborted, UnexpectedInitiate, UnexpectedData, UnexpectedValidate, Unexpected, NotDue, PassesCapacity, WrongFile, VerdictBad}
+use Rattle.receiver_phases.specs.declared.answer.Answer.{Answer}
+use Rattle.receiver_phases.specs.declared.answer.Answer.the-variants.{Identified, Offered, Asking, Closed, Success, Later, Aborted, UnexpectedInitiate, UnexpectedData, UnexpectedValidate, Unexpected, NotDue, PassesCapacity, WrongFile, VerdictBad}
 use Rattle.receiver_steps.specs.declared.request.Store.{Store}
 use Rattle.receiver_steps.specs.declared.request.Store.the-variants.{Nowhere, At}
 use Rattle.receiver_steps.specs.declared.request.Step.{Step}

@@ -1,9 +1,9 @@
 // What the receiver does with a well-formed request, by its phase (01, The receiver's phases).
-use crate::phase::Accepted;
-use crate::phase::Phase;
-use crate::phase::Progress;
 use crate::range::Verdict;
-use receiver_answers::Answer;
+use receiver_phases::answer::Answer;
+use receiver_phases::phase::Accepted;
+use receiver_phases::phase::Phase;
+use receiver_phases::phase::Progress;
 use wire::request::Request;
 ghost use mathlib.Core.Path.{_≡_};
 ghost use mathlib.Core.Bool.{Bool};

@@ -1,0 +1,13 @@
+use Rattle.receiver_time.specs.Time.{waitOf}
+use borrow.Author.Needs.{needs}
+use Rattle.receiver_time.proofs.wait.Statement.{statement}
+use Rattle.receiver_time.proofs.wait.Tie as tie
+
+pub wait-spec : {M : Type 1} → statement M
+unfolding waitOf
+wait-spec =
+    tie.close
+    (tie.spec
+    (λ c κs. search needs)
+    (λ c κs. search needs)
+    (λ c. rw (← (c .before .grow .ensures)) (c .expire .ensures)))
