@@ -1,11 +1,11 @@
 -- Every step keeps what a session holds: the accepted blocks stay the first bytes of the image.
 use Prim.Native.Nat.{ℕ, _+_, _*_, _<_, _≤_}
-use mathlib.Core.Bool.{Bool, true, false, _&&_}
+use mathlib.Core.Bool.{false}
 use mathlib.Core.Path.{_≡_, refl, sym, _∙_, ap}
-use mathlib.Core.List.{List, [], _∷_, _++_}
+use mathlib.Core.List.{List, _++_}
 use native.Mathlib.Omega.{arith}
 use borrow.Author.Tests.{eqb-true, eqb-false, lt-ltb}
-use lib.Dec.{ltb, eqb}
+use lib.Dec.{eqb}
 use lib.ListN.{length, take, drop, length-append}
 use Rattle.basis.specs.Pick.{pick, pick-all}
 use Rattle.lent.proofs.Laws.{put-fits, pasted-there}
@@ -14,11 +14,9 @@ use Rattle.wire.proofs.Sizes.{request-sized}
 use Rattle.wire.specs.declared.request.Versions.{Versions}
 use Rattle.wire.specs.declared.request.Request.{Request}
 use Rattle.wire.specs.declared.request.Request.the-variants as Req
-use Rattle.wire.specs.declared.request.Parsed.{Parsed}
 use Rattle.wire.specs.declared.request.Parsed.the-variants as Par
 use Rattle.receiver_phases.specs.Answer.{numberOf}
-use Rattle.receiver_phases.specs.Phase.{accepts}
-use Rattle.receiver_steps.specs.Request.{progress, offerOf, againOf, initiateOf, passesAny, closeOf, takeOf, transferOf, dataOf, judgeOf, validateOf, abortOf, decideOf}
+use Rattle.receiver_steps.specs.Request.{offerOf, againOf, initiateOf, passesAny, closeOf, takeOf, transferOf, dataOf, judgeOf, validateOf, abortOf, decideOf}
 use Rattle.receiver_steps.proofs.Within.{within}
 use Rattle.receiver_phases.specs.declared.phase.Accepted.{Accepted}
 use Rattle.receiver_phases.specs.declared.phase.Progress.{Progress}
@@ -28,8 +26,8 @@ use Rattle.receiver_steps.specs.declared.range.Verdict.{Verdict}
 use Rattle.receiver_steps.specs.declared.range.Verdict.the-variants as Ver
 use Rattle.receiver_steps.specs.declared.request.Step.{Step}
 use Rattle.receiver.specs.Request.{imageOf}
-use Rattle.receiver.specs.History.{carries, carried, takenBy, inOrder}
-use Rattle.receiver.proofs.Held.{Sizes, shortOf, Counts, Held, whole-bytes, not-short, nothing-held, none-taken, forgets-held}
+use Rattle.receiver.specs.History.{takenBy, inOrder}
+use Rattle.receiver.proofs.Held.{Held, whole-bytes, not-short, nothing-held, none-taken}
 
 module _ (capacity : ℕ) (image request : List ℕ) (taken : List (List ℕ)) (readiness : ℕ) (verdict : Verdict) where
   abbrev Has : Phase → Type 0

@@ -1,33 +1,20 @@
 -- The paper's sentences on the receiver's requests, said back of the definition (01, The receiver's phases; 01, Numbers we answer).
-use Prim.Native.Nat.{ℕ, _+_, _*_, _<_, _≤_}
-use mathlib.Core.Bool.{Bool, true, false, true≢false}
-use mathlib.Core.Logic.{_⊎_, inl, inr}
-use mathlib.Core.Path.{_≡_, refl, sym, _∙_, ap}
-use mathlib.Core.List.{List, [], _++_}
-use native.Mathlib.Omega.{arith}
-use lib.ListN.{length, take, drop}
+use Prim.Native.Nat.{ℕ}
+use mathlib.Core.Bool.{true, false, true≢false}
+use mathlib.Core.Path.{_≡_, refl, sym, _∙_}
+use mathlib.Core.List.{List}
 use Rattle.basis.specs.Pick.{when-met}
 use Rattle.basis.specs.Left.{leaves}
-use Rattle.lent.specs.Put.{pasted}
-use Rattle.lent.specs.Led.{led}
-use Rattle.lent.proofs.Laws.{put-fits, pasted-before, pasted-there, pasted-behind, put-length}
-use Rattle.wire.specs.Request as message
-use Rattle.wire.proofs.Sizes.{request-sized}
 use Rattle.wire.specs.declared.request.Request.{Request}
-use Rattle.wire.specs.declared.request.Request.the-variants as Req
-use Rattle.wire.specs.declared.request.Parsed.the-variants.{Valid}
 use Rattle.receiver_phases.specs.Answer.{numberOf}
-use Rattle.receiver_phases.specs.declared.answer.Answer.{Answer}
 use Rattle.receiver_steps.specs.Request.{decideOf}
-use Rattle.receiver_steps.proofs.Row.{keepsAll, keepsPhase, endsIdle, Stays, ToGood, ToAwait, Enters, Taken, Puts, Row, decide-row}
+use Rattle.receiver_steps.proofs.Row.{keepsAll, keepsPhase, endsIdle, Stays, Row, decide-row}
 use Rattle.receiver_phases.specs.declared.phase.Accepted.{Accepted}
-use Rattle.receiver_phases.specs.declared.phase.Progress.{Progress}
 use Rattle.receiver_phases.specs.declared.phase.Phase.{Phase}
-use Rattle.receiver_phases.specs.declared.phase.Phase.the-variants.{Idle, Transfer, Await, Good}
+use Rattle.receiver_phases.specs.declared.phase.Phase.the-variants.{Idle, Good}
 use Rattle.receiver_steps.specs.declared.range.Verdict.{Verdict}
-use Rattle.receiver_steps.specs.declared.range.Verdict.the-variants as Ver
 use Rattle.receiver_steps.specs.declared.request.Store.{Store}
-use Rattle.receiver_steps.specs.declared.request.Store.the-variants.{Nowhere, At}
+use Rattle.receiver_steps.specs.declared.request.Store.the-variants.{Nowhere}
 use Rattle.receiver_steps.specs.declared.request.Step.{Step}
 use Rattle.receiver.specs.Request.{Effect, kept, imageOf, requestOf}
 use Rattle.receiver.specs.declared.session.Receiver.{Receiver}

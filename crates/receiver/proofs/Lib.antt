@@ -9,5 +9,7 @@ pub mod TimeLaws
 pub mod SessionLaws
 pub mod Held
 pub mod Keeps
+pub mod Fresh
+pub mod Reached
 pub mod InPlace
 pub mod Unique

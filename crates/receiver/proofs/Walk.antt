@@ -1,6 +1,5 @@
 -- Every request call is one of five: kept and answered 28, 27, 26 or 20, or a step that was decided and done.
 use Prim.Native.Nat.{ℕ, _≤_}
-use mathlib.Core.Bool.{Bool, true, false}
 use mathlib.Core.Path.{_≡_, refl}
 use mathlib.Core.List.{List}
 use borrow.Author.Tests.{eqb-true, ltb-false}

@@ -1,6 +1,5 @@
 -- What one request does: everything that the call returns and leaves, for every session, image, request, readiness, verdict and buffer.
 use Prim.Native.Nat.{ℕ, _≤_}
-use mathlib.Core.Bool.{Bool}
 use mathlib.Core.List.{List}
 use lib.Dec.{ltb, eqb}
 use lib.ListN.{length, drop}

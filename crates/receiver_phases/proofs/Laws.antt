@@ -2,7 +2,7 @@
 use Prim.Native.Nat.{ℕ}
 use mathlib.Core.Bool.{true, false}
 use mathlib.Core.Path.{_≡_, refl}
-use mathlib.Core.List.{List, [], _∷_, map}
+use mathlib.Core.List.{[], _∷_, map}
 use Rattle.wire.specs.declared.response.Identity.{Identity}
 use Rattle.wire.specs.declared.response.Response.the-variants as Res
 use Rattle.receiver_phases.specs.Answer.{numberOf, replyOf, identified, initiated, receipt, validated}

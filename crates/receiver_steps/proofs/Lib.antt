@@ -2,4 +2,5 @@ pub mod Within
 pub mod Row
 pub mod RangeLaws
 pub mod Orders
+pub mod Rows
 pub mod Unique

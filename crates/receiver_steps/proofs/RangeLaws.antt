@@ -1,9 +1,9 @@
 -- 26 in the paper's own numbers: a readiness wait 0 to 254, a later-wait of 1 to 254 (01, The receiver's phases).
-use Prim.Native.Nat.{ℕ, _<_, _≤_}
-use mathlib.Core.Bool.{Bool, true, false}
+use Prim.Native.Nat.{ℕ, _≤_}
+use mathlib.Core.Bool.{Bool, false}
 use mathlib.Core.Path.{_≡_, refl}
 use native.Mathlib.Omega.{arith}
-use borrow.Author.Tests.{le-ltb, lt-ltb, ltb-true, ltb-false, eqb-true, eqb-false}
+use borrow.Author.Tests.{le-ltb, ltb-true, ltb-false, eqb-true, eqb-false}
 use lib.Dec.{ltb, eqb}
 use Rattle.basis.specs.Pick.{pick-all}
 use Rattle.receiver_steps.specs.Range.{waitMost, laterOutside, verdictOutside, outOfRange}

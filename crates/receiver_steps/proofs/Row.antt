@@ -1,7 +1,7 @@
 -- What every step of the receiver owes, by its answer, the phase that it comes from and the phase that it goes to.
 use Prim.Native.Nat.{ℕ, _+_, _*_, _≤_, _<_}
-use mathlib.Core.Bool.{Bool, true, false, _||_}
-use mathlib.Core.Path.{_≡_, refl, sym}
+use mathlib.Core.Bool.{Bool, false, _||_}
+use mathlib.Core.Path.{_≡_, refl}
 use native.Mathlib.Omega.{arith}
 use borrow.Author.Tests.{eqb-true, eqb-false}
 use lib.Dec.{ltb, eqb}
@@ -9,7 +9,6 @@ use Rattle.basis.specs.Pick.{pick-all, When}
 use Rattle.wire.specs.declared.request.Request.{Request}
 use Rattle.wire.specs.declared.request.Request.the-variants as Req
 use Rattle.receiver_phases.specs.Answer.{numberOf}
-use Rattle.receiver_phases.specs.declared.answer.Answer.{Answer}
 use Rattle.receiver_phases.specs.Phase.{accepts}
 use Rattle.receiver_steps.specs.Request.{to, progress, offerOf, againOf, initiateOf, passesAny, closeOf, takeOf, transferOf, dataOf, judgeOf, validateOf, abortOf, decideOf}
 use Rattle.receiver_phases.specs.declared.phase.Accepted.{Accepted}

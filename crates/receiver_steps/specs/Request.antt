@@ -15,7 +15,6 @@ use Rattle.receiver_steps.specs.declared.range.Verdict.{Verdict}
 use Rattle.receiver_steps.specs.declared.range.Verdict.the-variants as Ver
 use Rattle.receiver_phases.specs.declared.answer.Answer.{Answer}
 use Rattle.receiver_phases.specs.declared.answer.Answer.the-variants.{Identified, Offered, Asking, Closed, Success, Later, Aborted, UnexpectedInitiate, UnexpectedData, UnexpectedValidate, Unexpected, NotDue, PassesCapacity, WrongFile, VerdictBad}
-use Rattle.receiver_steps.specs.declared.request.Store.{Store}
 use Rattle.receiver_steps.specs.declared.request.Store.the-variants.{Nowhere, At}
 use Rattle.receiver_steps.specs.declared.request.Step.{Step}
 

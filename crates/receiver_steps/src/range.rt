@@ -1,6 +1,5 @@
 // The readiness wait and the verdict that come with each request, and whether they are in range (01, The receiver's phases).
 ghost use mathlib.Core.Path.{_≡_};
-ghost use mathlib.Core.Bool.{Bool};
 ghost use Rattle.receiver_steps.specs.Range.{laterOutside, verdictOutside, outOfRange};
 
 const WAIT_MOST: u8 = 254;

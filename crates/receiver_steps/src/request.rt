@@ -6,7 +6,6 @@ use receiver_phases::phase::Phase;
 use receiver_phases::phase::Progress;
 use wire::request::Request;
 ghost use mathlib.Core.Path.{_≡_};
-ghost use mathlib.Core.Bool.{Bool};
 ghost use Prim.Native.Nat.{_+_, _*_, _≤_, _<_};
 ghost use Rattle.receiver_steps.specs.Request.{lastNumber, to, offerOf, againOf, initiateOf, passesAny, closeOf, takeOf, transferOf, dataOf, judgeOf, validateOf, abortOf, decideOf};
 

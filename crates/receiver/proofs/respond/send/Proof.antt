@@ -1,5 +1,4 @@
 use Rattle.writing.proofs.Laws.{sends-whole, response-fits}
-use mathlib.Core.Path.{_∙_}
 use native.Mathlib.Omega.{arith}
 use denote.Ref.{now}
 use Rattle.basis.specs.Left.{leaves}

@@ -1,6 +1,5 @@
 use Rattle.basis.specs.Left.{leaves}
 use Rattle.basis.specs.Lists.{tail-all}
-use denote.Ref.{now}
 use borrow.Author.Needs.{needs}
 use Rattle.receiver.proofs.store.put.Statement.{statement}
 use Rattle.receiver.proofs.store.put.Tie as tie
