@@ -16,7 +16,7 @@ use Rattle.wire.specs.declared.request.Request.{Request}
 use Rattle.wire.specs.declared.request.Request.the-variants as Req
 use Rattle.wire.specs.declared.request.Parsed.the-variants as Par
 use Rattle.receiver_phases.specs.Answer.{numberOf}
-use Rattle.receiver_steps.specs.Request.{offerOf, againOf, initiateOf, passesAny, closeOf, takeOf, transferOf, dataOf, judgeOf, validateOf, abortOf, decideOf}
+use Rattle.receiver_steps.specs.Request.{offerOf, againOf, initiateOf, passesCapacity, closeOf, takeOf, transferOf, dataOf, judgeOf, validateOf, abortOf, decideOf}
 use Rattle.receiver_steps.proofs.Within.{within}
 use Rattle.receiver_phases.specs.declared.phase.Accepted.{Accepted}
 use Rattle.receiver_phases.specs.declared.phase.Progress.{Progress}
@@ -84,7 +84,7 @@ module _ (capacity : ℕ) (image request : List ℕ) (taken : List (List ℕ)) (
         (λ t. let some = eqb-false (p .accepted .blocks) 0 t in (h .0, omega arith)))
 
     module _ (lent : length image ≡ capacity) (e : message.requestOf request ≡ Par.Valid (Req.Data number size)) where
-      take-keeps : number ≡ p .accepted .blocks → p .short ≡ false → 0 < size → passesAny number size capacity ≡ false
+      take-keeps : number ≡ p .accepted .blocks → p .short ≡ false → 0 < size → passesCapacity number size capacity ≡ false
           → Then (Transfer p) (Req.Data number size) (takeOf number size readiness)
       unfolding takeOf imageOf pick
       take-keeps due whole some passed =
@@ -119,7 +119,7 @@ module _ (capacity : ℕ) (image request : List ℕ) (taken : List (List ℕ)) (
           pick-all P (eqb number (p .accepted .blocks)) _ _
           (λ a. pick-all P (eqb size 0) _ _ (λ b. close-keeps (eqb-true size 0 b))
           (λ b. pick-all P (p .short) _ _ (λ _. refl)
-          (λ whole. pick-all P (passesAny number size capacity) _ _ (λ _. refl)
+          (λ whole. pick-all P (passesCapacity number size capacity) _ _ (λ _. refl)
           (λ passed.
           let some = eqb-false size 0 b in
           take-keeps (eqb-true number (p .accepted .blocks) a) whole (omega arith) passed))))

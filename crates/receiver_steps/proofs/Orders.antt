@@ -7,7 +7,7 @@ use lib.Dec.{ltb}
 use Rattle.basis.specs.Pick.{pick}
 use Rattle.receiver_phases.specs.declared.answer.Answer.the-variants.{Asking, Closed, NotDue, PassesCapacity, WrongFile}
 use Rattle.receiver_phases.specs.Phase.{accepts}
-use Rattle.receiver_steps.specs.Request.{to, progress, passesAny, closeOf, takeOf, transferOf}
+use Rattle.receiver_steps.specs.Request.{to, progress, passesCapacity, closeOf, takeOf, transferOf}
 use Rattle.receiver_phases.specs.declared.phase.Progress.{Progress}
 use Rattle.receiver_phases.specs.declared.phase.Phase.the-variants.{Idle, Transfer, Await}
 use Rattle.receiver_steps.specs.declared.request.Store.the-variants.{At}
@@ -41,7 +41,7 @@ module _ (p : Progress) (number size capacity readiness : ℕ) where
       answers-24-short s = rw (eq-eqb number (p .accepted .blocks) due, ne-eqb size 0 some, s)
 
       module _ (whole : p .short ≡ false) where
-        passing : passesAny number size capacity ≡ true → then ≡ to Idle PassesCapacity
+        passing : passesCapacity number size capacity ≡ true → then ≡ to Idle PassesCapacity
         unfolding transferOf pick
         passing t = rw (eq-eqb number (p .accepted .blocks) due, ne-eqb size 0 some, whole, t)
 

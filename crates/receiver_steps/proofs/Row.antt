@@ -10,7 +10,7 @@ use Rattle.wire.specs.declared.request.Request.{Request}
 use Rattle.wire.specs.declared.request.Request.the-variants as Req
 use Rattle.receiver_phases.specs.Answer.{numberOf}
 use Rattle.receiver_phases.specs.Phase.{accepts}
-use Rattle.receiver_steps.specs.Request.{to, progress, offerOf, againOf, initiateOf, passesAny, closeOf, takeOf, transferOf, dataOf, judgeOf, validateOf, abortOf, decideOf}
+use Rattle.receiver_steps.specs.Request.{to, progress, offerOf, againOf, initiateOf, passesCapacity, closeOf, takeOf, transferOf, dataOf, judgeOf, validateOf, abortOf, decideOf}
 use Rattle.receiver_phases.specs.declared.phase.Accepted.{Accepted}
 use Rattle.receiver_phases.specs.declared.phase.Progress.{Progress}
 use Rattle.receiver_phases.specs.declared.phase.Phase.{Phase}
@@ -100,7 +100,7 @@ module _ (capacity : ℕ) (verdict : Verdict) where
   abort-row (Await a) q = search
   abort-row (Good a) q = search
 
-  take-row : (p : Progress) (number size readiness : ℕ) → number ≡ p .accepted .blocks → p .short ≡ false → 0 < size → passesAny number size capacity ≡ false
+  take-row : (p : Progress) (number size readiness : ℕ) → number ≡ p .accepted .blocks → p .short ≡ false → 0 < size → passesCapacity number size capacity ≡ false
       → Row (Transfer p) (Req.Data number size) capacity verdict (takeOf number size readiness)
   unfolding takeOf
   take-row p number size readiness due whole some passed =
@@ -132,7 +132,7 @@ module _ (capacity : ℕ) (verdict : Verdict) where
       (λ b. let none = eqb-true size 0 b in rw none (close-row p number due))
       (λ b. let some = eqb-false size 0 b in
       pick-all P (p .short) _ _ (λ _. search)
-      (λ whole. pick-all P (passesAny number size capacity) _ _ (λ _. search)
+      (λ whole. pick-all P (passesCapacity number size capacity) _ _ (λ _. search)
       (λ passed. take-row p number size readiness due whole (omega arith) passed))))
       (λ _. search)
 

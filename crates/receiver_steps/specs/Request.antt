@@ -45,8 +45,8 @@ abbrev pub lastNumber : ℕ
 lastNumber = 4095
 
 -- 23. A block that no image has passes every capacity.
-unfoldable pub passesAny : ℕ → ℕ → ℕ → Bool
-passesAny number size capacity = pick (ltb lastNumber number) true (passesOf number size capacity)
+unfoldable pub passesCapacity : ℕ → ℕ → ℕ → Bool
+passesCapacity number size capacity = pick (ltb lastNumber number) true (passesOf number size capacity)
 
 -- The empty block: 24 with none accepted, else phase Await and the closing answer.
 unfoldable pub closeOf : Accepted → Step
@@ -66,7 +66,7 @@ transferOf p number size capacity readiness =
     pick (eqb number (p .accepted .blocks))
     (pick (eqb size 0) (closeOf (p .accepted))
     (pick (p .short) (to Idle WrongFile)
-    (pick (passesAny number size capacity) (to Idle PassesCapacity)
+    (pick (passesCapacity number size capacity) (to Idle PassesCapacity)
     (takeOf number size readiness))))
     (to (Transfer p) (NotDue (p .accepted .blocks)))
 

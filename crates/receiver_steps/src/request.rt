@@ -7,7 +7,7 @@ use receiver_phases::phase::Progress;
 use wire::request::Request;
 ghost use mathlib.Core.Path.{_≡_};
 ghost use Prim.Native.Nat.{_+_, _*_, _≤_, _<_};
-ghost use Rattle.receiver_steps.specs.Request.{lastNumber, to, offerOf, againOf, initiateOf, passesAny, closeOf, takeOf, transferOf, dataOf, judgeOf, validateOf, abortOf, decideOf};
+ghost use Rattle.receiver_steps.specs.Request.{lastNumber, to, offerOf, againOf, initiateOf, passesCapacity, closeOf, takeOf, transferOf, dataOf, judgeOf, validateOf, abortOf, decideOf};
 
 // The bytes of a whole block; a shorter one is short.
 const BLOCK: usize = 256;
@@ -114,7 +114,7 @@ fn transfer(p: Progress, number: u16, size: usize, capacity: u32, readiness: u8)
     if p.short {
         return to(Phase::Idle, Answer::WrongFile);
     }
-    if passes_any(number, size, capacity) {
+    if passes_capacity(number, size, capacity) {
         return to(Phase::Idle, Answer::PassesCapacity);
     }
     take(number, size, readiness)
@@ -131,8 +131,8 @@ fn close(accepted: Accepted) -> Step
 }
 
 // A block that no image has passes every capacity, also one that no session has.
-fn passes_any(number: u16, size: usize, capacity: u32) -> bool
-    ensures { λ r. ⌜ r ≡ passesAny number size capacity ⌝ }
+fn passes_capacity(number: u16, size: usize, capacity: u32) -> bool
+    ensures { λ r. ⌜ r ≡ passesCapacity number size capacity ⌝ }
 {
     if LAST_NUMBER < number {
         return true;

@@ -1,55 +1,79 @@
-// Reads a script of messages, and prints behind each line what is read in it and written back (001 chapter 5).
+// Reads a script of messages and sessions, and prints behind each line what came of it (001 chapter 5; 01, The receiver's phases).
+mod bench;
+mod call;
 mod hex;
+mod memory;
 mod message;
+mod number;
+mod outcome;
+mod phase;
 mod requests;
 mod responses;
 mod say;
 mod script;
+mod session;
 mod sweep;
+mod verdict;
 mod written;
 
+use bench::BUFFER;
+use bench::Bench;
+use bench::IMAGE;
+use bench::UNWRITTEN;
 use script::Varied;
 use script::Word;
 ghost use Prim.Native.Nat.{_≤_};
 ghost use lib.ListN.{length};
 
 fn main() {
-    let mut buffer = io::large_buffer();
-    let n = io::read_full(libc::STDIN_FILENO, &mut buffer);
-    lines(&buffer[..n]);
+    let mut text = io::large_buffer();
+    let n = io::read_full(libc::STDIN_FILENO, &mut text);
+    let mut image = [UNWRITTEN; IMAGE];
+    let mut buffer = [UNWRITTEN; BUFFER];
+    over(&text[..n], &mut image, &mut buffer);
 }
 
-fn lines(s: &[u8])
+// Here the two arrays become slices: their lengths are known from their types, and no proof counts a million bytes.
+fn over(s: &[u8], image: &mut [u8; IMAGE], buffer: &mut [u8; BUFFER])
     requires { ⌜ length (now s) ≤ 65536 ⌝ }
 {
+    lines(s, image, buffer);
+}
+
+fn lines(s: &[u8], image: &mut [u8], buffer: &mut [u8])
+    requires { ⌜ length (now s) ≤ 65536 ⌝ }
+{
+    let mut bench = Bench::empty();
     let mut at = 0;
     while at < s.len() {
         let end = bytes::scan::find(s, at, s.len(), b'\n');
-        line(&s[at..end]);
+        bench = line(&s[at..end], bench, image, buffer);
         at = end + 1;
     }
 }
 
 // A heading stands for itself; every other line has its answer behind it.
-fn line(s: &[u8]) {
+fn line(s: &[u8], bench: Bench, image: &mut [u8], buffer: &mut [u8]) -> Bench {
     say::text(s);
-    if !script::is_heading(s) {
-        say::text(b" :");
-        if !answer(s) {
-            say::text(b" not understood");
-        }
+    if script::is_heading(s) {
+        say::text(b"\n");
+        return bench;
     }
+    say::text(b" :");
+    let after = answer(s, bench, image, buffer);
     say::text(b"\n");
+    after
 }
 
-// Whether the line is understood: of one that is not, nothing is printed here.
-fn answer(line: &[u8]) -> bool {
+// The bench as the line leaves it; only a session's line changes it.
+fn answer(line: &[u8], bench: Bench, image: &mut [u8], buffer: &mut [u8]) -> Bench {
     let end = bytes::scan::find(line, 0, line.len(), b' ');
     let word = script::word_of(&line[0..end]);
     let rest = &line[end..];
     match word {
-        Word::Message { asking } => message::answer(Varied::Nothing, asking, rest),
-        Word::Sweep(varied) => message::directed(varied, rest),
-        Word::Other => false,
+        Word::Message { asking } => bench.heard(message::answer(Varied::Nothing, asking, rest)),
+        Word::Sweep(varied) => bench.heard(message::directed(varied, rest)),
+        Word::Session(act) => session::run(act, rest, bench, image, buffer),
+        Word::Other => bench.heard(false),
     }
 }

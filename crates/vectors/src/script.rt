@@ -1,6 +1,7 @@
 // Lines of the script, and the words in them. One space stands before each word but a line's first.
 use crate::hex;
 use crate::hex::Byte;
+use crate::number;
 ghost use mathlib.Core.Path.{_≡_};
 ghost use Prim.Native.Nat.{_≤_};
 ghost use lib.ListN.{length};
@@ -10,6 +11,7 @@ ghost use Rattle.io.specs.Counts.{Counts};
 pub(crate) enum Word {
     Message { asking: bool },
     Sweep(Varied),
+    Session(Act),
     Other,
 }
 
@@ -18,6 +20,22 @@ pub(crate) enum Varied {
     Nothing,
     Byte(usize),
     Length,
+}
+
+// What a line does with a session of the receiver, or with the memories that are lent to it.
+pub(crate) enum Act {
+    Start,
+    Call(Call),
+    Lend,
+    Image,
+    Buffer,
+}
+
+pub(crate) enum Call {
+    Ask,
+    Blocks,
+    Time,
+    Sum,
 }
 
 pub(crate) fn word_of(s: &[u8]) -> Word {
@@ -40,6 +58,40 @@ fn sweep_of(s: &[u8]) -> Word {
     }
     if check::same(s, b"lengths") {
         return Word::Sweep(Varied::Length);
+    }
+    call_of(s)
+}
+
+// The receiver's calls (01, The receiver's phases).
+fn call_of(s: &[u8]) -> Word {
+    if check::same(s, b"start") {
+        return Word::Session(Act::Start);
+    }
+    if check::same(s, b"ask") {
+        return Word::Session(Act::Call(Call::Ask));
+    }
+    if check::same(s, b"blocks") {
+        return Word::Session(Act::Call(Call::Blocks));
+    }
+    if check::same(s, b"time") {
+        return Word::Session(Act::Call(Call::Time));
+    }
+    if check::same(s, b"sum") {
+        return Word::Session(Act::Call(Call::Sum));
+    }
+    memory_of(s)
+}
+
+// The memory that is lent to the receiver.
+fn memory_of(s: &[u8]) -> Word {
+    if check::same(s, b"lend") {
+        return Word::Session(Act::Lend);
+    }
+    if check::same(s, b"image") {
+        return Word::Session(Act::Image);
+    }
+    if check::same(s, b"buffer") {
+        return Word::Session(Act::Buffer);
     }
     Word::Other
 }
@@ -105,39 +157,18 @@ fn run_of(w: &[u8]) -> Run {
 }
 
 fn times_of(byte: u8, digits: &[u8]) -> Run {
-    let count = decimal(digits);
-    match count {
-        Count::Of(times) => Run::Of { byte, times },
-        Count::Other => Run::Other,
+    let times = number::decimal(digits, 9999);
+    if !times.known {
+        return Run::Other;
     }
-}
-
-enum Count {
-    Of(usize),
-    Other,
-}
-
-// A number of up to four digits.
-fn decimal(s: &[u8]) -> Count {
-    if s.len() == 0 {
-        return Count::Other;
+    Run::Of {
+        byte,
+        times: times.value,
     }
-    let mut n: usize = 0;
-    for i in 0..s.len() {
-        let d = hex::digit(s[i]);
-        if d > 9 {
-            return Count::Other;
-        }
-        if n > 999 {
-            return Count::Other;
-        }
-        n = 10 * n + d as usize;
-    }
-    Count::Of(n)
 }
 
 // What does not fit is left out. Answers where the bytes end.
-fn fill(out: &mut [u8], from: usize, byte: u8, times: usize) -> usize
+pub(crate) fn fill(out: &mut [u8], from: usize, byte: u8, times: usize) -> usize
     requires { ⌜ from ≤ length (now out) ⌝ }
     ensures { λ r. ⌜ r ≤ length (now (out .exit)) ⌝ }
 {

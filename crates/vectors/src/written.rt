@@ -10,10 +10,14 @@ pub(crate) fn print(message: Message) {
     let mut buffer = [0xEEu8; 22];
     let n = put(message, &mut buffer);
     say::text(b" :");
-    if n == 0 {
+    shown(&buffer[..n]);
+}
+
+pub(crate) fn shown(s: &[u8]) {
+    if s.len() == 0 {
         say::text(b" -");
     }
-    hex::print_all(&buffer[..n]);
+    hex::print_all(s);
 }
 
 fn put(message: Message, out: &mut [u8]) -> usize

@@ -1,0 +1,126 @@
+// The receiver's calls, on the memories as they are lent: a request, whole blocks in a row, time, the sum.
+use crate::number::Field;
+use crate::script;
+use crate::script::Call;
+use crate::verdict;
+use crate::verdict::Given;
+use crate::verdict::Judged;
+use receiver::Outcome;
+use receiver::Receiver;
+use receiver::Summed;
+use receiver_steps::range::Verdict;
+use wire::codes;
+ghost use Prim.Native.Nat.{_≤_};
+
+pub(crate) enum Called {
+    Ended(Outcome),
+    Summed(Summed),
+    NotUnderstood,
+}
+
+pub(crate) fn run(
+    call: Call,
+    words: &[u8],
+    receiver: Receiver,
+    image: &mut [u8],
+    buffer: &mut [u8],
+) -> Called {
+    match call {
+        Call::Ask => ask(words, receiver, image, buffer),
+        Call::Blocks => blocks(words, receiver, image, buffer),
+        Call::Time => time(words, receiver, buffer),
+        Call::Sum => sum(words, receiver, image),
+    }
+}
+
+// The readiness wait, the verdict, and then the request's bytes.
+fn ask(words: &[u8], receiver: Receiver, image: &mut [u8], buffer: &mut [u8]) -> Called {
+    let readiness = Field::none().next(words, 255);
+    let at = readiness.end;
+    if !readiness.known {
+        return Called::NotUnderstood;
+    }
+    if at == words.len() {
+        return Called::NotUnderstood;
+    }
+    let start = at + 1;
+    let end = bytes::scan::find(words, start, words.len(), b' ');
+    let judged = verdict::verdict_of(&words[start..end]);
+    let Judged::Of(verdict) = judged else {
+        return Called::NotUnderstood;
+    };
+    let given = Given {
+        readiness: readiness.value as u8,
+        verdict,
+    };
+    spelled(&words[end..], given, receiver, image, buffer)
+}
+
+fn spelled(
+    words: &[u8],
+    given: Given,
+    receiver: Receiver,
+    image: &mut [u8],
+    buffer: &mut [u8],
+) -> Called {
+    let mut space = [0u8; 320];
+    let spelled = script::spell(words, &mut space);
+    let n = spelled.len;
+    if !spelled.known {
+        return Called::NotUnderstood;
+    }
+    let verdict = given.verdict;
+    let outcome = receiver.request(image, &space[..n], given.readiness, verdict, buffer);
+    Called::Ended(outcome)
+}
+
+// The next whole blocks, as many as the line says. Only the last one's answer is printed.
+fn blocks(words: &[u8], receiver: Receiver, image: &mut [u8], buffer: &mut [u8]) -> Called {
+    let count = Field::none().next(words, 9999);
+    if !count.ends(words) {
+        return Called::NotUnderstood;
+    }
+    if count.value == 0 {
+        return Called::NotUnderstood;
+    }
+    Called::Ended(row(receiver, count.value, image, buffer))
+}
+
+fn row(receiver: Receiver, count: usize, image: &mut [u8], buffer: &mut [u8]) -> Outcome
+    requires { ⌜ count ≤ 9999 ⌝ }
+{
+    let mut outcome = block(receiver, image, buffer);
+    for _ in 1..count {
+        let state = outcome.state;
+        outcome = block(state, image, buffer);
+    }
+    outcome
+}
+
+// The block that is due, each of its bytes the low byte of its number, so that it shows where a block lies.
+fn block(receiver: Receiver, image: &mut [u8], buffer: &mut [u8]) -> Outcome {
+    let phase = receiver.phase;
+    let number = phase.accepted().blocks;
+    let low = (number % 256) as u8;
+    let mut request = [low; 260];
+    request[0] = codes::VERSION;
+    request[1] = codes::DATA;
+    request[2] = low;
+    request[3] = (number / 256) as u8;
+    receiver.request(image, &request, 0, Verdict::Good, buffer)
+}
+
+fn time(words: &[u8], receiver: Receiver, buffer: &mut [u8]) -> Called {
+    let elapsed = Field::none().next(words, 65535);
+    if !elapsed.ends(words) {
+        return Called::NotUnderstood;
+    }
+    Called::Ended(receiver.time(elapsed.value as u16, buffer))
+}
+
+fn sum(words: &[u8], receiver: Receiver, image: &[u8]) -> Called {
+    if words.len() != 0 {
+        return Called::NotUnderstood;
+    }
+    Called::Summed(receiver.sum(image))
+}

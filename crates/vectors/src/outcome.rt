@@ -1,0 +1,47 @@
+// What a call of the receiver left: its number, the bytes written, the phase, and then silence and resends made.
+use crate::bench;
+use crate::phase;
+use crate::say;
+use crate::written;
+use receiver::Outcome;
+use receiver::Receiver;
+use receiver::Started;
+use receiver::Summed;
+
+pub(crate) fn print(outcome: Outcome, buffer: &[u8]) {
+    let answer = outcome.answer;
+    let state = outcome.state;
+    let n = bench::part(outcome.written, buffer);
+    say::number(answer.number() as u64);
+    say::text(b" :");
+    written::shown(&buffer[..n]);
+    print_state(state);
+}
+
+pub(crate) fn print_start(started: Started) {
+    say::number(started.number() as u64);
+    match started {
+        Started::Made(state) => print_state(state),
+        Started::Refused => {}
+    }
+}
+
+fn print_state(state: Receiver) {
+    let phase = state.phase;
+    say::text(b" :");
+    phase::print(phase);
+    say::text(b" :");
+    say::number(state.silence as u64);
+    say::number(state.resends as u64);
+}
+
+pub(crate) fn print_sum(summed: Summed) {
+    say::number(summed.number() as u64);
+    match summed {
+        Summed::Sum(sum) => {
+            say::text(b" :");
+            say::number(sum as u64);
+        }
+        Summed::ImageLength => {}
+    }
+}

@@ -1,0 +1,27 @@
+// Where a receiver stands, with the blocks and bytes that it has accepted (01, The receiver's phases).
+use crate::say;
+use receiver_phases::phase::Accepted;
+use receiver_phases::phase::Phase;
+use receiver_phases::phase::Progress;
+
+pub(crate) fn print(phase: Phase) {
+    match phase {
+        Phase::Idle => say::text(b" Idle"),
+        Phase::Transfer(progress) => transfer(progress),
+        Phase::Await(accepted) => counted(b" Await", accepted),
+        Phase::Good(accepted) => counted(b" Good", accepted),
+    }
+}
+
+fn transfer(progress: Progress) {
+    counted(b" Transfer", progress.accepted);
+    if progress.short {
+        say::text(b" short");
+    }
+}
+
+fn counted(name: &[u8], accepted: Accepted) {
+    say::text(name);
+    say::number(accepted.blocks as u64);
+    say::number(accepted.bytes as u64);
+}

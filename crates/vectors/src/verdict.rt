@@ -1,0 +1,41 @@
+// The readiness wait and the verdict that come with a request (01, The receiver's phases).
+use crate::number;
+use receiver_steps::range::Verdict;
+
+pub(crate) struct Given {
+    pub readiness: u8,
+    pub verdict: Verdict,
+}
+
+pub(crate) enum Judged {
+    Of(Verdict),
+    Other,
+}
+
+// `good`, `bad`, or `later-N`.
+pub(crate) fn verdict_of(w: &[u8]) -> Judged {
+    if check::same(w, b"good") {
+        return Judged::Of(Verdict::Good);
+    }
+    if check::same(w, b"bad") {
+        return Judged::Of(Verdict::Bad);
+    }
+    let end = bytes::scan::find(w, 0, w.len(), b'-');
+    if end == w.len() {
+        return Judged::Other;
+    }
+    if !check::same(&w[0..end], b"later") {
+        return Judged::Other;
+    }
+    let start = end + 1;
+    later_of(&w[start..])
+}
+
+// 0 and 255 are spelled too, for 26 (01, Numbers we answer).
+fn later_of(digits: &[u8]) -> Judged {
+    let wait = number::decimal(digits, 255);
+    if !wait.known {
+        return Judged::Other;
+    }
+    Judged::Of(Verdict::Later(wait.value as u8))
+}
