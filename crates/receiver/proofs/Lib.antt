@@ -1,10 +1,10 @@
+pub mod Answers
 pub mod Holds
 pub mod Walk
 pub mod Laws
 pub mod Entering
 pub mod Stored
 pub mod Written
-pub mod Orders
 pub mod TimeLaws
 pub mod SessionLaws
 pub mod Held

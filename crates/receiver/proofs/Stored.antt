@@ -7,7 +7,7 @@ use mathlib.Core.List.{List, _++_}
 use native.Mathlib.Omega.{arith}
 use lib.Dec.{ltb}
 use lib.ListN.{length, take, drop}
-use Rattle.lent.proofs.Laws.{put-fits, pasted-before, pasted-there, pasted-behind}
+use Rattle.lent.proofs.Laws.{put-fits, put-length, pasted-before, pasted-there, pasted-behind}
 use Rattle.wire.specs.Request as message
 use Rattle.wire.proofs.Sizes.{request-sized}
 use Rattle.wire.specs.declared.request.Request.{Request}
@@ -87,6 +87,11 @@ module _ (image request : List ℕ) (capacity : ℕ) (room : length image ≡ ca
   store-image (Await a) q then (At number) e h = absurd h
   store-image (Good a) q then (At number) e h = absurd h
 
+store-length : (image request : List ℕ) (s : Store) → length (imageOf s image request) ≡ length image
+unfolding imageOf
+store-length image request Nowhere = refl
+store-length image request (At number) = put-length image (256 * number) (drop 4 request)
+
 module _ (r : Receiver) (image request : List ℕ) (readiness : ℕ) (verdict : Verdict) (out : List ℕ) where
   -- The image changes only when a non-empty block with the due number that fits is taken, and then only in that block's place.
   pub image-changes : (after r image request readiness verdict out .image ≡ image)
@@ -98,3 +103,10 @@ module _ (r : Receiver) (image request : List ℕ) (readiness : ℕ) (verdict : 
       (λ q room _ e.
       let s = decideOf (r .phase) q (r .capacity) readiness verdict in
       store-image image request (r .capacity) room (r .phase) q (s .phase) (s .store) e (decide-row (r .phase) q (r .capacity) readiness verdict .puts))
+
+  -- The image is neither longer nor shorter afterwards.
+  pub image-length : length (after r image request readiness verdict out .image) ≡ length image
+  image-length =
+      request-walk r image request readiness verdict out (λ x. length (x .image) ≡ length image)
+      refl refl refl refl
+      (λ q _ _ _. store-length image request (decideOf (r .phase) q (r .capacity) readiness verdict .store))

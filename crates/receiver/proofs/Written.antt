@@ -3,19 +3,22 @@ use Prim.Native.Nat.{ℕ, _≤_}
 use mathlib.Core.Path.{_≡_, refl, sym, _∙_}
 use mathlib.Core.List.{List, []}
 use native.Mathlib.Omega.{arith}
-use lib.ListN.{length, drop}
+use lib.ListN.{length, drop, length-append, length-drop}
 use lib.Seq.{drop-append-seam}
 use Rattle.lent.specs.Led.{led}
 use Rattle.writing.proofs.Laws.{response-fits}
 use Rattle.wire.proofs.RequestBytes.{inner}
+use Rattle.wire.specs.Codes.{longest}
 use Rattle.wire.specs.Request as message
 use Rattle.wire.specs.declared.request.Request.{Request}
 use Rattle.wire.specs.declared.request.Request.the-variants as Req
 use Rattle.wire.specs.declared.request.Parsed.the-variants.{Valid}
 use Rattle.receiver_phases.specs.Answer.{replyOf}
+use Rattle.receiver_phases.specs.declared.answer.Answer.{Answer}
 use Rattle.receiver_phases.specs.declared.answer.Reply.{Reply}
 use Rattle.receiver_phases.specs.declared.answer.Reply.the-variants.{Nothing, Sends}
 use Rattle.receiver_steps.specs.Request.{decideOf, abortOf}
+use Rattle.receiver_time.specs.Time.{passOf}
 use Rattle.receiver_phases.specs.declared.phase.Phase.{Phase}
 use Rattle.receiver_phases.specs.declared.phase.Phase.the-variants.{Idle, Transfer, Await, Good}
 use Rattle.receiver_steps.specs.declared.range.Verdict.{Verdict}
@@ -30,6 +33,11 @@ reply-fits : (reply : Reply) → length (replyBytes reply) ≤ 22
 unfolding replyBytes
 reply-fits Nothing = omega arith
 reply-fits (Sends response) = response-fits response
+
+led-length : (r : Receiver) (answer : Answer) (out : List ℕ) → longest ≤ length out → length (led (bytesOf r answer) out) ≡ length out
+led-length r answer out room =
+    let fits = reply-fits (replyOf (r .identity) (r .capacity) answer) in
+    simp (length-append, length-drop) (omega arith)
 
 -- The buffer begins with the answer's one response, or with none; behind it all is as it was.
 pub record Leads (r : Receiver) (out : List ℕ) (outcome : Outcome) (out′ : List ℕ) : Type 0 where
@@ -57,6 +65,18 @@ module _ (r : Receiver) (image request : List ℕ) (readiness : ℕ) (verdict : 
       (record { first = refl; written = refl })
       (record { first = refl; written = refl })
       (λ _ _ _ _. record { first = refl; written = refl })
+
+  -- The buffer is neither longer nor shorter afterwards.
+  pub request-length : length (requestOf r image request readiness verdict out .out) ≡ length out
+  request-length =
+      request-walk r image request readiness verdict out (λ x. length (x .out) ≡ length out)
+      refl refl refl refl
+      (λ q _ room _. led-length r (decideOf (r .phase) q (r .capacity) readiness verdict .answer) out room)
+
+pub time-length : (r : Receiver) (elapsed : ℕ) (out : List ℕ) → length (timeOf r elapsed out .memory) ≡ length out
+time-length r elapsed out =
+    time-walk r elapsed out (λ x. length (x .memory) ≡ length out) refl
+    (λ room. led-length r (passOf (r .phase) (r .silence) elapsed (r .resends) (r .settings) .answer) out room)
 
 pub time-leads : (r : Receiver) (elapsed : ℕ) (out : List ℕ) → Leads r out (timeOf r elapsed out .answer) (timeOf r elapsed out .memory)
 unfolding replyBytes replyOf

@@ -61,6 +61,7 @@ impl Receiver {
         self.hear(image, request, valid, readiness, verdict, out)
     }
 
+    // A well-formed request, also one that is refused with 21 to 25, sets silence and resends to zero.
     fn hear(
         self,
         image: &mut [u8],

@@ -29,11 +29,11 @@ module _ (silence elapsed made : ℕ) (settings : Settings) where
     -- Silence grows.
     pub transfer-quiet : (p : Progress) → then (Transfer p) ≡ after (Transfer p) (silence + elapsed) made Passed
     unfolding passOf
-    transfer-quiet p = wait-quiet (Transfer p) (Asking 0 (p .accepted .blocks))
+    transfer-quiet p = wait-quiet (Transfer p) _
 
     pub await-quiet : (a : Accepted) → then (Await a) ≡ after (Await a) (silence + elapsed) made Passed
     unfolding passOf
-    await-quiet a = wait-quiet (Await a) (Closed (a .blocks))
+    await-quiet a = wait-quiet (Await a) _
 
   module _ (limit : settings .limit ≤ silence + elapsed) (left : made < settings .resends) where
     wait-again : (phase : Phase) (again : Answer) → waitOf phase again silence elapsed made settings ≡ after phase 0 (made + 1) again
@@ -58,11 +58,11 @@ module _ (silence elapsed made : ℕ) (settings : Settings) where
     -- With none left: Idle.
     pub transfer-ends : (p : Progress) → then (Transfer p) ≡ after Idle 0 made Passed
     unfolding passOf
-    transfer-ends p = wait-ends (Transfer p) (Asking 0 (p .accepted .blocks))
+    transfer-ends p = wait-ends (Transfer p) _
 
     pub await-ends : (a : Accepted) → then (Await a) ≡ after Idle 0 made Passed
     unfolding passOf
-    await-ends a = wait-ends (Await a) (Closed (a .blocks))
+    await-ends a = wait-ends (Await a) _
 
   -- In Idle and Good nothing changes.
   pub idle-still : then Idle ≡ after Idle silence made Passed

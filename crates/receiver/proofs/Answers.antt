@@ -11,33 +11,33 @@ use Rattle.wire.specs.declared.request.Request.{Request}
 use Rattle.wire.specs.declared.request.Parsed.the-variants as Par
 use Rattle.receiver_phases.specs.declared.answer.Answer.the-variants.{Malformed, OutOfRange, BufferShort, ImageLength}
 use Rattle.receiver_steps.specs.Range.{outOfRange}
+use Rattle.receiver_steps.specs.Request.{decideOf}
 use Rattle.receiver_steps.specs.declared.range.Verdict.{Verdict}
-use Rattle.receiver.specs.Request.{kept, readOf, requestOf}
+use Rattle.receiver.specs.Request.{kept, doneOf, readOf, requestOf}
 use Rattle.receiver.specs.declared.session.Receiver.{Receiver}
-use Rattle.receiver.proofs.Walk.{heard}
-use Rattle.receiver.proofs.Laws.{after}
 
 module _ (r : Receiver) (image request : List ℕ) (readiness : ℕ) (verdict : Verdict) (out : List ℕ) where
-  pub answers-28 : (length image ≡ r .capacity → ⊥) → after r image request readiness verdict out ≡ kept r ImageLength image out
+  pub answers-28 : (length image ≡ r .capacity → ⊥) → requestOf r image request readiness verdict out ≡ kept r ImageLength image out
   unfolding requestOf pick
   answers-28 h = rw (ne-eqb (length image) (r .capacity) h)
 
   module _ (lent : length image ≡ r .capacity) where
-    pub answers-27 : length out < 260 → after r image request readiness verdict out ≡ kept r BufferShort image out
+    pub answers-27 : length out < 260 → requestOf r image request readiness verdict out ≡ kept r BufferShort image out
     unfolding requestOf pick
     answers-27 h = rw (eq-eqb (length image) (r .capacity) lent, lt-ltb (length out) 260 h)
 
     module _ (room : 260 ≤ length out) where
-      pub answers-26 : outOfRange readiness verdict ≡ true → after r image request readiness verdict out ≡ kept r OutOfRange image out
+      pub answers-26 : outOfRange readiness verdict ≡ true → requestOf r image request readiness verdict out ≡ kept r OutOfRange image out
       unfolding requestOf pick
       answers-26 h = rw (eq-eqb (length image) (r .capacity) lent, le-ltb (length out) 260 room, h)
 
       pub answers-20 : outOfRange readiness verdict ≡ false → message.requestOf request ≡ Par.Malformed
-          → after r image request readiness verdict out ≡ kept r Malformed image out
+          → requestOf r image request readiness verdict out ≡ kept r Malformed image out
       unfolding requestOf readOf pick
       answers-20 h e = rw (eq-eqb (length image) (r .capacity) lent, le-ltb (length out) 260 room, h, e)
 
       pub answers-step : (q : Request) → outOfRange readiness verdict ≡ false → message.requestOf request ≡ Par.Valid q
-          → after r image request readiness verdict out ≡ heard r image request readiness verdict out q
+          → requestOf r image request readiness verdict out
+          ≡ doneOf r (decideOf (r .phase) q (r .capacity) readiness verdict) image request out
       unfolding requestOf readOf pick
       answers-step q h e = rw (eq-eqb (length image) (r .capacity) lent, le-ltb (length out) 260 room, h, e)
