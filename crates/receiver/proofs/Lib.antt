@@ -4,6 +4,7 @@ pub mod Walk
 pub mod Laws
 pub mod Entering
 pub mod Stored
+pub mod Repeated
 pub mod Written
 pub mod TimeLaws
 pub mod SessionLaws
