@@ -4,7 +4,8 @@ ghost use mathlib.Core.Path.{_≡_};
 ghost use Rattle.basis.specs.Left.{left};
 ghost use Rattle.image.specs.Blocks.{blocksOf, placeOf, passesOf, putBlockOf, blockAt};
 
-const BLOCK: usize = 256;
+// The bytes of a block (001 T5-8); a file's last may have fewer.
+pub const BLOCK: usize = 256;
 
 pub fn blocks_in(len: usize) -> usize
     ensures { λ r. ⌜ r ≡ blocksOf len ⌝ }

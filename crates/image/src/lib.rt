@@ -2,6 +2,7 @@
 mod blocks;
 mod sum;
 
+pub use blocks::BLOCK;
 pub use blocks::block_at;
 pub use blocks::blocks_in;
 pub use blocks::passes;

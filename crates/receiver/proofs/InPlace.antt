@@ -15,7 +15,7 @@ use Rattle.receiver.specs.Sum.{sumOf}
 use Rattle.receiver.specs.History.{inOrder, Reached}
 use Rattle.receiver.specs.declared.session.Receiver.{Receiver}
 use Rattle.receiver.specs.declared.sum.Summed.the-variants.{Sum}
-use Rattle.receiver.proofs.SessionLaws.{sum-0}
+use Rattle.receiver.proofs.Answers.{sum-0}
 use Rattle.receiver.proofs.Held.{Sizes, shortOf, Counts, Held, whole-bytes}
 use Rattle.receiver.proofs.Reached.{reached-holds, reached-capacity}
 

@@ -16,7 +16,7 @@ use Rattle.receiver_steps.specs.declared.range.Verdict.{Verdict}
 use Rattle.receiver_steps.specs.declared.request.Store.{Store}
 use Rattle.receiver_steps.specs.declared.request.Store.the-variants.{Nowhere}
 use Rattle.receiver_steps.specs.declared.request.Step.{Step}
-use Rattle.receiver.specs.Request.{Effect, kept, imageOf, requestOf}
+use Rattle.receiver.specs.Request.{Effect, imageOf, requestOf}
 use Rattle.receiver.specs.declared.session.Receiver.{Receiver}
 use Rattle.receiver.proofs.Walk.{request-walk}
 
@@ -45,11 +45,11 @@ module _ (r : Receiver) (image request : List ℕ) (readiness : ℕ) (verdict : 
   row q = decide-row (r .phase) q (r .capacity) readiness verdict
 
   -- Answers 20, 26, 27 and 28 keep the state, the image and the buffer whole.
-  pub refused-keeps : keepsAll number ≡ true → after ≡ kept r (after .outcome .answer) image out
+  pub refused-keeps : keepsAll number ≡ true → (next ≡ r) × (after .image ≡ image) × (after .out ≡ out) × (after .outcome .written ≡ 0)
   refused-keeps =
       request-walk r image request readiness verdict out
-      (λ e. keepsAll (numberOf (e .outcome .answer)) ≡ true → e ≡ kept r (e .outcome .answer) image out)
-      (λ _. refl) (λ _. refl) (λ _. refl) (λ _. refl)
+      (λ e. keepsAll (numberOf (e .outcome .answer)) ≡ true → (e .outcome .state ≡ r) × (e .image ≡ image) × (e .out ≡ out) × (e .outcome .written ≡ 0))
+      (λ _. (refl, refl, refl, refl)) (λ _. (refl, refl, refl, refl)) (λ _. (refl, refl, refl, refl)) (λ _. (refl, refl, refl, refl))
       (λ q _ _ _ h. absurd (true≢false (sym h ∙ row q .heard)))
 
   -- 21 and 22 keep the phase and the image.

@@ -16,7 +16,7 @@ use Rattle.receiver_phases.specs.declared.phase.Phase.the-variants.{Idle, Trans
 use Rattle.receiver_steps.specs.declared.range.Verdict.{Verdict}
 use Rattle.receiver.specs.Request.{requestOf}
 use Rattle.receiver.specs.Time.{timeOf}
-use Rattle.receiver.specs.History.{carried, accepts, forgets, takenBy, takenAfter, Reached, starts, asks, passes}
+use Rattle.receiver.specs.History.{carried, acceptsBlock, forgets, takenBy, takenAfter, Reached, starts, asks, passes}
 use Rattle.receiver.specs.declared.session.Receiver.{Receiver}
 use Rattle.receiver.proofs.Walk.{request-walk}
 use Rattle.receiver.proofs.Laws.{settings-stay}
@@ -35,7 +35,7 @@ refused-carries (Par.Valid Req.Validate) number h = refl
 refused-carries (Par.Valid Req.Abort) number h = refl
 refused-carries (Par.Valid Req.NotBuilt) number h = refl
 
-refused-accepts : (before : Phase) (m : Parsed) (number : ℕ) → eqb number 0 ≡ false → accepts before m number ≡ false
+refused-accepts : (before : Phase) (m : Parsed) (number : ℕ) → eqb number 0 ≡ false → acceptsBlock before m number ≡ false
 refused-accepts Idle m number h = refl
 refused-accepts (Transfer p) m number h = refused-carries m number h
 refused-accepts (Await a) m number h = refl

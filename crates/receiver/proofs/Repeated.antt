@@ -1,4 +1,4 @@
--- The harbour's case: a block that was taken and comes again, because its receipt was lost, is 22 and stored nowhere.
+-- A block that was taken and comes again, because its receipt was lost, is 22 and stored nowhere.
 use Prim.Native.Nat.{ℕ, _+_, _≤_}
 use mathlib.Core.Bool.{Bool, false}
 use mathlib.Core.Path.{_≡_, _∙_, ap}
@@ -11,7 +11,7 @@ use Rattle.receiver_phases.specs.declared.answer.Answer.the-variants.{NotDue}
 use Rattle.receiver_phases.specs.declared.phase.Phase.{Phase}
 use Rattle.receiver_phases.specs.declared.phase.Phase.the-variants.{Transfer}
 use Rattle.receiver_steps.specs.Range.{outOfRange}
-use Rattle.receiver_steps.specs.Request.{to, progress, dataOf, decideOf}
+use Rattle.receiver_steps.specs.Request.{to, progress, decideOf}
 use Rattle.receiver_steps.proofs.Orders.{answers-22}
 use Rattle.receiver_steps.specs.declared.range.Verdict.{Verdict}
 use Rattle.receiver.specs.Request.{doneOf, requestOf}
@@ -22,9 +22,8 @@ use Rattle.receiver.proofs.Stored.{Stored}
 module _ (number size capacity readiness : ℕ) (verdict : Verdict) where
   counted-22 : (phase : Phase) (bytes : ℕ) (short : Bool) → phase ≡ Transfer (progress (accepts (number + 1) bytes) short)
       → decideOf phase (Req.Data number size) capacity readiness verdict ≡ to phase (NotDue (number + 1))
-  unfolding decideOf dataOf
   counted-22 phase bytes short e =
-      rw e (answers-22 (progress (accepts (number + 1) bytes) short) number size capacity readiness (λ n. omega arith))
+      rw e (answers-22 (progress (accepts (number + 1) bytes) short) number size capacity readiness verdict (λ n. omega arith))
 
 -- r is the session that taking the block led to, and image the image that it left.
 module _ (before : Phase) (request image₀ image : List ℕ) (r : Receiver) (taken : Stored before (r .capacity) request image₀ image (r .phase)) where

@@ -1,26 +1,20 @@
--- How a session starts, in the paper's own numbers (01, Sizes and numbers), and what its sum refuses.
+-- How a session starts, in the paper's own numbers (01, Sizes and numbers).
 use Prim.Native.Nat.{ℕ, _<_, _≤_}
 use mathlib.Core.Path.{_≡_, refl}
-use mathlib.Core.List.{List}
 use native.Mathlib.Omega.{arith}
-use borrow.Author.Tests.{le-ltb, ltb-false, eq-eqb, ne-eqb}
+use borrow.Author.Tests.{le-ltb, ltb-false}
 use lib.Dec.{ltb}
-use lib.ListN.{length, take}
 use Rattle.basis.specs.Pick.{pick, pick-all}
-use Rattle.image.specs.Sum as sums
 use Rattle.silence.specs.Settings as silent
 use Rattle.silence.proofs.Laws.{Within, within-made, outside-29}
 use Rattle.silence.specs.declared.Checked.{Checked}
 use Rattle.silence.specs.declared.Checked.the-variants as Che
 use Rattle.wire.specs.declared.response.Identity.{Identity}
-use Rattle.receiver_phases.specs.Phase.{acceptedOf}
 use Rattle.receiver_phases.specs.declared.phase.Phase.the-variants.{Idle}
 use Rattle.receiver.specs.Session.{capacityMost, freshOf, startOf, numberOf}
-use Rattle.receiver.specs.Sum.{sumOf}
 use Rattle.receiver.specs.declared.session.Receiver.{Receiver}
 use Rattle.receiver.specs.declared.session.Started.{Started}
 use Rattle.receiver.specs.declared.session.Started.the-variants.{Made, Refused}
-use Rattle.receiver.specs.declared.sum.Summed.the-variants.{Sum, ImageLength}
 
 abbrev pub fresh : ℕ → ℕ → Identity → ℕ → Receiver
 fresh limit resends identity capacity = record {
@@ -58,12 +52,3 @@ module _ (limit resends : ℕ) (identity : Identity) (capacity : ℕ) where
   start-29-settings h =
       pick-all (λ (x : Started). numberOf x ≡ 29) (ltb capacityMost capacity) _ _ (λ _. refl)
       (λ _. fresh-29 (silent.settingsOf limit resends) (outside-29 limit resends h))
-
-module _ (r : Receiver) (image : List ℕ) where
-  pub sum-28 : (length image ≡ r .capacity → ⊥) → sumOf r image ≡ ImageLength
-  unfolding sumOf pick
-  sum-28 h = rw (ne-eqb (length image) (r .capacity) h)
-
-  pub sum-0 : length image ≡ r .capacity → sumOf r image ≡ Sum (sums.sumOf (take (acceptedOf (r .phase) .bytes) image))
-  unfolding sumOf pick
-  sum-0 h = rw (eq-eqb (length image) (r .capacity) h)

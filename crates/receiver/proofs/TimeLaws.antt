@@ -11,7 +11,7 @@ use Rattle.silence.specs.declared.Settings.{Settings}
 use Rattle.receiver_phases.specs.Answer.{numberOf}
 use Rattle.receiver_phases.specs.declared.answer.Answer.the-variants.{BufferShort, Passed}
 use Rattle.receiver_time.specs.Time.{after, passOf}
-use Rattle.receiver_time.proofs.Laws.{Lasts, idle-still, good-still, pass-ticks}
+use Rattle.receiver_time.proofs.Laws.{Lasts, idle-still, good-still, pass-ticks, pass-many}
 use Rattle.receiver_phases.specs.declared.phase.Accepted.{Accepted}
 use Rattle.receiver_phases.specs.declared.phase.Phase.{Phase}
 use Rattle.receiver_phases.specs.declared.phase.Phase.the-variants.{Idle, Transfer, Await, Good}
@@ -58,7 +58,7 @@ module _ (r : Receiver) (elapsed : ℕ) (out : List ℕ) where
       (same-lasts (r .phase))
       (λ _. pass-ticks (r .phase) (r .silence) elapsed (r .resends) (r .settings) .lasts)
 
-  -- A time call that passes several limits is one expiry.
+  -- At most one resend a call.
   pub time-once : outcome .state .resends ≤ r .resends + 1
   time-once =
       time-walk r elapsed out (λ x. x .answer .state .resends ≤ r .resends + 1)
@@ -82,3 +82,8 @@ module _ (r : Receiver) (elapsed : ℕ) (out : List ℕ) where
 
   pub time-good : (a : Accepted) → r .phase ≡ Good a → outcome .state ≡ r
   time-good a e = still (good-stays (r .silence) elapsed (r .resends) (r .settings) (r .phase) a e)
+
+-- A time call that passes several limits is one expiry: it does what a call does that reaches the first exactly.
+pub time-many : (r : Receiver) (e e′ : ℕ) (out : List ℕ) → r .settings .limit ≤ r .silence + e → r .settings .limit ≤ r .silence + e′ → timeOf r e out ≡ timeOf r e′ out
+unfolding timeOf spendOf
+time-many r e e′ out h h′ = rw (pass-many (r .silence) (r .resends) e e′ (r .settings) h h′ (r .phase))

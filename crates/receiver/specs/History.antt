@@ -1,5 +1,5 @@
--- Any calls from a fresh session, the same memory lent at each, and the blocks that were accepted: told from the requests and the answers
--- alone (01, Programs that should not pass: accepted is tied to bytes in place).
+-- Any calls from a fresh session, the same memory lent at each, and the blocks that were accepted: told from the requests, the answers'
+-- numbers and which phase it is, never from the counts (01, Programs that should not pass: accepted is tied to bytes in place).
 use Prim.Native.Nat.{ℕ}
 use mathlib.Core.Bool.{Bool, false, _&&_}
 use mathlib.Core.Path.{_≡_}
@@ -39,11 +39,11 @@ carried Par.Malformed number = false
 carried (Par.Valid q) number = carries q number
 
 -- A block is accepted where such a request is answered 0 in Transfer.
-abbrev pub accepts : Phase → Parsed → ℕ → Bool
-accepts Idle message number = false
-accepts (Transfer p) message number = carried message number
-accepts (Await a) message number = false
-accepts (Good a) message number = false
+abbrev pub acceptsBlock : Phase → Parsed → ℕ → Bool
+acceptsBlock Idle message number = false
+acceptsBlock (Transfer p) message number = carried message number
+acceptsBlock (Await a) message number = false
+acceptsBlock (Good a) message number = false
 
 -- Going to Idle sets accepted to zero.
 abbrev pub forgets : Phase → List (List ℕ) → List (List ℕ)
@@ -54,7 +54,7 @@ forgets (Good a) taken = taken
 
 -- The accepted blocks, the newest first, before and after a request that holds this block.
 abbrev pub takenBy : Phase → Parsed → List ℕ → ℕ → Phase → List (List ℕ) → List (List ℕ)
-takenBy before message block number then taken = forgets then (pick (accepts before message number) (block ∷ taken) taken)
+takenBy before message block number then taken = forgets then (pick (acceptsBlock before message number) (block ∷ taken) taken)
 
 -- The accepted blocks in order, one after the other.
 abbrev pub inOrder : List (List ℕ) → List ℕ

@@ -9,9 +9,6 @@ ghost use mathlib.Core.Path.{_≡_};
 ghost use Prim.Native.Nat.{_+_, _*_, _≤_, _<_};
 ghost use Rattle.receiver_steps.specs.Request.{lastNumber, to, offerOf, againOf, initiateOf, passesCapacity, closeOf, takeOf, transferOf, dataOf, judgeOf, validateOf, abortOf, decideOf};
 
-// The bytes of a whole block; a shorter one is short.
-const BLOCK: usize = 256;
-
 // An image of 1,048,575 bytes has no block above this number (01, Sizes and numbers).
 const LAST_NUMBER: u16 = 4095;
 
@@ -153,7 +150,7 @@ fn take(number: u16, size: usize, readiness: u8) -> Step
     };
     let p = Progress {
         accepted,
-        short: size < BLOCK,
+        short: size < image::BLOCK,
     };
     Step {
         phase: Phase::Transfer(p),

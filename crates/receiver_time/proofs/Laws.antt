@@ -3,7 +3,7 @@ use Prim.Native.Nat.{ℕ, _+_, _<_, _≤_}
 use mathlib.Core.Path.{_≡_, refl}
 use native.Mathlib.Omega.{arith}
 use Rattle.silence.specs.Expiry.{grownOf}
-use Rattle.silence.proofs.Laws.{below-quiet, left-resends, none-left-ends, one-expiry}
+use Rattle.silence.proofs.Laws.{below-quiet, left-resends, none-left-ends, one-expiry, many-limits}
 use Rattle.silence.specs.declared.Settings.{Settings}
 use Rattle.silence.specs.declared.Event.{Event}
 use Rattle.silence.specs.declared.Event.the-variants.{Quiet, Resend, NoneLeft}
@@ -109,3 +109,16 @@ pass-ticks (Await a) silence elapsed made settings =
     let g = grownOf silence elapsed made settings in
     await-ticks made (g .silence) (g .resends) (one-expiry silence elapsed made settings) a (a .blocks) (g .event)
 pass-ticks (Good a) silence elapsed made settings = record { taken = refl; lasts = refl; once = omega arith }
+
+-- One call that passes several limits is one expiry: it does what a call does that reaches the first exactly.
+module _ (silence made e e′ : ℕ) (settings : Settings) (h : settings .limit ≤ silence + e) (h′ : settings .limit ≤ silence + e′) where
+  wait-many : (phase : Phase) (again : Answer) → waitOf phase again silence e made settings ≡ waitOf phase again silence e′ made settings
+  unfolding waitOf
+  wait-many phase again = rw (many-limits silence made e e′ settings h h′)
+
+  pub pass-many : (phase : Phase) → passOf phase silence e made settings ≡ passOf phase silence e′ made settings
+  unfolding passOf
+  pass-many Idle = refl
+  pass-many (Transfer p) = wait-many (Transfer p) _
+  pass-many (Await a) = wait-many (Await a) _
+  pass-many (Good a) = refl

@@ -87,3 +87,9 @@ module _ (silence elapsed made : ℕ) (settings : Settings) where
 
   pub resends-within : made ≤ settings .resends → after .resends ≤ settings .resends
   resends-within = walk (λ g. made ≤ settings .resends → g .resends ≤ settings .resends) (λ _ h. h) (λ _ t _. omega arith) (λ _ _ h. h)
+
+-- However many limits a call passes, it does what a call does that reaches the first exactly.
+pub many-limits : (silence made e e′ : ℕ) (settings : Settings) → settings .limit ≤ silence + e → settings .limit ≤ silence + e′
+    → grownOf silence e made settings ≡ grownOf silence e′ made settings
+unfolding grownOf pick
+many-limits silence made e e′ settings h h′ = rw (le-ltb (silence + e) (settings .limit) h, le-ltb (silence + e′) (settings .limit) h′)
