@@ -1,4 +1,4 @@
-// The receiver's calls that borrow memory: a session's start, one request, one time call, the image sum
+// The receiver's calls: a session's start, and what borrows memory: one request, one time call, the image sum
 // (01, The receiver's phases).
 mod request;
 mod respond;

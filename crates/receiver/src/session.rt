@@ -25,7 +25,7 @@ pub enum Started {
     Refused,
 }
 
-// What every call but the sum answers: the session as it then stands, and how many bytes of the output buffer were written.
+// What a request and a time call answer: the session as it then stands, and how many bytes of the output buffer were written.
 pub struct Outcome {
     pub state: Receiver,
     pub answer: Answer,
@@ -33,7 +33,7 @@ pub struct Outcome {
 }
 
 impl Receiver {
-    // From plain numbers, so that no session has settings that were not tested.
+    // From plain numbers, so that a session that is made here has settings that were tested.
     pub fn new(limit: u16, resends: u8, identity: Identity, capacity: usize) -> Started
         ensures { λ r. ⌜ r ≡ startOf limit resends identity capacity ⌝ }
     {
