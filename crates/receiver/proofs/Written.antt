@@ -3,16 +3,21 @@ use Prim.Native.Nat.{ℕ, _≤_}
 use mathlib.Core.Path.{_≡_, refl, sym, _∙_}
 use mathlib.Core.List.{List, []}
 use native.Mathlib.Omega.{arith}
-use lib.ListN.{length, drop, length-append, length-drop}
-use lib.Seq.{drop-append-seam}
+use lib.ListN.{length, take, drop, length-append, length-drop}
+use lib.Seq.{take-append-seam, drop-append-seam}
 use Rattle.lent.specs.Led.{led}
 use Rattle.writing.proofs.Laws.{response-fits}
 use Rattle.wire.proofs.RequestBytes.{inner}
 use Rattle.wire.specs.Codes.{longest}
 use Rattle.wire.specs.Request as message
+use Rattle.wire.specs.Response as response
+use Rattle.wire.specs.Fields.{BuiltResponse, Answerable, asRead}
+use Rattle.wire.proofs.RoundTrip.{response-back}
 use Rattle.wire.specs.declared.request.Request.{Request}
 use Rattle.wire.specs.declared.request.Request.the-variants as Req
 use Rattle.wire.specs.declared.request.Parsed.the-variants.{Valid}
+use Rattle.wire.specs.declared.response.Response.{Response}
+use Rattle.wire.specs.declared.response.Parsed.the-variants as Told
 use Rattle.receiver_phases.specs.Answer.{replyOf}
 use Rattle.receiver_phases.specs.declared.answer.Answer.{Answer}
 use Rattle.receiver_phases.specs.declared.answer.Reply.{Reply}
@@ -32,7 +37,7 @@ use Rattle.receiver.proofs.Walk.{request-walk, time-walk}
 reply-fits : (reply : Reply) → length (replyBytes reply) ≤ 22
 unfolding replyBytes
 reply-fits Nothing = omega arith
-reply-fits (Sends response) = response-fits response
+reply-fits (Sends sent) = response-fits sent
 
 led-length : (r : Receiver) (answer : Answer) (out : List ℕ) → longest ≤ length out → length (led (bytesOf r answer) out) ≡ length out
 led-length r answer out room =
@@ -51,6 +56,15 @@ module _ (r : Receiver) (out : List ℕ) (outcome : Outcome) (out′ : List ℕ)
       let fits = reply-fits (replyOf (r .identity) (r .capacity) (outcome .answer)) in
       let n = l .written in
       (omega arith, omega arith)
+
+  pub first-bytes : take (outcome .written) out′ ≡ bytesOf r (outcome .answer)
+  first-bytes = rw (l .written, l .first) (take-append-seam (bytesOf r (outcome .answer)) (drop (length (bytesOf r (outcome .answer))) out))
+
+  -- What was written is one message: a reader finds the answer's response in it.
+  pub read-back : (sent : Response) → replyOf (r .identity) (r .capacity) (outcome .answer) ≡ Sends sent → BuiltResponse sent → Answerable sent
+      → response.responseOf (take (outcome .written) out′) ≡ Told.Valid (asRead sent)
+  unfolding replyBytes
+  read-back sent e built can = rw (first-bytes, e) (response-back sent built can)
 
   pub rest-kept : drop (outcome .written) out′ ≡ drop (outcome .written) out
   rest-kept = rw (l .written, l .first) (drop-append-seam (bytesOf r (outcome .answer)) (drop (length (bytesOf r (outcome .answer))) out))
