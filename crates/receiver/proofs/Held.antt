@@ -57,8 +57,11 @@ not-short (block ∷ taken) h e =
     let least = ltb-false (length block) 256 e in
     (omega arith, h .2)
 
+pub nothing-counts : (capacity : ℕ) (image : List ℕ) (taken : List (List ℕ)) → taken ≡ [] → Counts capacity nothing image taken
+nothing-counts capacity image taken e = rw e (record { blocks = refl; bytes = refl; front = refl; sizes = tt; few = omega arith; room = omega arith })
+
 pub nothing-held : (capacity : ℕ) (image : List ℕ) (taken : List (List ℕ)) → taken ≡ [] → Held capacity image taken (Transfer (progress nothing false))
-nothing-held capacity image taken e = rw e (record { blocks = refl; bytes = refl; front = refl; sizes = tt; few = omega arith; room = omega arith }, refl)
+nothing-held capacity image taken e = (nothing-counts capacity image taken e, rw e refl)
 
 pub none-taken : (taken : List (List ℕ)) → length taken ≡ 0 → taken ≡ []
 none-taken [] h = refl

@@ -16,11 +16,11 @@ use Rattle.receiver.specs.History.{inOrder, Reached}
 use Rattle.receiver.specs.declared.session.Receiver.{Receiver}
 use Rattle.receiver.specs.declared.sum.Summed.the-variants.{Sum}
 use Rattle.receiver.proofs.Answers.{sum-0}
-use Rattle.receiver.proofs.Held.{Sizes, shortOf, Counts, Held, whole-bytes}
+use Rattle.receiver.proofs.Held.{Sizes, shortOf, Counts, Held, whole-bytes, nothing-counts}
 use Rattle.receiver.proofs.Reached.{reached-holds, reached-capacity}
 
 held-counts : (capacity : ℕ) (image : List ℕ) (taken : List (List ℕ)) (phase : Phase) → Held capacity image taken phase → Counts capacity (acceptedOf phase) image taken
-held-counts capacity image taken Idle h = rw h (record { blocks = refl; bytes = refl; front = refl; sizes = tt; few = omega arith; room = omega arith })
+held-counts capacity image taken Idle h = nothing-counts capacity image taken h
 held-counts capacity image taken (Transfer p) h = h .0
 held-counts capacity image taken (Await a) h = h .0
 held-counts capacity image taken (Good a) h = h .0
