@@ -1,0 +1,12 @@
+use borrow.Author.Needs.{needs}
+use Rattle.indoor.proofs.send.send.Statement.{statement}
+use Rattle.indoor.proofs.send.send.Tie as tie
+
+pub send-spec : {M : Type 1} → statement M
+send-spec =
+    tie.close
+    (tie.spec
+    (λ c κs. search needs)
+    (λ c κs. search needs)
+    (λ c. search needs)
+    (λ c. rw (← (c .before .before .before .before .before .sends .ensures)) (c .before .before .deliver .ensures)))

@@ -1,0 +1,19 @@
+use Rattle.writing.proofs.Laws.{sends-whole, request-fits}
+use native.Mathlib.Omega.{arith}
+use denote.Ref.{now}
+use Rattle.basis.specs.Left.{leaves}
+use Rattle.wire.specs.Written.{requestBytes}
+use Rattle.writing.specs.Message.{messageOf}
+use borrow.Author.Needs.{needs}
+use Rattle.indoor.proofs.send.whole.Statement.{statement}
+use Rattle.indoor.proofs.send.whole.Tie as tie
+
+pub whole-spec : {M : Type 1} → statement M
+unfolding messageOf
+whole-spec =
+    tie.close
+    (tie.spec
+    (λ c κs. search needs)
+    (λ c κs. search needs)
+    (λ c. search needs)
+    (λ c. let a = c .before .before .before .before .before .before .args in let fits = request-fits (a .request) in rw (leaves (c .before .before .send .ensures), c .before .before .before .before .write-request .ensures, sends-whole (requestBytes (a .request)) (now (a .out)) fits (omega arith))))

@@ -1,0 +1,19 @@
+use Rattle.indoor.specs.Response.{readOf}
+use borrow.Author.Needs.{needs}
+use Rattle.indoor.proofs.session.Indoor.read.Statement.{statement}
+use Rattle.indoor.proofs.session.Indoor.read.Tie as tie
+
+pub read-spec : {M : Type 1} → statement M
+unfolding readOf
+read-spec =
+    tie.close
+    (tie.spec
+    (λ c κs. search needs)
+    (λ c. search needs)
+    (λ c. search needs)
+    (λ c κs. search needs)
+    (λ c. rw (← (c .before .before .before .read-response .ensures), c .before .enum-told .given .1, c .refuse .ensures))
+    (λ c κs. search needs)
+    (λ c κs. search needs)
+    (λ c. search needs)
+    (λ c. rw (← (c .before .before .before .before .before .before .before .before .before .before .read-response .ensures), c .before .before .before .before .before .before .before .before .parsed .given .1, ← (c .before .before .before .before .decide .ensures)) (c .before .before .finish .ensures)))

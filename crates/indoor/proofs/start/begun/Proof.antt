@@ -1,0 +1,12 @@
+use Rattle.basis.specs.Left.{answers, leaves}
+use borrow.Author.Needs.{needs}
+use Rattle.indoor.proofs.start.begun.Statement.{statement}
+use Rattle.indoor.proofs.start.begun.Tie as tie
+
+pub begun-spec : {M : Type 1} → statement M
+begun-spec =
+    tie.close
+    (tie.spec
+    (λ c κs. search needs)
+    (λ c. search needs)
+    (λ c. rw (answers (c .before .before .whole .ensures), leaves (c .before .before .whole .ensures))))

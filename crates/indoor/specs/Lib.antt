@@ -1,0 +1,5 @@
+pub mod Send
+pub mod Session
+pub mod Start
+pub mod Response
+pub mod Time

@@ -1,0 +1,29 @@
+-- What one response does: the outcome and the output buffer, for every session, file, response and buffer.
+use Prim.Native.Nat.{ℕ}
+use mathlib.Core.List.{List}
+use lib.Dec.{ltb, eqb}
+use lib.ListN.{length}
+use Rattle.basis.specs.Pick.{pick}
+use Rattle.basis.specs.Left.{Left}
+use Rattle.wire.specs.Codes.{longest}
+use Rattle.wire.specs.Response as message
+use Rattle.wire.specs.declared.response.Parsed.{Parsed}
+use Rattle.wire.specs.declared.response.Parsed.the-variants as Par
+use Rattle.indoor_rules.specs.Response.{decideOf}
+use Rattle.indoor_rules.specs.declared.answer.Answer.the-variants.{Malformed, BufferShort, FileLength}
+use Rattle.indoor.specs.Session.{kept, doneOf}
+use Rattle.indoor.specs.declared.session.Indoor.{Indoor}
+use Rattle.indoor.specs.declared.session.Outcome.{Outcome}
+
+-- 20, and then what the response asks for
+unfoldable pub readOf : Indoor → Parsed → List ℕ → List ℕ → Left Outcome
+readOf s Par.Malformed file out = kept s Malformed out
+readOf s (Par.Valid valid) file out = doneOf (s .plan) (decideOf (s .plan) (s .stand) valid) file out
+
+-- 28, 27, 20, and then what the response asks for
+unfoldable pub responseOf : Indoor → List ℕ → List ℕ → List ℕ → Left Outcome
+responseOf s file response out =
+    pick (eqb (length file) (s .plan .length))
+    (pick (ltb (length out) longest) (kept s BufferShort out)
+    (readOf s (message.responseOf response) file out))
+    (kept s FileLength out)

@@ -1,0 +1,60 @@
+// The request that goes out with an answer, in the first bytes of the lent buffer (01, Numbers we answer).
+use indoor_rules::answer::Answer;
+use indoor_rules::answer::Sends;
+use indoor_rules::plan::Plan;
+use wire::codes;
+use wire::request::Request;
+use wire::request::Versions;
+ghost use mathlib.Core.Path.{_≡_};
+ghost use Prim.Native.Nat.{_≤_};
+ghost use lib.ListN.{length};
+ghost use Rattle.basis.specs.Left.{left};
+ghost use Rattle.wire.specs.Codes.{longest};
+ghost use Rattle.wire.specs.Written.{requestBytes};
+ghost use Rattle.indoor.specs.Send.{leads, blockBytes, sendsBytes, bytesOf};
+
+pub(crate) fn send(out: &mut [u8], file: &[u8], plan: Plan, answer: Answer) -> usize
+    requires { ⌜ longest ≤ length (now out) ⌝ }
+    ensures { λ r. ⌜ left r (now (out .exit)) ≡ leads (bytesOf plan (now (file .entry)) answer) (now (out .entry)) ⌝ }
+{
+    let sends = answer.sends();
+    let versions = plan.release.versions;
+    deliver(out, file, versions, sends)
+}
+
+fn deliver(out: &mut [u8], file: &[u8], versions: Versions, sends: Sends) -> usize
+    requires { ⌜ longest ≤ length (now out) ⌝ }
+    ensures { λ r. ⌜ left r (now (out .exit)) ≡ leads (sendsBytes versions (now (file .entry)) sends) (now (out .entry)) ⌝ }
+{
+    match sends {
+        Sends::Nothing => 0,
+        Sends::GetFwId => whole(out, Request::GetFwId),
+        Sends::Initiate => whole(out, Request::Initiate(versions)),
+        Sends::Block(number) => block(out, file, number),
+        Sends::Validate => whole(out, Request::Validate),
+        Sends::Abort => whole(out, Request::Abort),
+    }
+}
+
+// Every request but DATA.
+pub(crate) fn whole(out: &mut [u8], request: Request) -> usize
+    requires { ⌜ longest ≤ length (now out) ⌝ }
+    ensures { λ r. ⌜ left r (now (out .exit)) ≡ leads (requestBytes request) (now (out .entry)) ⌝ }
+{
+    let message = writing::write_request(request);
+    let written = message.len;
+    message.send(out);
+    written
+}
+
+// DATA: its head, and then the block as a part of the lent file.
+fn block(out: &mut [u8], file: &[u8], number: u16) -> usize
+    requires { ⌜ longest ≤ length (now out) ⌝ }
+    ensures { λ r. ⌜ left r (now (out .exit)) ≡ leads (blockBytes (now (file .entry)) number) (now (out .entry)) ⌝ }
+{
+    let part = image::block_at(file, number);
+    let size = part.len();
+    let head = whole(out, Request::Data { number, size });
+    lent::put(out, head, part);
+    head + size
+}

@@ -1,0 +1,76 @@
+// A session of the indoor end: what it was started with, and where it stands.
+use crate::send::send;
+use indoor_rules::answer::Answer;
+use indoor_rules::phase::Stand;
+use indoor_rules::plan::Plan;
+use indoor_rules::step::Step;
+ghost use mathlib.Core.Path.{_≡_};
+ghost use Prim.Native.Nat.{_≤_};
+ghost use lib.ListN.{length};
+ghost use Rattle.basis.specs.Left.{left};
+ghost use Rattle.wire.specs.Codes.{longest};
+ghost use Rattle.indoor.specs.Session.{numberOf, ends, doneOf};
+
+pub struct Indoor {
+    pub plan: Plan,
+    pub stand: Stand,
+}
+
+// `written` is how many bytes of the output buffer the first request took.
+pub enum Started {
+    Made { state: Indoor, written: usize },
+    Settings,
+    FileSize,
+    BufferShort,
+}
+
+// What a response and a time call answer: the session as it then stands, and how many bytes of the output buffer were written.
+pub struct Outcome {
+    pub state: Indoor,
+    pub answer: Answer,
+    pub written: usize,
+}
+
+impl Started {
+    // 01, Numbers we answer.
+    pub fn number(self) -> u8
+        ensures { λ r. ⌜ r ≡ numberOf self ⌝ }
+    {
+        match self {
+            Started::Made {
+                state: _,
+                written: _,
+            } => 0,
+            Started::Settings => 29,
+            Started::FileSize => 46,
+            Started::BufferShort => 27,
+        }
+    }
+}
+
+impl Indoor {
+    pub(crate) fn refuse(self, answer: Answer) -> Outcome
+        ensures { λ r. ⌜ r ≡ ends self answer 0 ⌝ }
+    {
+        Outcome {
+            state: self,
+            answer,
+            written: 0,
+        }
+    }
+}
+
+// The step that was decided, and its request in the first bytes of the buffer.
+pub(crate) fn finish(plan: Plan, step: Step, file: &[u8], out: &mut [u8]) -> Outcome
+    requires { ⌜ longest ≤ length (now out) ⌝ }
+    ensures { λ r. ⌜ left r (now (out .exit)) ≡ doneOf plan step (now (file .entry)) (now (out .entry)) ⌝ }
+{
+    let answer = step.answer;
+    let stand = step.stand;
+    let written = send(out, file, plan, answer);
+    Outcome {
+        state: Indoor { plan, stand },
+        answer,
+        written,
+    }
+}

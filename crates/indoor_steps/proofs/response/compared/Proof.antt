@@ -1,0 +1,16 @@
+use Rattle.basis.specs.Pick.{tests}
+use Rattle.indoor_rules.specs.Response.{comparedOf}
+use borrow.Author.Needs.{needs}
+use Rattle.indoor_steps.proofs.response.compared.Statement.{statement}
+use Rattle.indoor_steps.proofs.response.compared.Tie as tie
+
+pub compared-spec : {M : Type 1} → statement M
+unfolding comparedOf
+compared-spec =
+    tie.close
+    (tie.spec
+    (λ c κs. search needs)
+    (λ c κs. search needs)
+    (λ c. search (tests, c .goes .ensures, c .before .if1 .taken, ← (c .before .before .newer .ensures)))
+    (λ c κs. search needs)
+    (λ c. search (tests, c .fails .ensures, c .before .if1 .left, ← (c .before .before .newer .ensures))))

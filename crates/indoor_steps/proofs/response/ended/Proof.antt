@@ -1,0 +1,16 @@
+use Rattle.basis.specs.Pick.{tests}
+use Rattle.indoor_rules.specs.Response.{endedOf}
+use borrow.Author.Needs.{needs}
+use Rattle.indoor_steps.proofs.response.ended.Statement.{statement}
+use Rattle.indoor_steps.proofs.response.ended.Tie as tie
+
+pub ended-spec : {M : Type 1} → statement M
+unfolding endedOf
+ended-spec =
+    tie.close
+    (tie.spec
+    (λ c κs. search needs)
+    (λ c κs. search needs)
+    (λ c. search (tests, c .goes .ensures, c .before .if1 .taken, ← (c .before .before .last .ensures)))
+    (λ c κs. search needs)
+    (λ c. search (tests, c .fails .ensures, c .before .if1 .left, ← (c .before .before .last .ensures))))

@@ -1,0 +1,25 @@
+use Rattle.indoor_rules.specs.Response.{validateOf}
+use borrow.Author.Needs.{needs}
+use Rattle.indoor_steps.proofs.response.validate.Statement.{statement}
+use Rattle.indoor_steps.proofs.response.validate.Tie as tie
+
+pub validate-spec : {M : Type 1} → statement M
+unfolding validateOf
+validate-spec =
+    tie.close
+    (tie.spec
+    (λ c. search needs)
+    (λ c κs. search needs)
+    (λ c. search needs)
+    (λ c κs. search needs)
+    (λ c. search needs)
+    (λ c κs. search needs)
+    (λ c. search needs)
+    (λ c κs. search needs)
+    (λ c. search needs)
+    (λ c κs. search needs)
+    (λ c. rw (c .before .enum-told .given .1) (c .passes-over .ensures))
+    (λ c. rw (c .before .enum-told2 .given .1) (c .passes-over2 .ensures))
+    (λ c. rw (c .before .enum-told3 .given .1) (c .passes-over3 .ensures))
+    (λ c. rw (c .before .before .response .given .1) (c .validated .ensures))
+    (λ c. rw (c .before .enum-told4 .given .1) (c .passes-over4 .ensures)))

@@ -1,0 +1,298 @@
+// What the indoor end does with a well-formed response, by its phase (01, The indoor end's phases).
+use crate::compare::newer;
+use indoor_rules::answer::Answer;
+use indoor_rules::phase::Phase;
+use indoor_rules::phase::Progress;
+use indoor_rules::phase::Reason;
+use indoor_rules::phase::Stand;
+use indoor_rules::plan::Plan;
+use indoor_rules::step::Step;
+use wire::codes;
+use wire::response::Identity;
+use wire::response::Response;
+use wire::status::Status;
+ghost use mathlib.Core.Path.{_≡_};
+ghost use Rattle.indoor_rules.specs.Response.{passesOver, sends, okOf, comparedOf, identifiedOf, readyOf, offeredOf, initiatedOf, endedOf, closedOf, askedOf, numberedOf, receiptOf, judgedOf, verdictOf, validatedOf, identifyOf, initiateOf, transferOf, validateOf, decidedOf, decideOf};
+
+// A WaitTime counts so many milliseconds in an INITIATE response (001 T5-20).
+const INITIATE_UNIT: u16 = 10;
+
+pub fn decide(plan: Plan, stand: Stand, response: Response) -> Step
+    ensures { λ r. ⌜ r ≡ decideOf plan stand response ⌝ }
+{
+    let phase = stand.phase;
+    decided(plan, stand, phase, response)
+}
+
+fn decided(plan: Plan, stand: Stand, phase: Phase, response: Response) -> Step
+    ensures { λ r. ⌜ r ≡ decidedOf plan stand phase response ⌝ }
+{
+    match phase {
+        Phase::Identify => identify(plan, stand, response),
+        Phase::Initiate { wait: _ } => initiate(plan, stand, response),
+        Phase::Transfer(p) => transfer(plan, stand, p, response),
+        Phase::Validate { wait: _ } => validate(stand, response),
+        Phase::Done => passes_over(stand),
+        Phase::Failed(_) => passes_over(stand),
+    }
+}
+
+fn passes_over(stand: Stand) -> Step
+    ensures { λ r. ⌜ r ≡ passesOver stand ⌝ }
+{
+    Step {
+        stand,
+        answer: Answer::Unexpected,
+    }
+}
+
+// Every status but OK is 41 (001 T5-29).
+fn ok(status: u8) -> bool
+    ensures { λ r. ⌜ r ≡ okOf status ⌝ }
+{
+    let ok = Status::Ok.code();
+    status == ok
+}
+
+fn identify(plan: Plan, stand: Stand, response: Response) -> Step
+    ensures { λ r. ⌜ r ≡ identifyOf plan stand response ⌝ }
+{
+    match response {
+        Response::GetFwId { status, identity } => identified(plan, status, identity),
+        Response::Initiate {
+            status: _,
+            wait: _,
+            size: _,
+        } => passes_over(stand),
+        Response::Data {
+            status: _,
+            wait: _,
+            number: _,
+        } => passes_over(stand),
+        Response::Validate {
+            status: _,
+            wait: _,
+            success: _,
+        } => passes_over(stand),
+        Response::NotBuilt => passes_over(stand),
+    }
+}
+
+fn identified(plan: Plan, status: u8, reported: Identity) -> Step
+    ensures { λ r. ⌜ r ≡ identifiedOf plan status reported ⌝ }
+{
+    if ok(status) {
+        return compared(plan, reported);
+    }
+    Step::fails(Reason::Refused)
+}
+
+fn compared(plan: Plan, reported: Identity) -> Step
+    ensures { λ r. ⌜ r ≡ comparedOf plan reported ⌝ }
+{
+    let release = plan.release;
+    if newer(release, reported) {
+        return Step::goes(Phase::Initiate { wait: 0 }, Answer::Initiating);
+    }
+    Step::fails(Reason::NotNewer)
+}
+
+fn initiate(plan: Plan, stand: Stand, response: Response) -> Step
+    ensures { λ r. ⌜ r ≡ initiateOf plan stand response ⌝ }
+{
+    match response {
+        Response::GetFwId {
+            status: _,
+            identity: _,
+        } => passes_over(stand),
+        Response::Initiate { status, wait, size } => initiated(plan, status, wait, size),
+        Response::Data {
+            status: _,
+            wait: _,
+            number: _,
+        } => passes_over(stand),
+        Response::Validate {
+            status: _,
+            wait: _,
+            success: _,
+        } => passes_over(stand),
+        Response::NotBuilt => passes_over(stand),
+    }
+}
+
+fn initiated(plan: Plan, status: u8, wait: u8, size: u32) -> Step
+    ensures { λ r. ⌜ r ≡ initiatedOf plan status wait size ⌝ }
+{
+    if ok(status) {
+        return offered(plan, wait, size);
+    }
+    Step::fails(Reason::Refused)
+}
+
+fn offered(plan: Plan, wait: u8, size: u32) -> Step
+    ensures { λ r. ⌜ r ≡ offeredOf plan wait size ⌝ }
+{
+    if wait == codes::UNABLE {
+        return Step::fails(Reason::Refused);
+    }
+    if wait == 0 {
+        return ready(plan, size);
+    }
+    let ms = INITIATE_UNIT * (wait as u16);
+    Step::goes(Phase::Initiate { wait: ms }, Answer::Waiting)
+}
+
+fn ready(plan: Plan, size: u32) -> Step
+    ensures { λ r. ⌜ r ≡ readyOf plan size ⌝ }
+{
+    if size < plan.length {
+        return Step::fails(Reason::TooLarge);
+    }
+    sends(plan, 0, false)
+}
+
+fn sends(plan: Plan, number: u16, emptied: bool) -> Step
+    ensures { λ r. ⌜ r ≡ sends plan number emptied ⌝ }
+{
+    let phase = plan.sent(number, emptied);
+    Step::goes(phase, Answer::Sending { number })
+}
+
+fn transfer(plan: Plan, stand: Stand, p: Progress, response: Response) -> Step
+    ensures { λ r. ⌜ r ≡ transferOf plan stand p response ⌝ }
+{
+    match response {
+        Response::GetFwId {
+            status: _,
+            identity: _,
+        } => passes_over(stand),
+        Response::Initiate {
+            status: _,
+            wait: _,
+            size: _,
+        } => passes_over(stand),
+        Response::Data {
+            status,
+            wait,
+            number,
+        } => receipt(plan, p.emptied, status, wait, number),
+        Response::Validate {
+            status: _,
+            wait: _,
+            success: _,
+        } => passes_over(stand),
+        Response::NotBuilt => passes_over(stand),
+    }
+}
+
+fn receipt(plan: Plan, emptied: bool, status: u8, wait: u8, number: u16) -> Step
+    ensures { λ r. ⌜ r ≡ receiptOf plan emptied status wait number ⌝ }
+{
+    if ok(status) {
+        return numbered(plan, emptied, wait, number);
+    }
+    Step::fails(Reason::Refused)
+}
+
+fn numbered(plan: Plan, emptied: bool, wait: u8, number: u16) -> Step
+    ensures { λ r. ⌜ r ≡ numberedOf plan emptied wait number ⌝ }
+{
+    if wait == codes::UNABLE {
+        return closed(plan, emptied, number);
+    }
+    block_asked(plan, emptied, wait, number)
+}
+
+fn closed(plan: Plan, emptied: bool, number: u16) -> Step
+    ensures { λ r. ⌜ r ≡ closedOf plan emptied number ⌝ }
+{
+    if emptied {
+        return ended(plan, number);
+    }
+    Step::fails(Reason::WrongNumber)
+}
+
+fn ended(plan: Plan, number: u16) -> Step
+    ensures { λ r. ⌜ r ≡ endedOf plan number ⌝ }
+{
+    let last = plan.last();
+    if number as usize == last {
+        return Step::goes(Phase::Validate { wait: 0 }, Answer::Validating);
+    }
+    Step::fails(Reason::WrongNumber)
+}
+
+fn block_asked(plan: Plan, emptied: bool, wait: u8, number: u16) -> Step
+    ensures { λ r. ⌜ r ≡ askedOf plan emptied wait number ⌝ }
+{
+    let last = plan.last();
+    if last < number as usize {
+        return Step::fails(Reason::WrongNumber);
+    }
+    if wait == 0 {
+        return sends(plan, number, emptied);
+    }
+    let p = Progress {
+        asked: number,
+        wait: wait as u16,
+        emptied,
+    };
+    Step::goes(Phase::Transfer(p), Answer::Waiting)
+}
+
+fn validate(stand: Stand, response: Response) -> Step
+    ensures { λ r. ⌜ r ≡ validateOf stand response ⌝ }
+{
+    match response {
+        Response::GetFwId {
+            status: _,
+            identity: _,
+        } => passes_over(stand),
+        Response::Initiate {
+            status: _,
+            wait: _,
+            size: _,
+        } => passes_over(stand),
+        Response::Data {
+            status: _,
+            wait: _,
+            number: _,
+        } => passes_over(stand),
+        Response::Validate {
+            status,
+            wait,
+            success,
+        } => validated(status, wait, success),
+        Response::NotBuilt => passes_over(stand),
+    }
+}
+
+fn validated(status: u8, wait: u8, success: bool) -> Step
+    ensures { λ r. ⌜ r ≡ validatedOf status wait success ⌝ }
+{
+    if ok(status) {
+        return verdict(wait, success);
+    }
+    Step::fails(Reason::Refused)
+}
+
+fn verdict(wait: u8, success: bool) -> Step
+    ensures { λ r. ⌜ r ≡ verdictOf wait success ⌝ }
+{
+    if wait == codes::UNABLE {
+        return Step::fails(Reason::Refused);
+    }
+    if wait == 0 {
+        return judged(success);
+    }
+    Step::goes(Phase::Validate { wait: wait as u16 }, Answer::Waiting)
+}
+
+fn judged(success: bool) -> Step
+    ensures { λ r. ⌜ r ≡ judgedOf success ⌝ }
+{
+    if success {
+        return Step::goes(Phase::Done, Answer::Finished);
+    }
+    Step::fails(Reason::NotValid)
+}

@@ -1,0 +1,18 @@
+use Rattle.basis.specs.Pick.{tests}
+use Rattle.indoor_rules.specs.Time.{initiatePassOf}
+use borrow.Author.Needs.{needs}
+use Rattle.indoor_time.proofs.initiate.Statement.{statement}
+use Rattle.indoor_time.proofs.initiate.Tie as tie
+
+pub initiate-spec : {M : Type 1} → statement M
+unfolding initiatePassOf
+initiate-spec =
+    tie.close
+    (tie.spec
+    (λ c κs. search needs)
+    (λ c. search tests)
+    (λ c. search needs)
+    (λ c κs. search needs)
+    (λ c. search tests)
+    (λ c κs. search needs)
+    (λ c. search tests))

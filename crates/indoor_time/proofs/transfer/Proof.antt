@@ -1,0 +1,19 @@
+use Rattle.basis.specs.Pick.{tests}
+use Rattle.indoor_rules.specs.Time.{transferPassOf}
+use borrow.Author.Needs.{needs}
+use Rattle.indoor_time.proofs.transfer.Statement.{statement}
+use Rattle.indoor_time.proofs.transfer.Tie as tie
+
+pub transfer-spec : {M : Type 1} → statement M
+unfolding transferPassOf
+transfer-spec =
+    tie.close
+    (tie.spec
+    (λ c κs. search needs)
+    (λ c. search (tests, c .expires .ensures, c .before .if1 .taken))
+    (λ c. search needs)
+    (λ c κs. search needs)
+    (λ c. search (tests, c .at .ensures, c .before .before .if2 .taken, c .before .before .before .before .if1 .left))
+    (λ c κs. search needs)
+    (λ c κs. search needs)
+    (λ c. search (tests, c .at2 .ensures, ← (c .before .sent .ensures), c .before .before .if2 .left, c .before .before .before .before .if1 .left)))

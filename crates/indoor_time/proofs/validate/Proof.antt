@@ -1,0 +1,18 @@
+use Rattle.basis.specs.Pick.{tests}
+use Rattle.indoor_rules.specs.Time.{validatePassOf}
+use borrow.Author.Needs.{needs}
+use Rattle.indoor_time.proofs.validate.Statement.{statement}
+use Rattle.indoor_time.proofs.validate.Tie as tie
+
+pub validate-spec : {M : Type 1} → statement M
+unfolding validatePassOf
+validate-spec =
+    tie.close
+    (tie.spec
+    (λ c κs. search needs)
+    (λ c. search tests)
+    (λ c. search needs)
+    (λ c κs. search needs)
+    (λ c. search tests)
+    (λ c κs. search needs)
+    (λ c. search tests))

@@ -1,0 +1,154 @@
+// What the indoor end decides when time passes. Nothing here touches memory (01, The indoor end's phases).
+use indoor_rules::answer::Answer;
+use indoor_rules::phase::Phase;
+use indoor_rules::phase::Progress;
+use indoor_rules::phase::Reason;
+use indoor_rules::phase::Stand;
+use indoor_rules::plan::Plan;
+use indoor_rules::step::Step;
+use silence::Event;
+use silence::Grown;
+ghost use mathlib.Core.Path.{_≡_};
+ghost use Rattle.indoor_rules.specs.Phase.{stands};
+ghost use Rattle.indoor_rules.specs.declared.answer.Answer.the-variants.{Passed};
+ghost use Rattle.indoor_rules.specs.Step.{step};
+ghost use Rattle.indoor_rules.specs.Time.{grows, resentOf, expiredOf, resendsOf, expiresOf, initiatePassOf, transferPassOf, validatePassOf, passedOf, passOf};
+
+pub fn pass(plan: Plan, stand: Stand, elapsed: u16) -> Step
+    ensures { λ r. ⌜ r ≡ passOf plan stand elapsed ⌝ }
+{
+    let phase = stand.phase;
+    passed(plan, stand, phase, elapsed)
+}
+
+fn passed(plan: Plan, stand: Stand, phase: Phase, elapsed: u16) -> Step
+    ensures { λ r. ⌜ r ≡ passedOf plan stand phase elapsed ⌝ }
+{
+    match phase {
+        Phase::Identify => resends(plan, stand, Answer::Identifying, elapsed),
+        Phase::Initiate { wait } => initiate(plan, stand, wait, elapsed),
+        Phase::Transfer(p) => transfer(plan, stand, p, elapsed),
+        Phase::Validate { wait } => validate(plan, stand, wait, elapsed),
+        Phase::Done => still(stand),
+        Phase::Failed(_) => still(stand),
+    }
+}
+
+fn still(stand: Stand) -> Step
+    ensures { λ r. ⌜ r ≡ step stand Passed ⌝ }
+{
+    Step {
+        stand,
+        answer: Answer::Passed,
+    }
+}
+
+fn at(phase: Phase, silence: u16, resends: u8, answer: Answer) -> Step
+    ensures { λ r. ⌜ r ≡ step (stands phase silence resends) answer ⌝ }
+{
+    Step {
+        stand: Stand {
+            phase,
+            silence,
+            resends,
+        },
+        answer,
+    }
+}
+
+fn grows(plan: Plan, stand: Stand, elapsed: u16) -> Grown
+    ensures { λ r. ⌜ r ≡ grows plan stand elapsed ⌝ }
+{
+    let settings = plan.settings;
+    silence::grow(stand.silence, elapsed, stand.resends, settings)
+}
+
+fn resends(plan: Plan, stand: Stand, again: Answer, elapsed: u16) -> Step
+    ensures { λ r. ⌜ r ≡ resendsOf plan stand again elapsed ⌝ }
+{
+    let phase = stand.phase;
+    let grown = grows(plan, stand, elapsed);
+    let event = grown.event;
+    resent(phase, again, grown, event)
+}
+
+fn resent(phase: Phase, again: Answer, grown: Grown, event: Event) -> Step
+    ensures { λ r. ⌜ r ≡ resentOf phase again grown event ⌝ }
+{
+    match event {
+        Event::Quiet => at(phase, grown.silence, grown.resends, Answer::Passed),
+        Event::Resend => at(phase, grown.silence, grown.resends, again),
+        Event::NoneLeft => Step::fails(Reason::Silence),
+    }
+}
+
+fn expires(plan: Plan, stand: Stand, elapsed: u16) -> Step
+    ensures { λ r. ⌜ r ≡ expiresOf plan stand elapsed ⌝ }
+{
+    let phase = stand.phase;
+    let grown = grows(plan, stand, elapsed);
+    let event = grown.event;
+    expired(phase, grown, event)
+}
+
+// Nothing is resent in Transfer: its first expiry is its end.
+fn expired(phase: Phase, grown: Grown, event: Event) -> Step
+    ensures { λ r. ⌜ r ≡ expiredOf phase grown event ⌝ }
+{
+    match event {
+        Event::Quiet => at(phase, grown.silence, grown.resends, Answer::Passed),
+        Event::Resend => Step::fails(Reason::Silence),
+        Event::NoneLeft => Step::fails(Reason::Silence),
+    }
+}
+
+fn initiate(plan: Plan, stand: Stand, wait: u16, elapsed: u16) -> Step
+    ensures { λ r. ⌜ r ≡ initiatePassOf plan stand wait elapsed ⌝ }
+{
+    if wait == 0 {
+        return resends(plan, stand, Answer::Initiating, elapsed);
+    }
+    if elapsed < wait {
+        let left = Phase::Initiate {
+            wait: wait - elapsed,
+        };
+        return at(left, stand.silence, stand.resends, Answer::Passed);
+    }
+    let over = Phase::Initiate { wait: 0 };
+    at(over, 0, stand.resends, Answer::Initiating)
+}
+
+fn transfer(plan: Plan, stand: Stand, p: Progress, elapsed: u16) -> Step
+    ensures { λ r. ⌜ r ≡ transferPassOf plan stand p elapsed ⌝ }
+{
+    let number = p.asked;
+    if p.wait == 0 {
+        return expires(plan, stand, elapsed);
+    }
+    if elapsed < p.wait {
+        let left = Phase::Transfer(Progress {
+            asked: number,
+            wait: p.wait - elapsed,
+            emptied: p.emptied,
+        });
+        return at(left, stand.silence, stand.resends, Answer::Passed);
+    }
+    let over = plan.sent(number, p.emptied);
+    at(over, 0, stand.resends, Answer::Sending { number })
+}
+
+fn validate(plan: Plan, stand: Stand, wait: u16, elapsed: u16) -> Step
+    ensures { λ r. ⌜ r ≡ validatePassOf plan stand wait elapsed ⌝ }
+{
+    if wait == 0 {
+        return resends(plan, stand, Answer::Validating, elapsed);
+    }
+    if elapsed < wait {
+        let left = Phase::Validate {
+            wait: wait - elapsed,
+        };
+        return at(left, stand.silence, stand.resends, Answer::Passed);
+    }
+    let over = Phase::Validate { wait: 0 };
+    at(over, 0, stand.resends, Answer::Validating)
+}
