@@ -1,5 +1,5 @@
 -- A DATA request in a buffer that has room for any message: its head of four bytes, and then the block behind it.
-use Prim.Native.Nat.{ℕ, _+_, _≤_}
+use Prim.Native.Nat.{ℕ, _≤_}
 use mathlib.Core.Path.{_≡_, refl}
 use mathlib.Core.List.{List}
 use native.Mathlib.Omega.{arith}

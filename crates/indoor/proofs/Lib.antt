@@ -1,1 +1,11 @@
+pub mod Answers
+pub mod Beginning
 pub mod Block
+pub mod Walk
+pub mod Laws
+pub mod Entering
+pub mod Written
+pub mod Genuine
+pub mod Holds
+pub mod Reached
+pub mod Unique

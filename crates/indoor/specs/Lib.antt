@@ -3,3 +3,4 @@ pub mod Session
 pub mod Start
 pub mod Response
 pub mod Time
+pub mod History

@@ -2,7 +2,6 @@
 use indoor_rules::answer::Answer;
 use indoor_rules::answer::Sends;
 use indoor_rules::plan::Plan;
-use wire::codes;
 use wire::request::Request;
 use wire::request::Versions;
 ghost use mathlib.Core.Path.{_≡_};

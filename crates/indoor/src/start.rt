@@ -15,7 +15,6 @@ ghost use Prim.Native.Nat.{_≤_};
 ghost use lib.ListN.{length};
 ghost use Rattle.basis.specs.Left.{left};
 ghost use Rattle.wire.specs.Codes.{longest};
-ghost use Rattle.silence.specs.Settings.{settingsOf};
 ghost use Rattle.indoor.specs.Start.{begunOf, beginOf, startOf};
 
 // The 20 bits of MaxImageSize (001 T5-20; 01, Sizes and numbers).

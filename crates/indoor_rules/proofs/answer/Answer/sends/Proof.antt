@@ -1,4 +1,3 @@
-use Rattle.indoor_rules.specs.Answer.{sendsOf}
 use borrow.Author.Needs.{needs}
 use Rattle.indoor_rules.proofs.answer.Answer.sends.Statement.{statement}
 use Rattle.indoor_rules.proofs.answer.Answer.sends.Tie as tie

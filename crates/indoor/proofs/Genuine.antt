@@ -1,0 +1,95 @@
+-- A reader finds in the bytes that go out with an answer just the request that was meant.
+use Prim.Native.Nat.{ℕ, _≤_, _<_}
+use mathlib.Core.Path.{_≡_, refl}
+use mathlib.Core.List.{List, [], append-nil}
+use native.Mathlib.Omega.{arith}
+use lib.ListN.{length, drop}
+use Rattle.image.specs.Blocks.{blocksOf, blockAt}
+use Rattle.image.proofs.Laws.{least}
+use Rattle.wire.specs.Request as message
+use Rattle.wire.specs.Written.{requestBytes, headBytes}
+use Rattle.wire.specs.Fields.{Words, BuiltRequest, Sendable}
+use Rattle.wire.specs.declared.request.Versions.{Versions}
+use Rattle.wire.specs.declared.request.Request.{Request}
+use Rattle.wire.specs.declared.request.Request.the-variants as Req
+use Rattle.wire.specs.declared.request.Parsed.{Parsed}
+use Rattle.wire.specs.declared.request.Parsed.the-variants as Par
+use Rattle.wire.proofs.RoundTrip.{request-back}
+use Rattle.indoor_rules.specs.Answer.{sendsOf}
+use Rattle.indoor_rules.specs.declared.plan.Plan.{Plan}
+use Rattle.indoor_rules.specs.declared.phase.Reason.the-variants as Why
+use Rattle.indoor_rules.specs.declared.answer.Answer.{Answer}
+use Rattle.indoor_rules.specs.declared.answer.Answer.the-variants as Ans
+use Rattle.indoor_rules.specs.declared.answer.Sends.{Sends}
+use Rattle.indoor_rules.specs.declared.answer.Sends.the-variants.{Nothing, GetFwId, Initiate, Block, Validate, Abort}
+use Rattle.indoor_rules.proofs.Row.{Within}
+use Rattle.indoor.specs.Send.{blockBytes, sendsBytes, bytesOf}
+use Rattle.indoor.specs.History.{Genuine}
+use Rattle.indoor.proofs.Block.{block-most}
+
+module _ (versions : Versions) (file : List ℕ) where
+  read-as : (m : List ℕ) (p : Parsed) → message.requestOf m ≡ p → Genuine versions file m p → Genuine versions file m (message.requestOf m)
+  read-as m p e h = rw e h
+
+  block-read : (number : ℕ) → number < 65536 → message.requestOf (blockBytes file number) ≡ Par.Valid (Req.Data number (length (blockAt file number)))
+  unfolding blockBytes
+  block-read number low = request-back (Req.Data number (length (blockAt file number))) (blockAt file number) tt (low, refl, block-most file number)
+
+  block-carried : (number : ℕ) → drop 4 (blockBytes file number) ≡ blockAt file number
+  unfolding blockBytes requestBytes headBytes
+  block-carried number = refl
+
+  block-genuine : (number : ℕ) → length file ≤ 1048575 → number ≤ blocksOf (length file) → Genuine versions file (blockBytes file number) (message.requestOf (blockBytes file number))
+  block-genuine number most h =
+      let low = least (length file) 4096 (omega arith) in
+      read-as (blockBytes file number) (Par.Valid (Req.Data number (length (blockAt file number)))) (block-read number (omega arith)) (h, block-carried number)
+
+  whole-genuine : (r : Request) → BuiltRequest r → Sendable r [] → Genuine versions file (requestBytes r) (Par.Valid r)
+      → Genuine versions file (requestBytes r) (message.requestOf (requestBytes r))
+  whole-genuine r built can h = read-as (requestBytes r) (Par.Valid r) (rw (append-nil (requestBytes r)) at (request-back r [] built can)) h
+
+  -- The block that an answer sends, if any, is one of the file's.
+  abbrev Blocks : Sends → Type 0
+  Blocks Nothing = Unit
+  Blocks GetFwId = Unit
+  Blocks Initiate = Unit
+  Blocks (Block number) = number ≤ blocksOf (length file)
+  Blocks Validate = Unit
+  Blocks Abort = Unit
+
+  sends-genuine : (sends : Sends) → Words versions → length file ≤ 1048575 → Blocks sends → (length (sendsBytes versions file sends) ≡ 0 → ⊥)
+      → Genuine versions file (sendsBytes versions file sends) (message.requestOf (sendsBytes versions file sends))
+  unfolding sendsBytes
+  sends-genuine Nothing words most h some = absurd (some refl)
+  sends-genuine GetFwId words most h some = whole-genuine Req.GetFwId tt refl tt
+  sends-genuine Initiate words most h some = whole-genuine (Req.Initiate versions) tt (refl, words) refl
+  sends-genuine (Block number) words most h some = block-genuine number most h
+  sends-genuine Validate words most h some = whole-genuine Req.Validate tt refl tt
+  sends-genuine Abort words most h some = whole-genuine Req.Abort tt refl tt
+
+  blocks-within : (plan : Plan) → plan .length ≡ length file → (answer : Answer) → Within plan answer → Blocks (sendsOf answer)
+  blocks-within plan lent Ans.Identifying h = tt
+  blocks-within plan lent Ans.Initiating h = tt
+  blocks-within plan lent (Ans.Sending number) h = rw (← lent) h
+  blocks-within plan lent Ans.Validating h = tt
+  blocks-within plan lent Ans.Waiting h = tt
+  blocks-within plan lent Ans.Finished h = tt
+  blocks-within plan lent Ans.Passed h = tt
+  blocks-within plan lent Ans.Malformed h = tt
+  blocks-within plan lent Ans.Unexpected h = tt
+  blocks-within plan lent Ans.BufferShort h = tt
+  blocks-within plan lent Ans.FileLength h = tt
+  blocks-within plan lent (Ans.Failed Why.Silence) h = tt
+  blocks-within plan lent (Ans.Failed Why.Refused) h = tt
+  blocks-within plan lent (Ans.Failed Why.NotNewer) h = tt
+  blocks-within plan lent (Ans.Failed Why.TooLarge) h = tt
+  blocks-within plan lent (Ans.Failed Why.WrongNumber) h = tt
+  blocks-within plan lent (Ans.Failed Why.NotValid) h = tt
+
+-- What goes out with an answer, where anything does, is genuine.
+pub bytes-genuine : (plan : Plan) (file : List ℕ) (answer : Answer) → Words (plan .release .versions) → plan .length ≡ length file → length file ≤ 1048575
+    → Within plan answer
+    → (length (bytesOf plan file answer) ≡ 0 → ⊥)
+    → Genuine (plan .release .versions) file (bytesOf plan file answer) (message.requestOf (bytesOf plan file answer))
+bytes-genuine plan file answer words lent most within some =
+    sends-genuine (plan .release .versions) file (sendsOf answer) words most (blocks-within (plan .release .versions) file plan lent answer within) some

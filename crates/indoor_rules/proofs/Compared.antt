@@ -1,0 +1,38 @@
+-- Newer, said back: vendor and product agree and the file's FWVersion1 is greater; else not (01, The indoor end's phases).
+use Prim.Native.Nat.{_<_}
+use mathlib.Core.Bool.{Bool, true, false, true≢false}
+use mathlib.Core.Path.{_≡_, sym}
+use borrow.Author.Tests.{eq-eqb, lt-ltb, eqb-true, ltb-true}
+use lib.Dec.{eqb}
+use Rattle.basis.specs.Pick.{pick, pick-all}
+use Rattle.wire.specs.declared.response.Identity.{Identity}
+use Rattle.indoor_rules.specs.Newer.{newerOf}
+use Rattle.indoor_rules.specs.declared.plan.Release.{Release}
+
+-- Nothing else is looked at: not the other versions, the hardware, the bank or the flags.
+pub record Newer (file : Release) (reported : Identity) : Type 0 where
+  pub vendor : file .vendor ≡ reported .vendor
+  pub product : file .product ≡ reported .product
+  pub version : reported .versions .first < file .versions .first
+
+module _ (file : Release) (reported : Identity) where
+  pub newer-yes : Newer file reported → newerOf file reported ≡ true
+  unfolding newerOf pick
+  newer-yes n =
+      rw (eq-eqb (file .vendor) (reported .vendor) (n .vendor), eq-eqb (file .product) (reported .product) (n .product))
+      (lt-ltb (reported .versions .first) (file .versions .first) (n .version))
+
+  -- Equal is not newer.
+  pub newer-only : newerOf file reported ≡ true → Newer file reported
+  unfolding newerOf
+  newer-only =
+      let P : Bool → Type 0 = λ t. t ≡ true → Newer file reported in
+      pick-all P (eqb (file .vendor) (reported .vendor)) _ _
+      (λ v. pick-all P (eqb (file .product) (reported .product)) _ _
+      (λ p t. record {
+        vendor = eqb-true (file .vendor) (reported .vendor) v;
+        product = eqb-true (file .product) (reported .product) p;
+        version = ltb-true (reported .versions .first) (file .versions .first) t;
+      })
+      (λ _ e. absurd (true≢false (sym e))))
+      (λ _ e. absurd (true≢false (sym e)))

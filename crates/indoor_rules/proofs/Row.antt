@@ -1,0 +1,377 @@
+-- What every step on a response owes, by its answer, where the indoor end stood and where it stands next.
+use Prim.Native.Nat.{ℕ, _≤_}
+use mathlib.Core.Bool.{Bool, true, false, true≢false, _||_}
+use mathlib.Core.Logic.{_⊎_, inl, inr}
+use mathlib.Core.Path.{_≡_, refl, sym, ap}
+use native.Mathlib.Omega.{arith}
+use borrow.Author.Tests.{eq-eqb, eqb-true, ltb-false}
+use lib.Dec.{eqb, ltb}
+use Rattle.basis.specs.Pick.{pick, pick-all, When}
+use Rattle.wire.specs.declared.response.Identity.{Identity}
+use Rattle.wire.specs.declared.response.Response.{Response}
+use Rattle.wire.specs.declared.response.Response.the-variants as Res
+use Rattle.indoor_rules.specs.Phase.{stands}
+use Rattle.indoor_rules.specs.Answer.{numberOf}
+use Rattle.indoor_rules.specs.Step.{step, last, emptiedBy}
+use Rattle.indoor_rules.specs.Newer.{newerOf}
+use Rattle.indoor_rules.specs.Response.{sends, okOf, comparedOf, identifiedOf, readyOf, offeredOf, initiatedOf, endedOf, closedOf, askedOf, numberedOf, receiptOf, judgedOf, verdictOf, validatedOf, identifyOf, initiateOf, transferOf, validateOf, decidedOf, decideOf}
+use Rattle.indoor_rules.specs.declared.plan.Plan.{Plan}
+use Rattle.indoor_rules.specs.declared.phase.Progress.{Progress}
+use Rattle.indoor_rules.specs.declared.phase.Phase.{Phase}
+use Rattle.indoor_rules.specs.declared.phase.Phase.the-variants.{Identify, Initiate, Transfer, Validate, Done, Failed}
+use Rattle.indoor_rules.specs.declared.phase.Stand.{Stand}
+use Rattle.indoor_rules.specs.declared.answer.Answer.{Answer}
+use Rattle.indoor_rules.specs.declared.answer.Answer.the-variants as Ans
+use Rattle.indoor_rules.specs.declared.step.Step.{Step}
+
+-- A step on a response answers 0, 21 or 41 to 45.
+abbrev pub hears : ℕ → Bool
+hears n = eqb n 0 || eqb n 21 || eqb n 41 || eqb n 42 || eqb n 43 || eqb n 44 || eqb n 45
+
+-- 40 to 45: Failed with that reason, and nothing else is left.
+abbrev pub Ends : Answer → Stand → Type 0
+Ends Ans.Identifying next = Unit
+Ends Ans.Initiating next = Unit
+Ends (Ans.Sending number) next = Unit
+Ends Ans.Validating next = Unit
+Ends Ans.Waiting next = Unit
+Ends Ans.Finished next = Unit
+Ends Ans.Passed next = Unit
+Ends Ans.Malformed next = Unit
+Ends Ans.Unexpected next = Unit
+Ends Ans.BufferShort next = Unit
+Ends Ans.FileLength next = Unit
+Ends (Ans.Failed reason) next = next ≡ stands (Failed reason) 0 0
+
+-- Done and Failed stay.
+abbrev pub Stays : Phase → Stand → Step → Type 0
+Stays Identify stand s = Unit
+Stays (Initiate left) stand s = Unit
+Stays (Transfer p) stand s = Unit
+Stays (Validate left) stand s = Unit
+Stays Done stand s = s ≡ step stand Ans.Unexpected
+Stays (Failed reason) stand s = s ≡ step stand Ans.Unexpected
+
+-- Into Validate only from Transfer, by WaitTime 255 with the number n after the empty block went out.
+abbrev pub ToValidate : Plan → Phase → Response → Type 0
+ToValidate plan Identify r = ⊥
+ToValidate plan (Initiate left) r = ⊥
+ToValidate plan (Transfer p) r = (p .emptied ≡ true) × (r ≡ Res.Data 0x00 255 (last plan))
+ToValidate plan (Validate left) r = Unit
+ToValidate plan Done r = ⊥
+ToValidate plan (Failed reason) r = ⊥
+
+-- Into Done only from Validate, by a VALIDATE response with status OK, wait 0 and the success bit.
+abbrev pub ToDone : Phase → Response → Type 0
+ToDone Identify r = ⊥
+ToDone (Initiate left) r = ⊥
+ToDone (Transfer p) r = ⊥
+ToDone (Validate left) r = r ≡ Res.Validate 0x00 0 true
+ToDone Done r = Unit
+ToDone (Failed reason) r = ⊥
+
+-- Into Transfer only from Initiate, by a ready INITIATE response that has room for the file.
+abbrev pub ToTransfer : Plan → Phase → Response → Type 0
+ToTransfer plan Identify r = ⊥
+ToTransfer plan (Initiate left) (Res.GetFwId status reported) = ⊥
+ToTransfer plan (Initiate left) (Res.Initiate status wait size) = (status ≡ 0x00) × (wait ≡ 0) × (plan .length ≤ size)
+ToTransfer plan (Initiate left) (Res.Data status wait number) = ⊥
+ToTransfer plan (Initiate left) (Res.Validate status wait success) = ⊥
+ToTransfer plan (Initiate left) Res.NotBuilt = ⊥
+ToTransfer plan (Transfer p) r = Unit
+ToTransfer plan (Validate left) r = ⊥
+ToTransfer plan Done r = ⊥
+ToTransfer plan (Failed reason) r = ⊥
+
+-- Into Initiate only from Identify, by a GET_FW_ID response with status OK that reports an older version.
+abbrev pub ToInitiate : Plan → Phase → Response → Type 0
+ToInitiate plan Identify (Res.GetFwId status reported) = (status ≡ 0x00) × (newerOf (plan .release) reported ≡ true)
+ToInitiate plan Identify (Res.Initiate status wait size) = ⊥
+ToInitiate plan Identify (Res.Data status wait number) = ⊥
+ToInitiate plan Identify (Res.Validate status wait success) = ⊥
+ToInitiate plan Identify Res.NotBuilt = ⊥
+ToInitiate plan (Initiate left) r = Unit
+ToInitiate plan (Transfer p) r = ⊥
+ToInitiate plan (Validate left) r = ⊥
+ToInitiate plan Done r = ⊥
+ToInitiate plan (Failed reason) r = ⊥
+
+-- Nothing leads back to Identify.
+abbrev pub Enters : Plan → Phase → Response → Phase → Type 0
+Enters plan before r Identify = before ≡ Identify
+Enters plan before r (Initiate left) = ToInitiate plan before r
+Enters plan before r (Transfer p) = ToTransfer plan before r
+Enters plan before r (Validate left) = ToValidate plan before r
+Enters plan before r Done = ToDone before r
+Enters plan before r (Failed reason) = Unit
+
+-- In Transfer the block last asked for is one of the file's, or the empty one.
+abbrev pub Fit : Plan → Phase → Type 0
+Fit plan Identify = Unit
+Fit plan (Initiate left) = Unit
+Fit plan (Transfer p) = p .asked ≤ last plan
+Fit plan (Validate left) = Unit
+Fit plan Done = Unit
+Fit plan (Failed reason) = Unit
+
+-- A block that goes out is one of the file's, or the empty one.
+abbrev pub Within : Plan → Answer → Type 0
+Within plan Ans.Identifying = Unit
+Within plan Ans.Initiating = Unit
+Within plan (Ans.Sending number) = number ≤ last plan
+Within plan Ans.Validating = Unit
+Within plan Ans.Waiting = Unit
+Within plan Ans.Finished = Unit
+Within plan Ans.Passed = Unit
+Within plan Ans.Malformed = Unit
+Within plan Ans.Unexpected = Unit
+Within plan Ans.BufferShort = Unit
+Within plan Ans.FileLength = Unit
+Within plan (Ans.Failed reason) = Unit
+
+-- The empty block had been sent, or goes out with this answer.
+abbrev pub Emptied : Plan → Phase → Answer → Type 0
+Emptied plan (Transfer p) answer = (p .emptied ≡ true) ⊎ (answer ≡ Ans.Sending (last plan))
+Emptied plan Identify answer = answer ≡ Ans.Sending (last plan)
+Emptied plan (Initiate left) answer = answer ≡ Ans.Sending (last plan)
+Emptied plan (Validate left) answer = answer ≡ Ans.Sending (last plan)
+Emptied plan Done answer = answer ≡ Ans.Sending (last plan)
+Emptied plan (Failed reason) answer = answer ≡ Ans.Sending (last plan)
+
+abbrev pub Empties : Plan → Phase → Answer → Phase → Type 0
+Empties plan before answer Identify = Unit
+Empties plan before answer (Initiate left) = Unit
+Empties plan before answer (Transfer p) = p .emptied ≡ true → Emptied plan before answer
+Empties plan before answer (Validate left) = Unit
+Empties plan before answer Done = Unit
+Empties plan before answer (Failed reason) = Unit
+
+-- Once the empty block has been sent, it stays so until the transfer ends.
+abbrev pub Still : Phase → Phase → Type 0
+Still Identify next = Unit
+Still (Initiate left) next = Unit
+Still (Transfer p) Identify = Unit
+Still (Transfer p) (Initiate left) = Unit
+Still (Transfer p) (Transfer q) = p .emptied ≡ true → q .emptied ≡ true
+Still (Transfer p) (Validate left) = Unit
+Still (Transfer p) Done = Unit
+Still (Transfer p) (Failed reason) = Unit
+Still (Validate left) next = Unit
+Still Done next = Unit
+Still (Failed reason) next = Unit
+
+-- The call that sends the empty block remembers it.
+abbrev pub Marked : Plan → ℕ → Phase → Type 0
+Marked plan number Identify = ⊥
+Marked plan number (Initiate left) = ⊥
+Marked plan number (Transfer p) = number ≡ last plan → p .emptied ≡ true
+Marked plan number (Validate left) = ⊥
+Marked plan number Done = ⊥
+Marked plan number (Failed reason) = ⊥
+
+abbrev pub Marks : Plan → Answer → Phase → Type 0
+Marks plan Ans.Identifying next = Unit
+Marks plan Ans.Initiating next = Unit
+Marks plan (Ans.Sending number) next = Marked plan number next
+Marks plan Ans.Validating next = Unit
+Marks plan Ans.Waiting next = Unit
+Marks plan Ans.Finished next = Unit
+Marks plan Ans.Passed next = Unit
+Marks plan Ans.Malformed next = Unit
+Marks plan Ans.Unexpected next = Unit
+Marks plan Ans.BufferShort next = Unit
+Marks plan Ans.FileLength next = Unit
+Marks plan (Ans.Failed reason) next = Unit
+
+module _ (plan : Plan) (number : ℕ) (emptied : Bool) where
+  pub emptied-only : emptiedBy plan number emptied ≡ true → (emptied ≡ true) ⊎ (number ≡ last plan)
+  unfolding emptiedBy
+  emptied-only =
+      pick-all (λ (t : Bool). t ≡ true → (emptied ≡ true) ⊎ (number ≡ last plan)) emptied _ _
+      (λ e _. inl e)
+      (λ _ t. inr (eqb-true number (last plan) t))
+
+  pub emptied-stays : emptied ≡ true → emptiedBy plan number emptied ≡ true
+  unfolding emptiedBy pick
+  emptied-stays e = rw e
+
+  pub emptied-last : number ≡ last plan → emptiedBy plan number emptied ≡ true
+  unfolding emptiedBy
+  emptied-last h = pick-all (λ (t : Bool). t ≡ true) emptied _ _ (λ _. refl) (λ _. eq-eqb number (last plan) h)
+
+by-last : (plan : Plan) (number : ℕ) → (false ≡ true) ⊎ (number ≡ last plan) → Ans.Sending number ≡ Ans.Sending (last plan)
+by-last plan number (inl e) = absurd (true≢false (sym e))
+by-last plan number (inr h) = ap Ans.Sending h
+
+by-either : (plan : Plan) (number : ℕ) (emptied : Bool) → (emptied ≡ true) ⊎ (number ≡ last plan) → (emptied ≡ true) ⊎ (Ans.Sending number ≡ Ans.Sending (last plan))
+by-either plan number emptied (inl e) = inl e
+by-either plan number emptied (inr h) = inr (ap Ans.Sending h)
+
+first-empties : (plan : Plan) → emptiedBy plan 0 false ≡ true → Ans.Sending 0 ≡ Ans.Sending (last plan)
+first-empties plan e = by-last plan 0 (emptied-only plan 0 false e)
+
+pub later-empties : (plan : Plan) (number : ℕ) (emptied : Bool) → emptiedBy plan number emptied ≡ true → (emptied ≡ true) ⊎ (Ans.Sending number ≡ Ans.Sending (last plan))
+later-empties plan number emptied e = by-either plan number emptied (emptied-only plan number emptied e)
+
+pub record Row (plan : Plan) (stand : Stand) (r : Response) (s : Step) : Type 0 where
+  pub number : hears (numberOf (s .answer)) ≡ true
+  pub passes : When (eqb (numberOf (s .answer)) 21) (s .stand ≡ stand)
+  pub taken : When (eqb (numberOf (s .answer)) 0) ((s .stand .silence ≡ 0) × (s .stand .resends ≡ 0))
+  pub ends : Ends (s .answer) (s .stand)
+  pub stays : Stays (stand .phase) stand s
+  pub enters : Enters plan (stand .phase) r (s .stand .phase)
+  pub fit : Fit plan (stand .phase) → Fit plan (s .stand .phase)
+  pub within : Within plan (s .answer)
+  pub empties : Empties plan (stand .phase) (s .answer) (s .stand .phase)
+  pub still : Still (stand .phase) (s .stand .phase)
+  pub marks : Marks plan (s .answer) (s .stand .phase)
+
+module _ (plan : Plan) (silence resends : ℕ) where
+  abbrev P : Phase → Response → Step → Type 0
+  P before r s = Row plan (stands before silence resends) r s
+
+  identified-row : (status : ℕ) (reported : Identity) → P Identify (Res.GetFwId status reported) (identifiedOf plan status reported)
+  unfolding identifiedOf comparedOf okOf
+  identified-row status reported = search (pick-all (P Identify (Res.GetFwId status reported)), eqb-true) depth 8
+
+  ready-row : (left status wait size : ℕ) → status ≡ 0 → wait ≡ 0 → P (Initiate left) (Res.Initiate status wait size) (readyOf plan size)
+  unfolding readyOf
+  ready-row left status wait size ok none =
+      pick-all (P (Initiate left) (Res.Initiate status wait size)) (ltb size (plan .length)) _ _ (λ _. search)
+      (λ t. record {
+        number = refl;
+        passes = tt;
+        taken = (refl, refl);
+        ends = tt;
+        stays = tt;
+        enters = (ok, none, ltb-false size (plan .length) t);
+        fit = λ _. omega arith;
+        within = omega arith;
+        empties = first-empties plan;
+        still = tt;
+        marks = emptied-last plan 0 false;
+      })
+
+  initiated-row : (left status wait size : ℕ) → P (Initiate left) (Res.Initiate status wait size) (initiatedOf plan status wait size)
+  unfolding initiatedOf offeredOf okOf
+  initiated-row left status wait size =
+      search (pick-all (P (Initiate left) (Res.Initiate status wait size)), ready-row, eqb-true) depth 8
+
+  sends-row : (p : Progress) (r : Response) (number : ℕ) → number ≤ last plan → P (Transfer p) r (sends plan number (p .emptied))
+  sends-row p r number h = record {
+    number = refl;
+    passes = tt;
+    taken = (refl, refl);
+    ends = tt;
+    stays = tt;
+    enters = tt;
+    fit = λ _. h;
+    within = h;
+    empties = later-empties plan number (p .emptied);
+    still = emptied-stays plan number (p .emptied);
+    marks = emptied-last plan number (p .emptied);
+  }
+
+  ended-row : (p : Progress) (status wait number : ℕ) → status ≡ 0 → wait ≡ 255 → p .emptied ≡ true
+      → P (Transfer p) (Res.Data status wait number) (endedOf plan number)
+  unfolding endedOf
+  ended-row p status wait number ok unable e =
+      pick-all (P (Transfer p) (Res.Data status wait number)) (eqb number (last plan)) _ _
+      (λ t. record {
+        number = refl;
+        passes = tt;
+        taken = (refl, refl);
+        ends = tt;
+        stays = tt;
+        enters = (e, rw (ok, unable, eqb-true number (last plan) t));
+        fit = λ _. tt;
+        within = tt;
+        empties = tt;
+        still = tt;
+        marks = tt;
+      })
+      (λ _. search)
+
+  closed-row : (p : Progress) (status wait number : ℕ) → status ≡ 0 → wait ≡ 255
+      → P (Transfer p) (Res.Data status wait number) (closedOf plan (p .emptied) number)
+  unfolding closedOf
+  closed-row p status wait number ok unable =
+      pick-all (P (Transfer p) (Res.Data status wait number)) (p .emptied) _ _ (ended-row p status wait number ok unable) (λ _. search)
+
+  asked-row : (p : Progress) (r : Response) (wait number : ℕ) → P (Transfer p) r (askedOf plan (p .emptied) wait number)
+  unfolding askedOf
+  asked-row p r wait number =
+      let Q : Step → Type 0 = P (Transfer p) r in
+      pick-all Q (ltb (last plan) number) _ _ (λ _. search)
+      (λ t. let h = ltb-false (last plan) number t in
+      pick-all Q (eqb wait 0) _ _ (λ _. sends-row p r number h)
+      (λ _. record {
+        number = refl;
+        passes = tt;
+        taken = (refl, refl);
+        ends = tt;
+        stays = tt;
+        enters = tt;
+        fit = λ _. h;
+        within = tt;
+        empties = λ e. inl e;
+        still = λ e. e;
+        marks = tt;
+      }))
+
+  receipt-row : (p : Progress) (status wait number : ℕ) → P (Transfer p) (Res.Data status wait number) (receiptOf plan (p .emptied) status wait number)
+  unfolding receiptOf numberedOf okOf
+  receipt-row p status wait number =
+      search (pick-all (P (Transfer p) (Res.Data status wait number)), closed-row, asked-row, eqb-true) depth 8
+
+  judged-row : (left status wait : ℕ) (success : Bool) → status ≡ 0 → wait ≡ 0 → P (Validate left) (Res.Validate status wait success) (judgedOf success)
+  unfolding judgedOf
+  judged-row left status wait success ok none =
+      pick-all (P (Validate left) (Res.Validate status wait success)) success _ _
+      (λ e. record {
+        number = refl;
+        passes = tt;
+        taken = (refl, refl);
+        ends = tt;
+        stays = tt;
+        enters = rw (ok, none, e);
+        fit = λ _. tt;
+        within = tt;
+        empties = tt;
+        still = tt;
+        marks = tt;
+      })
+      (λ _. search)
+
+  validated-row : (left status wait : ℕ) (success : Bool) → P (Validate left) (Res.Validate status wait success) (validatedOf status wait success)
+  unfolding validatedOf verdictOf okOf
+  validated-row left status wait success =
+      search (pick-all (P (Validate left) (Res.Validate status wait success)), judged-row, eqb-true) depth 8
+
+  decided-row : (before : Phase) (r : Response) → P before r (decidedOf plan (stands before silence resends) before r)
+  unfolding decidedOf identifyOf initiateOf transferOf validateOf
+  decided-row Identify (Res.GetFwId status reported) = identified-row status reported
+  decided-row Identify (Res.Initiate status wait size) = search
+  decided-row Identify (Res.Data status wait number) = search
+  decided-row Identify (Res.Validate status wait success) = search
+  decided-row Identify Res.NotBuilt = search
+  decided-row (Initiate left) (Res.GetFwId status reported) = search
+  decided-row (Initiate left) (Res.Initiate status wait size) = initiated-row left status wait size
+  decided-row (Initiate left) (Res.Data status wait number) = search
+  decided-row (Initiate left) (Res.Validate status wait success) = search
+  decided-row (Initiate left) Res.NotBuilt = search
+  decided-row (Transfer p) (Res.GetFwId status reported) = search inl
+  decided-row (Transfer p) (Res.Initiate status wait size) = search inl
+  decided-row (Transfer p) (Res.Data status wait number) = receipt-row p status wait number
+  decided-row (Transfer p) (Res.Validate status wait success) = search inl
+  decided-row (Transfer p) Res.NotBuilt = search inl
+  decided-row (Validate left) (Res.GetFwId status reported) = search
+  decided-row (Validate left) (Res.Initiate status wait size) = search
+  decided-row (Validate left) (Res.Data status wait number) = search
+  decided-row (Validate left) (Res.Validate status wait success) = validated-row left status wait success
+  decided-row (Validate left) Res.NotBuilt = search
+  decided-row Done r = search
+  decided-row (Failed reason) r = search
+
+pub decide-row : (plan : Plan) (stand : Stand) (r : Response) → Row plan stand r (decideOf plan stand r)
+decide-row plan stand r = decided-row plan (stand .silence) (stand .resends) (stand .phase) r
