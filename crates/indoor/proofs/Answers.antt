@@ -11,7 +11,7 @@ use Rattle.wire.specs.declared.response.Response.{Response}
 use Rattle.wire.specs.declared.response.Parsed.the-variants as Par
 use Rattle.indoor_rules.specs.Response.{decideOf}
 use Rattle.indoor_rules.specs.Time.{passOf}
-use Rattle.indoor_rules.specs.declared.answer.Answer.the-variants.{Malformed, BufferShort, FileLength}
+use Rattle.indoor_phases.specs.declared.answer.Answer.the-variants.{Malformed, BufferShort, FileLength}
 use Rattle.indoor.specs.Session.{ends, doneOf}
 use Rattle.indoor.specs.Response.{readOf, responseOf}
 use Rattle.indoor.specs.Time.{timeOf}

@@ -12,9 +12,9 @@ use Rattle.silence.specs.declared.Checked.{Checked}
 use Rattle.silence.specs.declared.Checked.the-variants as Che
 use Rattle.silence.proofs.Laws.{Within, within-made, outside-29}
 use Rattle.wire.specs.Written.{requestBytes, bareBytes}
-use Rattle.indoor_rules.specs.Phase.{stands}
-use Rattle.indoor_rules.specs.declared.plan.Release.{Release}
-use Rattle.indoor_rules.specs.declared.phase.Phase.the-variants.{Identify}
+use Rattle.indoor_phases.specs.Phase.{stands}
+use Rattle.indoor_phases.specs.declared.plan.Release.{Release}
+use Rattle.indoor_phases.specs.declared.phase.Phase.the-variants.{Identify}
 use Rattle.indoor.specs.Session.{indoor, numberOf}
 use Rattle.indoor.specs.Start.{plans, beginOf, startedOf, startOf}
 use Rattle.indoor.specs.declared.session.Indoor.{Indoor}

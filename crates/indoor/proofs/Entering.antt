@@ -8,13 +8,13 @@ use Rattle.wire.specs.Response as message
 use Rattle.wire.specs.declared.response.Response.{Response}
 use Rattle.wire.specs.declared.response.Response.the-variants as Res
 use Rattle.wire.specs.declared.response.Parsed.the-variants.{Valid}
-use Rattle.indoor_rules.specs.Step.{last}
+use Rattle.indoor_phases.specs.Step.{last}
 use Rattle.indoor_rules.specs.Response.{decideOf}
-use Rattle.indoor_rules.specs.declared.plan.Plan.{Plan}
-use Rattle.indoor_rules.specs.declared.phase.Reason.the-variants.{Silence}
-use Rattle.indoor_rules.specs.declared.phase.Progress.{Progress}
-use Rattle.indoor_rules.specs.declared.phase.Phase.{Phase}
-use Rattle.indoor_rules.specs.declared.phase.Phase.the-variants.{Identify, Initiate, Transfer, Validate, Done, Failed}
+use Rattle.indoor_phases.specs.declared.plan.Plan.{Plan}
+use Rattle.indoor_phases.specs.declared.phase.Reason.the-variants.{Silence}
+use Rattle.indoor_phases.specs.declared.phase.Progress.{Progress}
+use Rattle.indoor_phases.specs.declared.phase.Phase.{Phase}
+use Rattle.indoor_phases.specs.declared.phase.Phase.the-variants.{Identify, Initiate, Transfer, Validate, Done, Failed}
 use Rattle.indoor_rules.proofs.Row.{ToValidate, ToDone, Enters, decide-row}
 use Rattle.indoor_rules.proofs.Ticks.{order, pass-ticks}
 use Rattle.indoor.specs.Response.{responseOf}

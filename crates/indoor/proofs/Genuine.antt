@@ -15,13 +15,11 @@ use Rattle.wire.specs.declared.request.Request.the-variants as Req
 use Rattle.wire.specs.declared.request.Parsed.{Parsed}
 use Rattle.wire.specs.declared.request.Parsed.the-variants as Par
 use Rattle.wire.proofs.RoundTrip.{request-back}
-use Rattle.indoor_rules.specs.Answer.{sendsOf}
-use Rattle.indoor_rules.specs.declared.plan.Plan.{Plan}
-use Rattle.indoor_rules.specs.declared.phase.Reason.the-variants as Why
-use Rattle.indoor_rules.specs.declared.answer.Answer.{Answer}
-use Rattle.indoor_rules.specs.declared.answer.Answer.the-variants as Ans
-use Rattle.indoor_rules.specs.declared.answer.Sends.{Sends}
-use Rattle.indoor_rules.specs.declared.answer.Sends.the-variants.{Nothing, GetFwId, Initiate, Block, Validate, Abort}
+use Rattle.indoor_phases.specs.Answer.{sendsOf}
+use Rattle.indoor_phases.specs.declared.plan.Plan.{Plan}
+use Rattle.indoor_phases.specs.declared.answer.Answer.{Answer}
+use Rattle.indoor_phases.specs.declared.answer.Sends.{Sends}
+use Rattle.indoor_phases.specs.declared.answer.Sends.the-variants.{Nothing, GetFwId, Initiate, Block, Validate, Abort}
 use Rattle.indoor_rules.proofs.Row.{Within}
 use Rattle.indoor.specs.Send.{blockBytes, sendsBytes, bytesOf}
 use Rattle.indoor.specs.History.{Genuine}
@@ -48,48 +46,20 @@ module _ (versions : Versions) (file : List ℕ) where
       → Genuine versions file (requestBytes r) (message.requestOf (requestBytes r))
   whole-genuine r built can h = read-as (requestBytes r) (Par.Valid r) (rw (append-nil (requestBytes r)) at (request-back r [] built can)) h
 
-  -- The block that an answer sends, if any, is one of the file's.
-  abbrev Blocks : Sends → Type 0
-  Blocks Nothing = Unit
-  Blocks GetFwId = Unit
-  Blocks Initiate = Unit
-  Blocks (Block number) = number ≤ blocksOf (length file)
-  Blocks Validate = Unit
-  Blocks Abort = Unit
-
-  sends-genuine : (sends : Sends) → Words versions → length file ≤ 1048575 → Blocks sends → (length (sendsBytes versions file sends) ≡ 0 → ⊥)
+  sends-genuine : (plan : Plan) (sends : Sends) → Words versions → plan .length ≡ length file → length file ≤ 1048575 → Within plan sends → (length (sendsBytes versions file sends) ≡ 0 → ⊥)
       → Genuine versions file (sendsBytes versions file sends) (message.requestOf (sendsBytes versions file sends))
   unfolding sendsBytes
-  sends-genuine Nothing words most h some = absurd (some refl)
-  sends-genuine GetFwId words most h some = whole-genuine Req.GetFwId tt refl tt
-  sends-genuine Initiate words most h some = whole-genuine (Req.Initiate versions) tt (refl, words) refl
-  sends-genuine (Block number) words most h some = block-genuine number most h
-  sends-genuine Validate words most h some = whole-genuine Req.Validate tt refl tt
-  sends-genuine Abort words most h some = whole-genuine Req.Abort tt refl tt
-
-  blocks-within : (plan : Plan) → plan .length ≡ length file → (answer : Answer) → Within plan answer → Blocks (sendsOf answer)
-  blocks-within plan lent Ans.Identifying h = tt
-  blocks-within plan lent Ans.Initiating h = tt
-  blocks-within plan lent (Ans.Sending number) h = rw (← lent) h
-  blocks-within plan lent Ans.Validating h = tt
-  blocks-within plan lent Ans.Waiting h = tt
-  blocks-within plan lent Ans.Finished h = tt
-  blocks-within plan lent Ans.Passed h = tt
-  blocks-within plan lent Ans.Malformed h = tt
-  blocks-within plan lent Ans.Unexpected h = tt
-  blocks-within plan lent Ans.BufferShort h = tt
-  blocks-within plan lent Ans.FileLength h = tt
-  blocks-within plan lent (Ans.Failed Why.Silence) h = tt
-  blocks-within plan lent (Ans.Failed Why.Refused) h = tt
-  blocks-within plan lent (Ans.Failed Why.NotNewer) h = tt
-  blocks-within plan lent (Ans.Failed Why.TooLarge) h = tt
-  blocks-within plan lent (Ans.Failed Why.WrongNumber) h = tt
-  blocks-within plan lent (Ans.Failed Why.NotValid) h = tt
+  sends-genuine plan Nothing words lent most h some = absurd (some refl)
+  sends-genuine plan GetFwId words lent most h some = whole-genuine Req.GetFwId tt refl tt
+  sends-genuine plan Initiate words lent most h some = whole-genuine (Req.Initiate versions) tt (refl, words) refl
+  sends-genuine plan (Block number) words lent most h some = block-genuine number most (rw (← lent) h)
+  sends-genuine plan Validate words lent most h some = whole-genuine Req.Validate tt refl tt
+  sends-genuine plan Abort words lent most h some = whole-genuine Req.Abort tt refl tt
 
 -- What goes out with an answer, where anything does, is genuine.
 pub bytes-genuine : (plan : Plan) (file : List ℕ) (answer : Answer) → Words (plan .release .versions) → plan .length ≡ length file → length file ≤ 1048575
-    → Within plan answer
+    → Within plan (sendsOf answer)
     → (length (bytesOf plan file answer) ≡ 0 → ⊥)
     → Genuine (plan .release .versions) file (bytesOf plan file answer) (message.requestOf (bytesOf plan file answer))
 bytes-genuine plan file answer words lent most within some =
-    sends-genuine (plan .release .versions) file (sendsOf answer) words most (blocks-within (plan .release .versions) file plan lent answer within) some
+    sends-genuine (plan .release .versions) file plan (sendsOf answer) words lent most within some

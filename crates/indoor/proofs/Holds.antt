@@ -16,16 +16,17 @@ use Rattle.image.proofs.Laws.{block-behind}
 use Rattle.wire.specs.Fields.{Words}
 use Rattle.wire.specs.Written.{requestBytes, headBytes}
 use Rattle.wire.specs.declared.response.Response.{Response}
-use Rattle.indoor_rules.specs.Step.{last}
+use Rattle.indoor_phases.specs.Answer.{sendsOf}
+use Rattle.indoor_phases.specs.Step.{last}
 use Rattle.indoor_rules.specs.Response.{decideOf}
 use Rattle.indoor_rules.specs.Time.{passOf}
-use Rattle.indoor_rules.specs.declared.plan.Plan.{Plan}
-use Rattle.indoor_rules.specs.declared.plan.Release.{Release}
-use Rattle.indoor_rules.specs.declared.phase.Reason.the-variants.{Silence}
-use Rattle.indoor_rules.specs.declared.phase.Phase.{Phase}
-use Rattle.indoor_rules.specs.declared.phase.Phase.the-variants.{Identify, Initiate, Transfer, Validate, Done, Failed}
-use Rattle.indoor_rules.specs.declared.answer.Answer.the-variants.{Sending}
-use Rattle.indoor_rules.specs.declared.step.Step.{Step}
+use Rattle.indoor_phases.specs.declared.plan.Plan.{Plan}
+use Rattle.indoor_phases.specs.declared.plan.Release.{Release}
+use Rattle.indoor_phases.specs.declared.phase.Reason.the-variants.{Silence}
+use Rattle.indoor_phases.specs.declared.phase.Phase.{Phase}
+use Rattle.indoor_phases.specs.declared.phase.Phase.the-variants.{Identify, Initiate, Transfer, Validate, Done, Failed}
+use Rattle.indoor_phases.specs.declared.answer.Answer.the-variants.{Sending}
+use Rattle.indoor_phases.specs.declared.step.Step.{Step}
 use Rattle.indoor_rules.proofs.Row.{ToValidate, ToDone, Enters, Fit, Within, Emptied, Empties, decide-row}
 use Rattle.indoor_rules.proofs.Ticks.{order, pass-ticks}
 use Rattle.indoor.specs.Send.{blockBytes, sendsBytes, bytesOf}
@@ -74,7 +75,7 @@ module _ (plan : Plan) (x : Step) (file out : List ℕ) (sent : List (List ℕ))
   kept-sent : (m : List ℕ) → List·Memᴰ m sent → List·Memᴰ m (sentAfter (doneOf plan x file out) sent)
   kept-sent m h = done-walk (List·Memᴰ m) h (λ _. List·Memᴰ·tail h)
 
-  done-genuine : Words (plan .release .versions) → plan .length ≡ length file → length file ≤ 1048575 → Within plan (x .answer)
+  done-genuine : Words (plan .release .versions) → plan .length ≡ length file → length file ≤ 1048575 → Within plan (sendsOf (x .answer))
       → AllGenuine (plan .release .versions) file sent
       → AllGenuine (plan .release .versions) file (sentAfter (doneOf plan x file out) sent)
   done-genuine words lent most within all =
@@ -174,7 +175,7 @@ module _ (plan : Plan) (x : Step) (file out : List ℕ) (sent : List (List ℕ))
 module _ (file : List ℕ) (release : Release) (words : Words (release .versions)) (s : Indoor) (sent : List (List ℕ)) (h : Holds file release s sent) where
   done-holds : (x : Step) (out : List ℕ)
       → Fit (s .plan) (x .stand .phase)
-      → Within (s .plan) (x .answer)
+      → Within (s .plan) (sendsOf (x .answer))
       → EmptySent file (x .stand .phase) (sentAfter (doneOf (s .plan) x file out) sent)
       → Holds file release (doneOf (s .plan) x file out .answer .state) (sentAfter (doneOf (s .plan) x file out) sent)
   done-holds x out fit within emptied = record {

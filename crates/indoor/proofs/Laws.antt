@@ -9,19 +9,19 @@ use lib.Dec.{eqb}
 use Rattle.basis.specs.Pick.{When, when-met}
 use Rattle.basis.specs.Left.{Left}
 use Rattle.wire.specs.declared.response.Response.{Response}
-use Rattle.indoor_rules.specs.Answer.{numberOf, sendsOf}
-use Rattle.indoor_rules.specs.Step.{step}
+use Rattle.indoor_phases.specs.Answer.{numberOf, sendsOf}
+use Rattle.indoor_phases.specs.Step.{step}
 use Rattle.indoor_rules.specs.Response.{decideOf}
 use Rattle.indoor_rules.specs.Time.{passOf}
-use Rattle.indoor_rules.specs.declared.phase.Reason.{Reason}
-use Rattle.indoor_rules.specs.declared.phase.Reason.the-variants as Why
-use Rattle.indoor_rules.specs.declared.phase.Phase.{Phase}
-use Rattle.indoor_rules.specs.declared.phase.Phase.the-variants.{Done, Failed}
-use Rattle.indoor_rules.specs.declared.phase.Stand.{Stand}
-use Rattle.indoor_rules.specs.declared.answer.Answer.{Answer}
-use Rattle.indoor_rules.specs.declared.answer.Answer.the-variants as Ans
-use Rattle.indoor_rules.specs.declared.answer.Sends.the-variants.{Nothing}
-use Rattle.indoor_rules.specs.declared.step.Step.{Step}
+use Rattle.indoor_phases.specs.declared.phase.Reason.{Reason}
+use Rattle.indoor_phases.specs.declared.phase.Reason.the-variants as Why
+use Rattle.indoor_phases.specs.declared.phase.Phase.{Phase}
+use Rattle.indoor_phases.specs.declared.phase.Phase.the-variants.{Done, Failed}
+use Rattle.indoor_phases.specs.declared.phase.Stand.{Stand}
+use Rattle.indoor_phases.specs.declared.answer.Answer.{Answer}
+use Rattle.indoor_phases.specs.declared.answer.Answer.the-variants as Ans
+use Rattle.indoor_phases.specs.declared.answer.Sends.the-variants.{Nothing}
+use Rattle.indoor_phases.specs.declared.step.Step.{Step}
 use Rattle.indoor_rules.proofs.Row.{hears, Row, Stays, decide-row}
 use Rattle.indoor_rules.proofs.Ticks.{Ticks, Rests, pass-ticks}
 use Rattle.indoor.specs.Session.{doneOf}

@@ -15,11 +15,11 @@ use Rattle.silence.specs.declared.Checked.the-variants as Che
 use Rattle.wire.specs.Fields.{Words}
 use Rattle.wire.specs.Codes.{longest}
 use Rattle.wire.specs.Written.{requestBytes, bareBytes}
-use Rattle.indoor_rules.specs.declared.plan.Plan.{Plan}
-use Rattle.indoor_rules.specs.declared.plan.Release.{Release}
-use Rattle.indoor_rules.specs.declared.phase.Phase.{Phase}
-use Rattle.indoor_rules.specs.declared.phase.Phase.the-variants.{Validate, Done}
-use Rattle.indoor_rules.specs.declared.answer.Answer.the-variants.{Identifying}
+use Rattle.indoor_phases.specs.declared.plan.Plan.{Plan}
+use Rattle.indoor_phases.specs.declared.plan.Release.{Release}
+use Rattle.indoor_phases.specs.declared.phase.Phase.{Phase}
+use Rattle.indoor_phases.specs.declared.phase.Phase.the-variants.{Validate, Done}
+use Rattle.indoor_phases.specs.declared.answer.Answer.the-variants.{Identifying}
 use Rattle.indoor.specs.Send.{sendsBytes}
 use Rattle.indoor.specs.Start.{lengthMost, plans, begunOf, beginOf, startedOf}
 use Rattle.indoor.specs.declared.session.Started.{Started}

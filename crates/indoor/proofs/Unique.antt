@@ -4,7 +4,7 @@ use mathlib.Core.Path.{_≡_}
 use mathlib.Core.List.{List}
 use Rattle.basis.specs.Left.{left}
 use Rattle.basis.specs.Only.{only}
-use Rattle.indoor_rules.specs.declared.plan.Release.{Release}
+use Rattle.indoor_phases.specs.declared.plan.Release.{Release}
 use Rattle.indoor.specs.Session.{numberOf}
 use Rattle.indoor.specs.Start.{startOf}
 use Rattle.indoor.specs.Response.{responseOf}

@@ -12,13 +12,13 @@ use Rattle.writing.proofs.Laws.{request-fits}
 use Rattle.wire.specs.Codes.{longest}
 use Rattle.wire.specs.declared.request.Versions.{Versions}
 use Rattle.wire.specs.declared.request.Request.the-variants as Req
-use Rattle.indoor_rules.specs.Answer.{sendsOf}
+use Rattle.indoor_phases.specs.Answer.{sendsOf}
 use Rattle.indoor_rules.specs.Response.{decideOf}
 use Rattle.indoor_rules.specs.Time.{passOf}
-use Rattle.indoor_rules.specs.declared.plan.Plan.{Plan}
-use Rattle.indoor_rules.specs.declared.answer.Answer.{Answer}
-use Rattle.indoor_rules.specs.declared.answer.Sends.{Sends}
-use Rattle.indoor_rules.specs.declared.answer.Sends.the-variants.{Nothing, GetFwId, Initiate, Block, Validate, Abort}
+use Rattle.indoor_phases.specs.declared.plan.Plan.{Plan}
+use Rattle.indoor_phases.specs.declared.answer.Answer.{Answer}
+use Rattle.indoor_phases.specs.declared.answer.Sends.{Sends}
+use Rattle.indoor_phases.specs.declared.answer.Sends.the-variants.{Nothing, GetFwId, Initiate, Block, Validate, Abort}
 use Rattle.indoor.specs.Send.{blockBytes, sendsBytes, bytesOf}
 use Rattle.indoor.specs.Response.{responseOf}
 use Rattle.indoor.specs.Time.{timeOf}

@@ -14,7 +14,7 @@ use Rattle.wire.specs.declared.request.Versions.{Versions}
 use Rattle.wire.specs.declared.request.Request.the-variants as Req
 use Rattle.wire.specs.declared.request.Parsed.{Parsed}
 use Rattle.wire.specs.declared.request.Parsed.the-variants as Par
-use Rattle.indoor_rules.specs.declared.plan.Release.{Release}
+use Rattle.indoor_phases.specs.declared.plan.Release.{Release}
 use Rattle.indoor.specs.Start.{startOf}
 use Rattle.indoor.specs.Response.{responseOf}
 use Rattle.indoor.specs.Time.{timeOf}

@@ -10,7 +10,7 @@ use Rattle.wire.specs.Response as message
 use Rattle.wire.specs.declared.response.Parsed.{Parsed}
 use Rattle.wire.specs.declared.response.Parsed.the-variants as Par
 use Rattle.indoor_rules.specs.Response.{decideOf}
-use Rattle.indoor_rules.specs.declared.answer.Answer.the-variants.{Malformed, BufferShort, FileLength}
+use Rattle.indoor_phases.specs.declared.answer.Answer.the-variants.{Malformed, BufferShort, FileLength}
 use Rattle.indoor.specs.Session.{kept, doneOf}
 use Rattle.indoor.specs.declared.session.Indoor.{Indoor}
 use Rattle.indoor.specs.declared.session.Outcome.{Outcome}

@@ -8,11 +8,11 @@ use Rattle.image.specs.Blocks.{blockAt}
 use Rattle.wire.specs.Written.{requestBytes}
 use Rattle.wire.specs.declared.request.Versions.{Versions}
 use Rattle.wire.specs.declared.request.Request.the-variants as Req
-use Rattle.indoor_rules.specs.Answer.{sendsOf}
-use Rattle.indoor_rules.specs.declared.plan.Plan.{Plan}
-use Rattle.indoor_rules.specs.declared.answer.Answer.{Answer}
-use Rattle.indoor_rules.specs.declared.answer.Sends.{Sends}
-use Rattle.indoor_rules.specs.declared.answer.Sends.the-variants.{Nothing, GetFwId, Initiate, Block, Validate, Abort}
+use Rattle.indoor_phases.specs.Answer.{sendsOf}
+use Rattle.indoor_phases.specs.declared.plan.Plan.{Plan}
+use Rattle.indoor_phases.specs.declared.answer.Answer.{Answer}
+use Rattle.indoor_phases.specs.declared.answer.Sends.{Sends}
+use Rattle.indoor_phases.specs.declared.answer.Sends.the-variants.{Nothing, GetFwId, Initiate, Block, Validate, Abort}
 
 -- DATA carries block j of the lent file; block n is the empty one.
 unfoldable pub blockBytes : List ℕ → ℕ → List ℕ

@@ -4,10 +4,10 @@ use mathlib.Core.List.{List}
 use lib.ListN.{length}
 use Rattle.basis.specs.Left.{Left, left}
 use Rattle.lent.specs.Led.{led}
-use Rattle.indoor_rules.specs.declared.plan.Plan.{Plan}
-use Rattle.indoor_rules.specs.declared.phase.Stand.{Stand}
-use Rattle.indoor_rules.specs.declared.answer.Answer.{Answer}
-use Rattle.indoor_rules.specs.declared.step.Step.{Step}
+use Rattle.indoor_phases.specs.declared.plan.Plan.{Plan}
+use Rattle.indoor_phases.specs.declared.phase.Stand.{Stand}
+use Rattle.indoor_phases.specs.declared.answer.Answer.{Answer}
+use Rattle.indoor_phases.specs.declared.step.Step.{Step}
 use Rattle.indoor.specs.Send.{bytesOf}
 use Rattle.indoor.specs.declared.session.Indoor.{Indoor}
 use Rattle.indoor.specs.declared.session.Started.{Started}

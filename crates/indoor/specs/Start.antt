@@ -13,10 +13,10 @@ use Rattle.silence.specs.declared.Checked.the-variants as Che
 use Rattle.wire.specs.Codes.{longest}
 use Rattle.wire.specs.Written.{requestBytes}
 use Rattle.wire.specs.declared.request.Request.the-variants as Req
-use Rattle.indoor_rules.specs.Phase.{stands}
-use Rattle.indoor_rules.specs.declared.plan.Release.{Release}
-use Rattle.indoor_rules.specs.declared.plan.Plan.{Plan}
-use Rattle.indoor_rules.specs.declared.phase.Phase.the-variants.{Identify}
+use Rattle.indoor_phases.specs.Phase.{stands}
+use Rattle.indoor_phases.specs.declared.plan.Release.{Release}
+use Rattle.indoor_phases.specs.declared.plan.Plan.{Plan}
+use Rattle.indoor_phases.specs.declared.phase.Phase.the-variants.{Identify}
 use Rattle.indoor.specs.Session.{indoor}
 use Rattle.indoor.specs.declared.session.Started.{Started}
 use Rattle.indoor.specs.declared.session.Started.the-variants.{Made, Settings, FileSize, BufferShort}

@@ -7,7 +7,7 @@ use Rattle.basis.specs.Pick.{pick}
 use Rattle.basis.specs.Left.{Left}
 use Rattle.wire.specs.Codes.{longest}
 use Rattle.indoor_rules.specs.Time.{passOf}
-use Rattle.indoor_rules.specs.declared.answer.Answer.the-variants.{BufferShort, FileLength}
+use Rattle.indoor_phases.specs.declared.answer.Answer.the-variants.{BufferShort, FileLength}
 use Rattle.indoor.specs.Session.{kept, doneOf}
 use Rattle.indoor.specs.declared.session.Indoor.{Indoor}
 use Rattle.indoor.specs.declared.session.Outcome.{Outcome}

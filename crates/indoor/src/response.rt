@@ -3,7 +3,7 @@
 use crate::session::Indoor;
 use crate::session::Outcome;
 use crate::session::finish;
-use indoor_rules::answer::Answer;
+use indoor_phases::answer::Answer;
 use indoor_steps::decide;
 use wire::codes;
 use wire::response::Parsed;

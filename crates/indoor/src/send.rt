@@ -1,7 +1,7 @@
 // The request that goes out with an answer, in the first bytes of the lent buffer (01, Numbers we answer).
-use indoor_rules::answer::Answer;
-use indoor_rules::answer::Sends;
-use indoor_rules::plan::Plan;
+use indoor_phases::answer::Answer;
+use indoor_phases::answer::Sends;
+use indoor_phases::plan::Plan;
 use wire::request::Request;
 use wire::request::Versions;
 ghost use mathlib.Core.Path.{_≡_};

@@ -1,9 +1,9 @@
 // A session of the indoor end: what it was started with, and where it stands.
 use crate::send::send;
-use indoor_rules::answer::Answer;
-use indoor_rules::phase::Stand;
-use indoor_rules::plan::Plan;
-use indoor_rules::step::Step;
+use indoor_phases::answer::Answer;
+use indoor_phases::phase::Stand;
+use indoor_phases::plan::Plan;
+use indoor_phases::step::Step;
 ghost use mathlib.Core.Path.{_≡_};
 ghost use Prim.Native.Nat.{_≤_};
 ghost use lib.ListN.{length};

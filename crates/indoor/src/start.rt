@@ -2,10 +2,10 @@
 use crate::send::whole;
 use crate::session::Indoor;
 use crate::session::Started;
-use indoor_rules::phase::Phase;
-use indoor_rules::phase::Stand;
-use indoor_rules::plan::Plan;
-use indoor_rules::plan::Release;
+use indoor_phases::phase::Phase;
+use indoor_phases::phase::Stand;
+use indoor_phases::plan::Plan;
+use indoor_phases::plan::Release;
 use silence::Checked;
 use silence::Settings;
 use wire::codes;

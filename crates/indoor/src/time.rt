@@ -2,7 +2,7 @@
 use crate::session::Indoor;
 use crate::session::Outcome;
 use crate::session::finish;
-use indoor_rules::answer::Answer;
+use indoor_phases::answer::Answer;
 use indoor_time::pass;
 use wire::codes;
 ghost use mathlib.Core.Path.{_≡_};

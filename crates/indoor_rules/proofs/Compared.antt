@@ -7,7 +7,7 @@ use lib.Dec.{eqb}
 use Rattle.basis.specs.Pick.{pick, pick-all}
 use Rattle.wire.specs.declared.response.Identity.{Identity}
 use Rattle.indoor_rules.specs.Newer.{newerOf}
-use Rattle.indoor_rules.specs.declared.plan.Release.{Release}
+use Rattle.indoor_phases.specs.declared.plan.Release.{Release}
 
 -- Nothing else is looked at: not the other versions, the hardware, the bank or the flags.
 pub record Newer (file : Release) (reported : Identity) : Type 0 where
@@ -16,12 +16,6 @@ pub record Newer (file : Release) (reported : Identity) : Type 0 where
   pub version : reported .versions .first < file .versions .first
 
 module _ (file : Release) (reported : Identity) where
-  pub newer-yes : Newer file reported → newerOf file reported ≡ true
-  unfolding newerOf pick
-  newer-yes n =
-      rw (eq-eqb (file .vendor) (reported .vendor) (n .vendor), eq-eqb (file .product) (reported .product) (n .product))
-      (lt-ltb (reported .versions .first) (file .versions .first) (n .version))
-
   -- Equal is not newer.
   pub newer-only : newerOf file reported ≡ true → Newer file reported
   unfolding newerOf
@@ -36,3 +30,9 @@ module _ (file : Release) (reported : Identity) where
       })
       (λ _ e. absurd (true≢false (sym e))))
       (λ _ e. absurd (true≢false (sym e)))
+
+  pub newer-yes : Newer file reported → newerOf file reported ≡ true
+  unfolding newerOf pick
+  newer-yes n =
+      rw (eq-eqb (file .vendor) (reported .vendor) (n .vendor), eq-eqb (file .product) (reported .product) (n .product))
+      (lt-ltb (reported .versions .first) (file .versions .first) (n .version))

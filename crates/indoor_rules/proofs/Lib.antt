@@ -1,8 +1,6 @@
-pub mod Answers
 pub mod Compared
 pub mod Due
+pub mod Elapsed
 pub mod Orders
 pub mod Row
-pub mod TimeLaws
 pub mod Ticks
-pub mod Unique

@@ -10,18 +10,18 @@ use Rattle.image.specs.Blocks.{blocksOf}
 use Rattle.wire.specs.declared.response.Identity.{Identity}
 use Rattle.wire.specs.declared.response.Response.{Response}
 use Rattle.wire.specs.declared.response.Response.the-variants as Res
-use Rattle.indoor_rules.specs.Phase.{progress, stands}
-use Rattle.indoor_rules.specs.Step.{step, emptiedBy}
+use Rattle.indoor_phases.specs.Phase.{progress, stands}
+use Rattle.indoor_phases.specs.Step.{step, emptiedBy}
 use Rattle.indoor_rules.specs.Newer.{newerOf}
 use Rattle.indoor_rules.specs.Response.{okOf, comparedOf, identifiedOf, readyOf, offeredOf, initiatedOf, endedOf, closedOf, askedOf, numberedOf, receiptOf, judgedOf, verdictOf, validatedOf, identifyOf, initiateOf, transferOf, validateOf, decidedOf, decideOf}
-use Rattle.indoor_rules.specs.declared.plan.Plan.{Plan}
-use Rattle.indoor_rules.specs.declared.phase.Reason.{Reason}
-use Rattle.indoor_rules.specs.declared.phase.Reason.the-variants.{Refused, NotNewer, TooLarge, WrongNumber, NotValid}
-use Rattle.indoor_rules.specs.declared.phase.Phase.{Phase}
-use Rattle.indoor_rules.specs.declared.phase.Phase.the-variants.{Identify, Initiate, Transfer, Validate, Done, Failed}
-use Rattle.indoor_rules.specs.declared.answer.Answer.{Answer}
-use Rattle.indoor_rules.specs.declared.answer.Answer.the-variants as Ans
-use Rattle.indoor_rules.specs.declared.step.Step.{Step}
+use Rattle.indoor_phases.specs.declared.plan.Plan.{Plan}
+use Rattle.indoor_phases.specs.declared.phase.Reason.{Reason}
+use Rattle.indoor_phases.specs.declared.phase.Reason.the-variants.{Refused, NotNewer, TooLarge, WrongNumber, NotValid}
+use Rattle.indoor_phases.specs.declared.phase.Phase.{Phase}
+use Rattle.indoor_phases.specs.declared.phase.Phase.the-variants.{Identify, Initiate, Transfer, Validate, Done, Failed}
+use Rattle.indoor_phases.specs.declared.answer.Answer.{Answer}
+use Rattle.indoor_phases.specs.declared.answer.Answer.the-variants as Ans
+use Rattle.indoor_phases.specs.declared.step.Step.{Step}
 use Rattle.indoor_rules.proofs.Compared.{Newer, newer-yes}
 
 -- Accepted: silence and resends are zero. Failed: nothing is left but the reason.

@@ -4,25 +4,28 @@ use mathlib.Core.Bool.{Bool, true, false, true≢false, _||_}
 use mathlib.Core.Logic.{_⊎_, inl, inr}
 use mathlib.Core.Path.{_≡_, refl, sym, ap}
 use native.Mathlib.Omega.{arith}
-use borrow.Author.Tests.{eq-eqb, eqb-true, ltb-false}
+use borrow.Author.Tests.{eqb-true, ltb-false}
 use lib.Dec.{eqb, ltb}
-use Rattle.basis.specs.Pick.{pick, pick-all, When}
+use Rattle.basis.specs.Pick.{pick-all, When}
 use Rattle.wire.specs.declared.response.Identity.{Identity}
 use Rattle.wire.specs.declared.response.Response.{Response}
 use Rattle.wire.specs.declared.response.Response.the-variants as Res
-use Rattle.indoor_rules.specs.Phase.{stands}
-use Rattle.indoor_rules.specs.Answer.{numberOf}
-use Rattle.indoor_rules.specs.Step.{step, last, emptiedBy}
+use Rattle.indoor_phases.specs.Phase.{stands}
+use Rattle.indoor_phases.specs.Answer.{numberOf, sendsOf}
+use Rattle.indoor_phases.specs.Step.{step, last, emptiedBy}
+use Rattle.indoor_phases.proofs.Steps.{emptied-only, emptied-stays, emptied-last}
 use Rattle.indoor_rules.specs.Newer.{newerOf}
 use Rattle.indoor_rules.specs.Response.{sends, okOf, comparedOf, identifiedOf, readyOf, offeredOf, initiatedOf, endedOf, closedOf, askedOf, numberedOf, receiptOf, judgedOf, verdictOf, validatedOf, identifyOf, initiateOf, transferOf, validateOf, decidedOf, decideOf}
-use Rattle.indoor_rules.specs.declared.plan.Plan.{Plan}
-use Rattle.indoor_rules.specs.declared.phase.Progress.{Progress}
-use Rattle.indoor_rules.specs.declared.phase.Phase.{Phase}
-use Rattle.indoor_rules.specs.declared.phase.Phase.the-variants.{Identify, Initiate, Transfer, Validate, Done, Failed}
-use Rattle.indoor_rules.specs.declared.phase.Stand.{Stand}
-use Rattle.indoor_rules.specs.declared.answer.Answer.{Answer}
-use Rattle.indoor_rules.specs.declared.answer.Answer.the-variants as Ans
-use Rattle.indoor_rules.specs.declared.step.Step.{Step}
+use Rattle.indoor_phases.specs.declared.plan.Plan.{Plan}
+use Rattle.indoor_phases.specs.declared.phase.Progress.{Progress}
+use Rattle.indoor_phases.specs.declared.phase.Phase.{Phase}
+use Rattle.indoor_phases.specs.declared.phase.Phase.the-variants.{Identify, Initiate, Transfer, Validate, Done, Failed}
+use Rattle.indoor_phases.specs.declared.phase.Stand.{Stand}
+use Rattle.indoor_phases.specs.declared.answer.Answer.{Answer}
+use Rattle.indoor_phases.specs.declared.answer.Answer.the-variants as Ans
+use Rattle.indoor_phases.specs.declared.answer.Sends.{Sends}
+use Rattle.indoor_phases.specs.declared.answer.Sends.the-variants as Out
+use Rattle.indoor_phases.specs.declared.step.Step.{Step}
 
 -- A step on a response answers 0, 21 or 41 to 45.
 abbrev pub hears : ℕ → Bool
@@ -115,25 +118,19 @@ Fit plan Done = Unit
 Fit plan (Failed reason) = Unit
 
 -- A block that goes out is one of the file's, or the empty one.
-abbrev pub Within : Plan → Answer → Type 0
-Within plan Ans.Identifying = Unit
-Within plan Ans.Initiating = Unit
-Within plan (Ans.Sending number) = number ≤ last plan
-Within plan Ans.Validating = Unit
-Within plan Ans.Waiting = Unit
-Within plan Ans.Finished = Unit
-Within plan Ans.Passed = Unit
-Within plan Ans.Malformed = Unit
-Within plan Ans.Unexpected = Unit
-Within plan Ans.BufferShort = Unit
-Within plan Ans.FileLength = Unit
-Within plan (Ans.Failed reason) = Unit
+abbrev pub Within : Plan → Sends → Type 0
+Within plan Out.Nothing = Unit
+Within plan Out.GetFwId = Unit
+Within plan Out.Initiate = Unit
+Within plan (Out.Block number) = number ≤ last plan
+Within plan Out.Validate = Unit
+Within plan Out.Abort = Unit
 
 -- The empty block had been sent, or goes out with this answer.
 abbrev pub Emptied : Plan → Phase → Answer → Type 0
-Emptied plan (Transfer p) answer = (p .emptied ≡ true) ⊎ (answer ≡ Ans.Sending (last plan))
 Emptied plan Identify answer = answer ≡ Ans.Sending (last plan)
 Emptied plan (Initiate left) answer = answer ≡ Ans.Sending (last plan)
+Emptied plan (Transfer p) answer = (p .emptied ≡ true) ⊎ (answer ≡ Ans.Sending (last plan))
 Emptied plan (Validate left) answer = answer ≡ Ans.Sending (last plan)
 Emptied plan Done answer = answer ≡ Ans.Sending (last plan)
 Emptied plan (Failed reason) answer = answer ≡ Ans.Sending (last plan)
@@ -169,35 +166,13 @@ Marked plan number (Validate left) = ⊥
 Marked plan number Done = ⊥
 Marked plan number (Failed reason) = ⊥
 
-abbrev pub Marks : Plan → Answer → Phase → Type 0
-Marks plan Ans.Identifying next = Unit
-Marks plan Ans.Initiating next = Unit
-Marks plan (Ans.Sending number) next = Marked plan number next
-Marks plan Ans.Validating next = Unit
-Marks plan Ans.Waiting next = Unit
-Marks plan Ans.Finished next = Unit
-Marks plan Ans.Passed next = Unit
-Marks plan Ans.Malformed next = Unit
-Marks plan Ans.Unexpected next = Unit
-Marks plan Ans.BufferShort next = Unit
-Marks plan Ans.FileLength next = Unit
-Marks plan (Ans.Failed reason) next = Unit
-
-module _ (plan : Plan) (number : ℕ) (emptied : Bool) where
-  pub emptied-only : emptiedBy plan number emptied ≡ true → (emptied ≡ true) ⊎ (number ≡ last plan)
-  unfolding emptiedBy
-  emptied-only =
-      pick-all (λ (t : Bool). t ≡ true → (emptied ≡ true) ⊎ (number ≡ last plan)) emptied _ _
-      (λ e _. inl e)
-      (λ _ t. inr (eqb-true number (last plan) t))
-
-  pub emptied-stays : emptied ≡ true → emptiedBy plan number emptied ≡ true
-  unfolding emptiedBy pick
-  emptied-stays e = rw e
-
-  pub emptied-last : number ≡ last plan → emptiedBy plan number emptied ≡ true
-  unfolding emptiedBy
-  emptied-last h = pick-all (λ (t : Bool). t ≡ true) emptied _ _ (λ _. refl) (λ _. eq-eqb number (last plan) h)
+abbrev pub Marks : Plan → Sends → Phase → Type 0
+Marks plan Out.Nothing next = Unit
+Marks plan Out.GetFwId next = Unit
+Marks plan Out.Initiate next = Unit
+Marks plan (Out.Block number) next = Marked plan number next
+Marks plan Out.Validate next = Unit
+Marks plan Out.Abort next = Unit
 
 by-last : (plan : Plan) (number : ℕ) → (false ≡ true) ⊎ (number ≡ last plan) → Ans.Sending number ≡ Ans.Sending (last plan)
 by-last plan number (inl e) = absurd (true≢false (sym e))
@@ -221,10 +196,10 @@ pub record Row (plan : Plan) (stand : Stand) (r : Response) (s : Step) : Type 0 
   pub stays : Stays (stand .phase) stand s
   pub enters : Enters plan (stand .phase) r (s .stand .phase)
   pub fit : Fit plan (stand .phase) → Fit plan (s .stand .phase)
-  pub within : Within plan (s .answer)
+  pub within : Within plan (sendsOf (s .answer))
   pub empties : Empties plan (stand .phase) (s .answer) (s .stand .phase)
   pub still : Still (stand .phase) (s .stand .phase)
-  pub marks : Marks plan (s .answer) (s .stand .phase)
+  pub marks : Marks plan (sendsOf (s .answer)) (s .stand .phase)
 
 module _ (plan : Plan) (silence resends : ℕ) where
   abbrev P : Phase → Response → Step → Type 0

@@ -10,19 +10,20 @@ use Rattle.basis.specs.Pick.{pick-all, When}
 use Rattle.silence.specs.Expiry.{grown, grownOf}
 use Rattle.silence.specs.declared.Grown.{Grown}
 use Rattle.silence.specs.declared.Event.the-variants.{Quiet, Resend, NoneLeft}
-use Rattle.indoor_rules.specs.Phase.{stands}
-use Rattle.indoor_rules.specs.Answer.{numberOf}
-use Rattle.indoor_rules.specs.Step.{step}
+use Rattle.indoor_phases.specs.Phase.{stands}
+use Rattle.indoor_phases.specs.Answer.{numberOf, sendsOf}
+use Rattle.indoor_phases.specs.Step.{step}
 use Rattle.indoor_rules.specs.Time.{resentOf, expiredOf, resendsOf, expiresOf, initiatePassOf, transferPassOf, validatePassOf, passedOf, passOf}
-use Rattle.indoor_rules.specs.declared.plan.Plan.{Plan}
-use Rattle.indoor_rules.specs.declared.phase.Reason.the-variants.{Silence}
-use Rattle.indoor_rules.specs.declared.phase.Progress.{Progress}
-use Rattle.indoor_rules.specs.declared.phase.Phase.{Phase}
-use Rattle.indoor_rules.specs.declared.phase.Phase.the-variants.{Identify, Initiate, Transfer, Validate, Done, Failed}
-use Rattle.indoor_rules.specs.declared.phase.Stand.{Stand}
-use Rattle.indoor_rules.specs.declared.answer.Answer.the-variants as Ans
-use Rattle.indoor_rules.specs.declared.step.Step.{Step}
-use Rattle.indoor_rules.proofs.Row.{Ends, Fit, Within, Empties, Still, Marks, emptied-stays, emptied-last, later-empties}
+use Rattle.indoor_phases.specs.declared.plan.Plan.{Plan}
+use Rattle.indoor_phases.specs.declared.phase.Reason.the-variants.{Silence}
+use Rattle.indoor_phases.specs.declared.phase.Progress.{Progress}
+use Rattle.indoor_phases.specs.declared.phase.Phase.{Phase}
+use Rattle.indoor_phases.specs.declared.phase.Phase.the-variants.{Identify, Initiate, Transfer, Validate, Done, Failed}
+use Rattle.indoor_phases.specs.declared.phase.Stand.{Stand}
+use Rattle.indoor_phases.specs.declared.answer.Answer.the-variants as Ans
+use Rattle.indoor_phases.specs.declared.step.Step.{Step}
+use Rattle.indoor_phases.proofs.Steps.{emptied-stays, emptied-last}
+use Rattle.indoor_rules.proofs.Row.{Ends, Fit, Within, Empties, Still, Marks, later-empties}
 
 -- Answered 0 or 40.
 abbrev pub ticks : ℕ → Bool
@@ -72,10 +73,10 @@ pub record Ticks (plan : Plan) (stand : Stand) (elapsed : ℕ) (s : Step) : Type
   -- Silence grows by no more than what has elapsed.
   pub grown-most : s .stand .silence ≤ stand .silence + elapsed
   pub fit : Fit plan (stand .phase) → Fit plan (s .stand .phase)
-  pub within : Fit plan (stand .phase) → Within plan (s .answer)
+  pub within : Fit plan (stand .phase) → Within plan (sendsOf (s .answer))
   pub empties : Empties plan (stand .phase) (s .answer) (s .stand .phase)
   pub still : Still (stand .phase) (s .stand .phase)
-  pub marks : Marks plan (s .answer) (s .stand .phase)
+  pub marks : Marks plan (sendsOf (s .answer)) (s .stand .phase)
 
 -- The sums that every case needs.
 record Sums (silence elapsed resends : ℕ) : Type 0 where

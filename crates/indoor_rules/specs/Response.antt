@@ -10,17 +10,17 @@ use Rattle.wire.specs.declared.status.Status.the-variants.{Ok}
 use Rattle.wire.specs.declared.response.Identity.{Identity}
 use Rattle.wire.specs.declared.response.Response.{Response}
 use Rattle.wire.specs.declared.response.Response.the-variants as Res
-use Rattle.indoor_rules.specs.Phase.{progress}
-use Rattle.indoor_rules.specs.Step.{step, goes, fails, last, sent}
+use Rattle.indoor_phases.specs.Phase.{progress}
+use Rattle.indoor_phases.specs.Step.{step, goes, fails, last, sent}
 use Rattle.indoor_rules.specs.Newer.{newerOf}
-use Rattle.indoor_rules.specs.declared.plan.Plan.{Plan}
-use Rattle.indoor_rules.specs.declared.phase.Reason.the-variants.{Refused, NotNewer, TooLarge, WrongNumber, NotValid}
-use Rattle.indoor_rules.specs.declared.phase.Progress.{Progress}
-use Rattle.indoor_rules.specs.declared.phase.Phase.{Phase}
-use Rattle.indoor_rules.specs.declared.phase.Phase.the-variants.{Identify, Initiate, Transfer, Validate, Done, Failed}
-use Rattle.indoor_rules.specs.declared.phase.Stand.{Stand}
-use Rattle.indoor_rules.specs.declared.answer.Answer.the-variants as Ans
-use Rattle.indoor_rules.specs.declared.step.Step.{Step}
+use Rattle.indoor_phases.specs.declared.plan.Plan.{Plan}
+use Rattle.indoor_phases.specs.declared.phase.Reason.the-variants.{Refused, NotNewer, TooLarge, WrongNumber, NotValid}
+use Rattle.indoor_phases.specs.declared.phase.Progress.{Progress}
+use Rattle.indoor_phases.specs.declared.phase.Phase.{Phase}
+use Rattle.indoor_phases.specs.declared.phase.Phase.the-variants.{Identify, Initiate, Transfer, Validate, Done, Failed}
+use Rattle.indoor_phases.specs.declared.phase.Stand.{Stand}
+use Rattle.indoor_phases.specs.declared.answer.Answer.the-variants as Ans
+use Rattle.indoor_phases.specs.declared.step.Step.{Step}
 
 -- A response of another type than the one due is passed over.
 abbrev pub passesOver : Stand → Step

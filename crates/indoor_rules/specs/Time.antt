@@ -6,17 +6,17 @@ use Rattle.silence.specs.Expiry.{grownOf}
 use Rattle.silence.specs.declared.Grown.{Grown}
 use Rattle.silence.specs.declared.Event.{Event}
 use Rattle.silence.specs.declared.Event.the-variants.{Quiet, Resend, NoneLeft}
-use Rattle.indoor_rules.specs.Phase.{progress, stands}
-use Rattle.indoor_rules.specs.Step.{step, fails, sent}
-use Rattle.indoor_rules.specs.declared.plan.Plan.{Plan}
-use Rattle.indoor_rules.specs.declared.phase.Reason.the-variants.{Silence}
-use Rattle.indoor_rules.specs.declared.phase.Progress.{Progress}
-use Rattle.indoor_rules.specs.declared.phase.Phase.{Phase}
-use Rattle.indoor_rules.specs.declared.phase.Phase.the-variants.{Identify, Initiate, Transfer, Validate, Done, Failed}
-use Rattle.indoor_rules.specs.declared.phase.Stand.{Stand}
-use Rattle.indoor_rules.specs.declared.answer.Answer.{Answer}
-use Rattle.indoor_rules.specs.declared.answer.Answer.the-variants.{Identifying, Initiating, Sending, Validating, Passed}
-use Rattle.indoor_rules.specs.declared.step.Step.{Step}
+use Rattle.indoor_phases.specs.Phase.{progress, stands}
+use Rattle.indoor_phases.specs.Step.{step, fails, sent}
+use Rattle.indoor_phases.specs.declared.plan.Plan.{Plan}
+use Rattle.indoor_phases.specs.declared.phase.Reason.the-variants.{Silence}
+use Rattle.indoor_phases.specs.declared.phase.Progress.{Progress}
+use Rattle.indoor_phases.specs.declared.phase.Phase.{Phase}
+use Rattle.indoor_phases.specs.declared.phase.Phase.the-variants.{Identify, Initiate, Transfer, Validate, Done, Failed}
+use Rattle.indoor_phases.specs.declared.phase.Stand.{Stand}
+use Rattle.indoor_phases.specs.declared.answer.Answer.{Answer}
+use Rattle.indoor_phases.specs.declared.answer.Answer.the-variants.{Identifying, Initiating, Sending, Validating, Passed}
+use Rattle.indoor_phases.specs.declared.step.Step.{Step}
 
 -- In Identify, Initiate and Validate the request is resent at each silence limit while resends are left; with none left: 40.
 unfoldable pub resentOf : Phase → Answer → Grown → Event → Step

@@ -6,10 +6,10 @@ use Rattle.wire.specs.declared.response.Identity.{Identity}
 use Rattle.wire.specs.declared.response.Response.{Response}
 use Rattle.indoor_rules.specs.Newer.{newerOf}
 use Rattle.indoor_rules.specs.Response.{decideOf}
-use Rattle.indoor_rules.specs.declared.plan.Release.{Release}
-use Rattle.indoor_rules.specs.declared.plan.Plan.{Plan}
-use Rattle.indoor_rules.specs.declared.phase.Stand.{Stand}
-use Rattle.indoor_rules.specs.declared.step.Step.{Step}
+use Rattle.indoor_phases.specs.declared.plan.Release.{Release}
+use Rattle.indoor_phases.specs.declared.plan.Plan.{Plan}
+use Rattle.indoor_phases.specs.declared.phase.Stand.{Stand}
+use Rattle.indoor_phases.specs.declared.step.Step.{Step}
 
 pub one-newer : (release : Release) (reported : Identity) (r r′ : Bool) → r ≡ newerOf release reported → r′ ≡ newerOf release reported → r ≡ r′
 one-newer release reported r r′ p q = only p q

@@ -1,5 +1,5 @@
 // Whether the file is newer than what the receiver reports (01, The indoor end's phases).
-use indoor_rules::plan::Release;
+use indoor_phases::plan::Release;
 use wire::response::Identity;
 ghost use mathlib.Core.Path.{_≡_};
 ghost use Rattle.indoor_rules.specs.Newer.{newerOf};

@@ -1,12 +1,12 @@
 // What the indoor end does with a well-formed response, by its phase (01, The indoor end's phases).
 use crate::compare::newer;
-use indoor_rules::answer::Answer;
-use indoor_rules::phase::Phase;
-use indoor_rules::phase::Progress;
-use indoor_rules::phase::Reason;
-use indoor_rules::phase::Stand;
-use indoor_rules::plan::Plan;
-use indoor_rules::step::Step;
+use indoor_phases::answer::Answer;
+use indoor_phases::phase::Phase;
+use indoor_phases::phase::Progress;
+use indoor_phases::phase::Reason;
+use indoor_phases::phase::Stand;
+use indoor_phases::plan::Plan;
+use indoor_phases::step::Step;
 use wire::codes;
 use wire::response::Identity;
 use wire::response::Response;

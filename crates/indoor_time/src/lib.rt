@@ -1,17 +1,17 @@
 // What the indoor end decides when time passes. Nothing here touches memory (01, The indoor end's phases).
-use indoor_rules::answer::Answer;
-use indoor_rules::phase::Phase;
-use indoor_rules::phase::Progress;
-use indoor_rules::phase::Reason;
-use indoor_rules::phase::Stand;
-use indoor_rules::plan::Plan;
-use indoor_rules::step::Step;
+use indoor_phases::answer::Answer;
+use indoor_phases::phase::Phase;
+use indoor_phases::phase::Progress;
+use indoor_phases::phase::Reason;
+use indoor_phases::phase::Stand;
+use indoor_phases::plan::Plan;
+use indoor_phases::step::Step;
 use silence::Event;
 use silence::Grown;
 ghost use mathlib.Core.Path.{_≡_};
-ghost use Rattle.indoor_rules.specs.Phase.{stands};
-ghost use Rattle.indoor_rules.specs.declared.answer.Answer.the-variants.{Passed};
-ghost use Rattle.indoor_rules.specs.Step.{step};
+ghost use Rattle.indoor_phases.specs.Phase.{stands};
+ghost use Rattle.indoor_phases.specs.declared.answer.Answer.the-variants.{Passed};
+ghost use Rattle.indoor_phases.specs.Step.{step};
 ghost use Rattle.indoor_rules.specs.Time.{grows, resentOf, expiredOf, resendsOf, expiresOf, initiatePassOf, transferPassOf, validatePassOf, passedOf, passOf};
 
 pub fn pass(plan: Plan, stand: Stand, elapsed: u16) -> Step

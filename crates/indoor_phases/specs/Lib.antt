@@ -1,0 +1,3 @@
+pub mod Phase
+pub mod Answer
+pub mod Step

@@ -1,0 +1,129 @@
+-- What time does to the indoor end, said back in the paper's own numbers (01, The indoor end's phases; 01, Sizes and numbers).
+use Prim.Native.Nat.{ℕ, _+_, _-_, _<_, _≤_}
+use mathlib.Core.Bool.{Bool}
+use mathlib.Core.Path.{_≡_, refl}
+use native.Mathlib.Omega.{arith}
+use borrow.Author.Tests.{ne-eqb, lt-ltb, le-ltb}
+use Rattle.basis.specs.Pick.{pick}
+use Rattle.silence.specs.Expiry.{grownOf}
+use Rattle.silence.specs.declared.Grown.{Grown}
+use Rattle.silence.specs.declared.Event.{Event}
+use Rattle.silence.specs.declared.Event.the-variants.{Quiet, Resend, NoneLeft}
+use Rattle.silence.proofs.Laws.{below-quiet, left-resends, none-left-ends, limit-expires, many-limits}
+use Rattle.indoor_phases.specs.Phase.{progress, stands}
+use Rattle.indoor_phases.specs.Step.{step, emptiedBy}
+use Rattle.indoor_rules.specs.Time.{resentOf, expiredOf, resendsOf, expiresOf, initiatePassOf, transferPassOf, validatePassOf, passedOf, passOf}
+use Rattle.indoor_phases.specs.declared.plan.Plan.{Plan}
+use Rattle.indoor_phases.specs.declared.phase.Reason.{Reason}
+use Rattle.indoor_phases.specs.declared.phase.Reason.the-variants.{Silence}
+use Rattle.indoor_phases.specs.declared.phase.Phase.{Phase}
+use Rattle.indoor_phases.specs.declared.phase.Phase.the-variants.{Identify, Initiate, Transfer, Validate, Done, Failed}
+use Rattle.indoor_phases.specs.declared.answer.Answer.{Answer}
+use Rattle.indoor_phases.specs.declared.answer.Answer.the-variants as Ans
+use Rattle.indoor_phases.specs.declared.step.Step.{Step}
+use Rattle.indoor_rules.proofs.Orders.{failed}
+
+-- The phases that send their request again, and what they send.
+abbrev pub Resends : Phase → Answer → Type 0
+Resends Identify again = again ≡ Ans.Identifying
+Resends (Initiate left) again = (left ≡ 0) × (again ≡ Ans.Initiating)
+Resends (Transfer p) again = ⊥
+Resends (Validate left) again = (left ≡ 0) × (again ≡ Ans.Validating)
+Resends Done again = ⊥
+Resends (Failed reason) again = ⊥
+
+expired-40 : (phase : Phase) (g : Grown) (event : Event) → (event ≡ Quiet → ⊥) → expiredOf phase g event ≡ failed Silence
+unfolding expiredOf
+expired-40 phase g Quiet h = absurd (h refl)
+expired-40 phase g Resend h = refl
+expired-40 phase g NoneLeft h = refl
+
+module _ (plan : Plan) (silence resends elapsed : ℕ) where
+  abbrev then : Phase → Step
+  then phase = passOf plan (stands phase silence resends) elapsed
+
+  -- Silence doesn't grow in a wait.
+  module _ (left : ℕ) (below : elapsed < left) where
+    pub initiate-still : then (Initiate left) ≡ step (stands (Initiate (left - elapsed)) silence resends) Ans.Passed
+    unfolding passedOf initiatePassOf pick
+    initiate-still = rw (ne-eqb left 0 (λ e. omega arith), lt-ltb elapsed left below)
+
+    pub transfer-still : (asked : ℕ) (emptied : Bool)
+        → then (Transfer (progress asked left emptied)) ≡ step (stands (Transfer (progress asked (left - elapsed) emptied)) silence resends) Ans.Passed
+    unfolding passedOf transferPassOf pick
+    transfer-still asked emptied = rw (ne-eqb left 0 (λ e. omega arith), lt-ltb elapsed left below)
+
+    pub validate-still : then (Validate left) ≡ step (stands (Validate (left - elapsed)) silence resends) Ans.Passed
+    unfolding passedOf validatePassOf pick
+    validate-still = rw (ne-eqb left 0 (λ e. omega arith), lt-ltb elapsed left below)
+
+  -- The call that ends a wait sends, and its leftover time is dropped; this isn't a resend.
+  module _ (left : ℕ) (some : 0 < left) (over : left ≤ elapsed) where
+    pub initiate-sends : then (Initiate left) ≡ step (stands (Initiate 0) 0 resends) Ans.Initiating
+    unfolding passedOf initiatePassOf pick
+    initiate-sends = rw (ne-eqb left 0 (λ e. omega arith), le-ltb elapsed left over)
+
+    pub transfer-sends : (asked : ℕ) (emptied : Bool)
+        → then (Transfer (progress asked left emptied)) ≡ step (stands (Transfer (progress asked 0 (emptiedBy plan asked emptied))) 0 resends) (Ans.Sending asked)
+    unfolding passedOf transferPassOf pick
+    transfer-sends asked emptied = rw (ne-eqb left 0 (λ e. omega arith), le-ltb elapsed left over)
+
+    pub validate-sends : then (Validate left) ≡ step (stands (Validate 0) 0 resends) Ans.Validating
+    unfolding passedOf validatePassOf pick
+    validate-sends = rw (ne-eqb left 0 (λ e. omega arith), le-ltb elapsed left over)
+
+  listens : (phase : Phase) (again : Answer) → Resends phase again → then phase ≡ resendsOf plan (stands phase silence resends) again elapsed
+  unfolding passedOf initiatePassOf validatePassOf pick
+  listens Identify again e = rw e
+  listens (Initiate left) again h = rw (h .0, h .1)
+  listens (Transfer p) again h = absurd h
+  listens (Validate left) again h = rw (h .0, h .1)
+  listens Done again h = absurd h
+  listens (Failed reason) again h = absurd h
+
+  module _ (phase : Phase) (again : Answer) (r : Resends phase again) where
+    pub quiet : silence + elapsed < plan .settings .limit → then phase ≡ step (stands phase (silence + elapsed) resends) Ans.Passed
+    unfolding resendsOf resentOf
+    quiet h = rw (listens phase again r, below-quiet silence elapsed resends (plan .settings) h)
+
+    -- The request is resent at each silence limit while resends are left ..
+    pub resent : plan .settings .limit ≤ silence + elapsed → resends < plan .settings .resends → then phase ≡ step (stands phase 0 (resends + 1)) again
+    unfolding resendsOf resentOf
+    resent h k = rw (listens phase again r, left-resends silence elapsed resends (plan .settings) h k)
+
+    -- .. with none left: 40.
+    pub none-left-40 : plan .settings .limit ≤ silence + elapsed → plan .settings .resends ≤ resends → then phase ≡ failed Silence
+    unfolding resendsOf resentOf
+    none-left-40 h k = rw (listens phase again r, none-left-ends silence elapsed resends (plan .settings) h k)
+
+  module _ (asked : ℕ) (emptied : Bool) where
+    pub transfer-quiet : silence + elapsed < plan .settings .limit
+        → then (Transfer (progress asked 0 emptied)) ≡ step (stands (Transfer (progress asked 0 emptied)) (silence + elapsed) resends) Ans.Passed
+    unfolding passedOf transferPassOf expiresOf expiredOf pick
+    transfer-quiet h = rw (below-quiet silence elapsed resends (plan .settings) h)
+
+    -- The first expiry in Transfer: 40, whatever resends are left.
+    pub transfer-40 : plan .settings .limit ≤ silence + elapsed → then (Transfer (progress asked 0 emptied)) ≡ failed Silence
+    unfolding passedOf transferPassOf expiresOf pick
+    transfer-40 h =
+        let g = grownOf silence elapsed resends (plan .settings) in
+        expired-40 (Transfer (progress asked 0 emptied)) g (g .event) (limit-expires silence elapsed resends (plan .settings) h)
+
+  -- In Done and Failed time does nothing.
+  pub done-still : then Done ≡ step (stands Done silence resends) Ans.Passed
+  unfolding passedOf
+  done-still = refl
+
+  pub failed-still : (reason : Reason) → then (Failed reason) ≡ step (stands (Failed reason) silence resends) Ans.Passed
+  unfolding passedOf
+  failed-still reason = refl
+
+-- One call that passes several limits is one expiry: it does what a call does that reaches the first exactly.
+pub many : (plan : Plan) (silence resends e e′ : ℕ) (phase : Phase) (again : Answer)
+    → Resends phase again
+    → plan .settings .limit ≤ silence + e
+    → plan .settings .limit ≤ silence + e′
+    → passOf plan (stands phase silence resends) e ≡ passOf plan (stands phase silence resends) e′
+unfolding resendsOf
+many plan silence resends e e′ phase again r h h′ =
+    rw (listens plan silence resends e phase again r, listens plan silence resends e′ phase again r, many-limits silence resends e e′ (plan .settings) h h′)
