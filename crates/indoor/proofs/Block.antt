@@ -1,6 +1,6 @@
 -- A DATA request in a buffer that has room for any message: its head of four bytes, and then the block behind it.
-use Prim.Native.Nat.{ℕ, _≤_}
-use mathlib.Core.Path.{_≡_, refl}
+use Prim.Native.Nat.{ℕ, _+_, _≤_}
+use mathlib.Core.Path.{_≡_, refl, ap}
 use mathlib.Core.List.{List}
 use native.Mathlib.Omega.{arith}
 use lib.ListN.{length}
@@ -34,3 +34,12 @@ module _ (file : List ℕ) (number : ℕ) where
       let four = head-four (length (blockAt file number)) in
       let most = block-most in
       led-two (requestBytes (Req.Data number (length (blockAt file number)))) (blockAt file number) out (omega arith)
+
+-- Head and block together are a message's length at most, whichever block it is.
+pub together-most : (file part : List ℕ) (place number head : ℕ) → part ≡ blockAt file place → head ≡ length (requestBytes (Req.Data number (length part)))
+    → head + length part ≤ 260
+together-most file part place number head e h =
+    let most = block-most file place in
+    let same = ap length e in
+    let four = head-four file number (length part) in
+    omega arith

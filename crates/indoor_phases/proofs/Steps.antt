@@ -31,13 +31,6 @@ pub last-least : (plan : Plan) (n : ℕ) → plan .length ≤ 256 * n → last p
 last-least plan n h = least (plan .length) n h
 
 module _ (plan : Plan) (number : ℕ) (emptied : Bool) where
-  pub emptied-only : emptiedBy plan number emptied ≡ true → (emptied ≡ true) ⊎ (number ≡ last plan)
-  unfolding emptiedBy
-  emptied-only =
-      pick-all (λ (t : Bool). t ≡ true → (emptied ≡ true) ⊎ (number ≡ last plan)) emptied _ _
-      (λ e _. inl e)
-      (λ _ t. inr (eqb-true number (last plan) t))
-
   pub emptied-stays : emptied ≡ true → emptiedBy plan number emptied ≡ true
   unfolding emptiedBy pick
   emptied-stays e = rw e
@@ -45,6 +38,13 @@ module _ (plan : Plan) (number : ℕ) (emptied : Bool) where
   pub emptied-last : number ≡ last plan → emptiedBy plan number emptied ≡ true
   unfolding emptiedBy
   emptied-last h = pick-all (λ (t : Bool). t ≡ true) emptied _ _ (λ _. refl) (λ _. eq-eqb number (last plan) h)
+
+  pub emptied-only : emptiedBy plan number emptied ≡ true → (emptied ≡ true) ⊎ (number ≡ last plan)
+  unfolding emptiedBy
+  emptied-only =
+      pick-all (λ (t : Bool). t ≡ true → (emptied ≡ true) ⊎ (number ≡ last plan)) emptied _ _
+      (λ e _. inl e)
+      (λ _ t. inr (eqb-true number (last plan) t))
 
   -- A block that has gone out leaves no wait.
   pub sent-rests : sent plan number emptied ≡ Transfer (progress number 0 (emptiedBy plan number emptied))

@@ -57,25 +57,10 @@ fn ok(status: u8) -> bool
 fn identify(plan: Plan, stand: Stand, response: Response) -> Step
     ensures { λ r. ⌜ r ≡ identifyOf plan stand response ⌝ }
 {
-    match response {
-        Response::GetFwId { status, identity } => identified(plan, status, identity),
-        Response::Initiate {
-            status: _,
-            wait: _,
-            size: _,
-        } => passes_over(stand),
-        Response::Data {
-            status: _,
-            wait: _,
-            number: _,
-        } => passes_over(stand),
-        Response::Validate {
-            status: _,
-            wait: _,
-            success: _,
-        } => passes_over(stand),
-        Response::NotBuilt => passes_over(stand),
-    }
+    let Response::GetFwId { status, identity } = response else {
+        return passes_over(stand);
+    };
+    identified(plan, status, identity)
 }
 
 fn identified(plan: Plan, status: u8, reported: Identity) -> Step
@@ -100,24 +85,10 @@ fn compared(plan: Plan, reported: Identity) -> Step
 fn initiate(plan: Plan, stand: Stand, response: Response) -> Step
     ensures { λ r. ⌜ r ≡ initiateOf plan stand response ⌝ }
 {
-    match response {
-        Response::GetFwId {
-            status: _,
-            identity: _,
-        } => passes_over(stand),
-        Response::Initiate { status, wait, size } => initiated(plan, status, wait, size),
-        Response::Data {
-            status: _,
-            wait: _,
-            number: _,
-        } => passes_over(stand),
-        Response::Validate {
-            status: _,
-            wait: _,
-            success: _,
-        } => passes_over(stand),
-        Response::NotBuilt => passes_over(stand),
-    }
+    let Response::Initiate { status, wait, size } = response else {
+        return passes_over(stand);
+    };
+    initiated(plan, status, wait, size)
 }
 
 fn initiated(plan: Plan, status: u8, wait: u8, size: u32) -> Step
@@ -161,28 +132,15 @@ fn sends(plan: Plan, number: u16, emptied: bool) -> Step
 fn transfer(plan: Plan, stand: Stand, p: Progress, response: Response) -> Step
     ensures { λ r. ⌜ r ≡ transferOf plan stand p response ⌝ }
 {
-    match response {
-        Response::GetFwId {
-            status: _,
-            identity: _,
-        } => passes_over(stand),
-        Response::Initiate {
-            status: _,
-            wait: _,
-            size: _,
-        } => passes_over(stand),
-        Response::Data {
-            status,
-            wait,
-            number,
-        } => receipt(plan, p.emptied, status, wait, number),
-        Response::Validate {
-            status: _,
-            wait: _,
-            success: _,
-        } => passes_over(stand),
-        Response::NotBuilt => passes_over(stand),
-    }
+    let Response::Data {
+        status,
+        wait,
+        number,
+    } = response
+    else {
+        return passes_over(stand);
+    };
+    receipt(plan, p.emptied, status, wait, number)
 }
 
 fn receipt(plan: Plan, emptied: bool, status: u8, wait: u8, number: u16) -> Step
@@ -243,28 +201,15 @@ fn block_asked(plan: Plan, emptied: bool, wait: u8, number: u16) -> Step
 fn validate(stand: Stand, response: Response) -> Step
     ensures { λ r. ⌜ r ≡ validateOf stand response ⌝ }
 {
-    match response {
-        Response::GetFwId {
-            status: _,
-            identity: _,
-        } => passes_over(stand),
-        Response::Initiate {
-            status: _,
-            wait: _,
-            size: _,
-        } => passes_over(stand),
-        Response::Data {
-            status: _,
-            wait: _,
-            number: _,
-        } => passes_over(stand),
-        Response::Validate {
-            status,
-            wait,
-            success,
-        } => validated(status, wait, success),
-        Response::NotBuilt => passes_over(stand),
-    }
+    let Response::Validate {
+        status,
+        wait,
+        success,
+    } = response
+    else {
+        return passes_over(stand);
+    };
+    validated(status, wait, success)
 }
 
 fn validated(status: u8, wait: u8, success: bool) -> Step

@@ -1,18 +1,20 @@
-// What a session's lines work on: the session, and how much of the two memories is lent to it.
+// What a session's lines work on: the sessions of both ends, and how much memory is lent to each.
 use crate::say;
+use indoor::Indoor;
 use receiver::Started;
 ghost use Rattle.io.specs.Counts.{Counts};
 
-// One byte more than the largest image, so that a script can lend too much (01, Sizes and numbers).
-pub(crate) const IMAGE: usize = 1048576;
+// One byte more than the largest image or file, so that a script can lend too much (01, Sizes and numbers).
+pub(crate) const MEMORY: usize = 1048576;
 
 pub(crate) const BUFFER: usize = 320;
 
 // What stands in the image at first, and in the buffer before every call, so that what is written shows.
 pub(crate) const UNWRITTEN: u8 = 0xEE;
 
+// `memory` is of the image or of the file.
 pub(crate) struct Lent {
-    pub image: usize,
+    pub memory: usize,
     pub buffer: usize,
 }
 
@@ -20,22 +22,64 @@ pub(crate) struct Lent {
 pub(crate) struct Bench {
     pub session: Started,
     pub lent: Lent,
+    pub indoors: Indoors,
+}
+
+pub(crate) struct Indoors {
+    pub session: Session,
+    pub lent: Lent,
+}
+
+pub(crate) enum Session {
+    Of(Indoor),
+    Nothing,
 }
 
 impl Bench {
     pub(crate) fn empty() -> Bench {
+        let lent = Lent {
+            memory: 0,
+            buffer: 0,
+        };
         Bench {
             session: Started::Refused,
-            lent: Lent {
-                image: 0,
-                buffer: 0,
+            lent,
+            indoors: Indoors {
+                session: Session::Nothing,
+                lent,
             },
         }
     }
 
     pub(crate) fn with(self, session: Started) -> Bench {
         let lent = self.lent;
-        Bench { session, lent }
+        let indoors = self.indoors;
+        Bench {
+            session,
+            lent,
+            indoors,
+        }
+    }
+
+    // The receiver borrows so much from here on.
+    pub(crate) fn lending(self, lent: Lent) -> Bench {
+        let session = self.session;
+        let indoors = self.indoors;
+        Bench {
+            session,
+            lent,
+            indoors,
+        }
+    }
+
+    pub(crate) fn with_indoors(self, indoors: Indoors) -> Bench {
+        let session = self.session;
+        let lent = self.lent;
+        Bench {
+            session,
+            lent,
+            indoors,
+        }
     }
 
     // After a line that changes nothing here.

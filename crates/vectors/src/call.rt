@@ -50,7 +50,7 @@ fn ask(words: &[u8], receiver: Receiver, image: &mut [u8], buffer: &mut [u8]) ->
         return Called::NotUnderstood;
     };
     let given = Given {
-        readiness: readiness.value as u8,
+        readiness: readiness.byte(),
         verdict,
     };
     spelled(&words[end..], given, receiver, image, buffer)
@@ -115,7 +115,7 @@ fn time(words: &[u8], receiver: Receiver, buffer: &mut [u8]) -> Called {
     if !elapsed.ends(words) {
         return Called::NotUnderstood;
     }
-    Called::Ended(receiver.time(elapsed.value as u16, buffer))
+    Called::Ended(receiver.time(elapsed.word(), buffer))
 }
 
 fn sum(words: &[u8], receiver: Receiver, image: &[u8]) -> Called {

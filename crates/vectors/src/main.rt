@@ -1,7 +1,15 @@
-// Reads a script of messages and sessions, and prints behind each line what came of it (001 chapter 5; 01, The receiver's phases).
+// Reads a script of messages and sessions, and prints behind each line what came of it
+// (001 chapter 5; 01, The receiver's phases; 01, The indoor end's phases).
 mod bench;
 mod call;
+mod file;
 mod hex;
+mod indoor_call;
+mod indoor_outcome;
+mod indoor_phase;
+mod indoor_session;
+mod indoor_word;
+mod lend;
 mod memory;
 mod message;
 mod number;
@@ -18,7 +26,7 @@ mod written;
 
 use bench::BUFFER;
 use bench::Bench;
-use bench::IMAGE;
+use bench::MEMORY;
 use bench::UNWRITTEN;
 use script::Varied;
 use script::Word;
@@ -28,45 +36,53 @@ ghost use lib.ListN.{length};
 fn main() {
     let mut text = io::large_buffer();
     let n = io::read_full(libc::STDIN_FILENO, &mut text);
-    let mut image = [UNWRITTEN; IMAGE];
+    let mut file = [UNWRITTEN; MEMORY];
+    let mut image = [UNWRITTEN; MEMORY];
     let mut buffer = [UNWRITTEN; BUFFER];
-    over(&text[..n], &mut image, &mut buffer);
+    over(&text[..n], &mut file, &mut image, &mut buffer);
 }
 
-// Here the two arrays become slices: their lengths are known from their types, and no proof counts a million bytes.
-fn over(s: &[u8], image: &mut [u8; IMAGE], buffer: &mut [u8; BUFFER])
+// Here the arrays become slices: their lengths are known from their types, and no proof counts a million bytes.
+fn over(s: &[u8], file: &mut [u8; MEMORY], image: &mut [u8; MEMORY], buffer: &mut [u8; BUFFER])
     requires { ⌜ length (now s) ≤ 65536 ⌝ }
 {
-    lines(s, image, buffer);
+    file::fill(file);
+    lines(s, file, image, buffer);
 }
 
-fn lines(s: &[u8], image: &mut [u8], buffer: &mut [u8])
+fn lines(s: &[u8], file: &[u8], image: &mut [u8], buffer: &mut [u8])
     requires { ⌜ length (now s) ≤ 65536 ⌝ }
 {
     let mut bench = Bench::empty();
     let mut at = 0;
     while at < s.len() {
         let end = bytes::scan::find(s, at, s.len(), b'\n');
-        bench = line(&s[at..end], bench, image, buffer);
+        bench = line(&s[at..end], bench, file, image, buffer);
         at = end + 1;
     }
 }
 
 // A heading stands for itself; every other line has its answer behind it.
-fn line(s: &[u8], bench: Bench, image: &mut [u8], buffer: &mut [u8]) -> Bench {
+fn line(s: &[u8], bench: Bench, file: &[u8], image: &mut [u8], buffer: &mut [u8]) -> Bench {
     say::text(s);
     if script::is_heading(s) {
         say::text(b"\n");
         return bench;
     }
     say::text(b" :");
-    let after = answer(s, bench, image, buffer);
+    let after = answer(s, bench, file, image, buffer);
     say::text(b"\n");
     after
 }
 
+// The indoor end's lines know nothing of the receiver.
+fn indoors(words: &[u8], bench: Bench, file: &[u8], buffer: &mut [u8]) -> Bench {
+    let indoors = bench.indoors;
+    bench.with_indoors(indoor_session::run(words, indoors, file, buffer))
+}
+
 // The bench as the line leaves it; only a session's line changes it.
-fn answer(line: &[u8], bench: Bench, image: &mut [u8], buffer: &mut [u8]) -> Bench {
+fn answer(line: &[u8], bench: Bench, file: &[u8], image: &mut [u8], buffer: &mut [u8]) -> Bench {
     let end = bytes::scan::find(line, 0, line.len(), b' ');
     let word = script::word_of(&line[0..end]);
     let rest = &line[end..];
@@ -74,6 +90,7 @@ fn answer(line: &[u8], bench: Bench, image: &mut [u8], buffer: &mut [u8]) -> Ben
         Word::Message { asking } => bench.heard(message::answer(Varied::Nothing, asking, rest)),
         Word::Sweep(varied) => bench.heard(message::directed(varied, rest)),
         Word::Session(act) => session::run(act, rest, bench, image, buffer),
+        Word::Indoor => indoors(rest, bench, file, buffer),
         Word::Other => bench.heard(false),
     }
 }

@@ -5,7 +5,7 @@ use crate::written;
 
 // From a place on, at most as many as the buffer has. Bytes that the memory does not have are not understood.
 pub(crate) fn print(words: &[u8], memory: &[u8]) -> bool {
-    let from = Field::none().next(words, bench::IMAGE);
+    let from = Field::none().next(words, bench::MEMORY);
     let count = from.next(words, bench::BUFFER);
     if !count.ends(words) {
         return false;

@@ -93,6 +93,16 @@ impl Field {
         }
     }
 
+    // The value of a number that was asked for with at most 8 bits.
+    pub(crate) fn byte(self) -> u8 {
+        (self.value % 256) as u8
+    }
+
+    // The value of a number that was asked for with at most 16 bits.
+    pub(crate) fn word(self) -> u16 {
+        (self.value % 65536) as u16
+    }
+
     // Whether the line's words are numbers up to this one, and it is the last.
     pub(crate) fn ends(self, words: &[u8]) -> bool {
         self.known && self.end == words.len()

@@ -12,6 +12,7 @@ pub(crate) enum Word {
     Message { asking: bool },
     Sweep(Varied),
     Session(Act),
+    Indoor,
     Other,
 }
 
@@ -44,6 +45,9 @@ pub(crate) fn word_of(s: &[u8]) -> Word {
     }
     if check::same(s, b"response") {
         return Word::Message { asking: false };
+    }
+    if check::same(s, b"indoor") {
+        return Word::Indoor;
     }
     sweep_of(s)
 }

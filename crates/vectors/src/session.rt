@@ -4,6 +4,8 @@ use crate::bench::Bench;
 use crate::bench::Lent;
 use crate::call;
 use crate::call::Called;
+use crate::lend;
+use crate::lend::Lending;
 use crate::memory;
 use crate::number::Field;
 use crate::outcome;
@@ -62,38 +64,22 @@ fn start(words: &[u8], bench: Bench) -> Bench {
     if !capacity.ends(words) {
         return bench.heard(false);
     }
-    let session = Receiver::new(
-        limit.value as u16,
-        resends.value as u8,
-        identity(),
-        capacity.value,
-    );
+    let session = Receiver::new(limit.word(), resends.byte(), identity(), capacity.value);
     outcome::print_start(session);
-    Bench {
-        session,
-        lent: Lent {
-            image: capacity.value,
-            buffer: codes::LONGEST,
-        },
-    }
+    let lent = Lent {
+        memory: capacity.value,
+        buffer: codes::LONGEST,
+    };
+    bench.with(session).lending(lent)
 }
 
-// How many bytes the calls from here on borrow: for 28 and 27.
 fn lend(words: &[u8], bench: Bench) -> Bench {
-    let image = Field::none().next(words, bench::IMAGE);
-    let buffer = image.next(words, bench::BUFFER);
-    if !buffer.ends(words) {
+    let lending = lend::lent_of(words);
+    let Lending::Of(lent) = lending else {
         return bench.heard(false);
-    }
-    let session = bench.session;
+    };
     say::text(b" lent");
-    Bench {
-        session,
-        lent: Lent {
-            image: image.value,
-            buffer: buffer.value,
-        },
-    }
+    bench.lending(lent)
 }
 
 // The call gets the lent parts alone.
@@ -105,7 +91,7 @@ fn called(call: Call, words: &[u8], bench: Bench, image: &mut [u8], buffer: &mut
     };
     script::fill(buffer, 0, bench::UNWRITTEN, bench::BUFFER);
     let room = bench::part(bench.lent.buffer, buffer);
-    let capacity = bench::part(bench.lent.image, image);
+    let capacity = bench::part(bench.lent.memory, image);
     let called = call::run(
         call,
         words,

@@ -10,10 +10,10 @@ transfer-spec =
     tie.close
     (tie.spec
     (λ c κs. search needs)
-    (λ c. search (tests, c .expires .ensures, c .before .if1 .taken))
+    (λ c. search tests)
     (λ c. search needs)
     (λ c κs. search needs)
-    (λ c. search (tests, c .at .ensures, c .before .before .if2 .taken, c .before .before .before .before .if1 .left))
+    (λ c. search tests)
     (λ c κs. search needs)
     (λ c κs. search needs)
-    (λ c. search (tests, c .at2 .ensures, ← (c .before .sent .ensures), c .before .before .if2 .left, c .before .before .before .before .if1 .left)))
+    (λ c. search (tests, ← (c .before .sent .ensures))))

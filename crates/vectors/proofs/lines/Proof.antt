@@ -6,10 +6,10 @@ use Rattle.vectors.proofs.lines.Statement.{statement}
 use Rattle.vectors.proofs.lines.Tie as tie
 
 abbrev Inv-loop : tie.InvT-loop
-Inv-loop s image₀ buffer₀ bench₀ at₀ image buffer bench at = (length image ≡ length image₀) × (length buffer ≡ length buffer₀)
+Inv-loop s file image₀ buffer₀ bench₀ at₀ image buffer bench at = (length image ≡ length image₀) × (length buffer ≡ length buffer₀)
 
 abbrev μ-loop : tie.MeasureT-loop
-μ-loop s image₀ buffer₀ bench₀ at₀ image buffer bench at = length s - at
+μ-loop s file image₀ buffer₀ bench₀ at₀ image buffer bench at = length s - at
 
 pub lines-spec : {M : Type 1} → statement M
 lines-spec =

@@ -11,6 +11,6 @@ compared-spec =
     (tie.spec
     (λ c κs. search needs)
     (λ c κs. search needs)
-    (λ c. search (tests, c .goes .ensures, c .before .if1 .taken, ← (c .before .before .newer .ensures)))
+    (λ c. search (tests, ← (c .before .before .newer .ensures)))
     (λ c κs. search needs)
-    (λ c. search (tests, c .fails .ensures, c .before .if1 .left, ← (c .before .before .newer .ensures))))
+    (λ c. search (tests, ← (c .before .before .newer .ensures))))

@@ -11,6 +11,6 @@ ended-spec =
     (tie.spec
     (λ c κs. search needs)
     (λ c κs. search needs)
-    (λ c. search (tests, c .goes .ensures, c .before .if1 .taken, ← (c .before .before .last .ensures)))
+    (λ c. search (tests, ← (c .before .before .last .ensures)))
     (λ c κs. search needs)
-    (λ c. search (tests, c .fails .ensures, c .before .if1 .left, ← (c .before .before .last .ensures))))
+    (λ c. search (tests, ← (c .before .before .last .ensures))))

@@ -11,6 +11,6 @@ receipt-spec =
     (tie.spec
     (λ c κs. search needs)
     (λ c κs. search needs)
-    (λ c. search (tests, c .numbered .ensures, c .before .if1 .taken, ← (c .before .before .ok .ensures)))
+    (λ c. search (tests, ← (c .before .before .ok .ensures)))
     (λ c κs. search needs)
-    (λ c. search (tests, c .fails .ensures, c .before .if1 .left, ← (c .before .before .ok .ensures))))
+    (λ c. search (tests, ← (c .before .before .ok .ensures))))

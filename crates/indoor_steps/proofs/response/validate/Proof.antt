@@ -1,4 +1,6 @@
+use mathlib.Core.Path.{_∙_}
 use Rattle.indoor_rules.specs.Response.{validateOf}
+use Rattle.indoor_steps.proofs.Others.{no-verdict}
 use borrow.Author.Needs.{needs}
 use Rattle.indoor_steps.proofs.response.validate.Statement.{statement}
 use Rattle.indoor_steps.proofs.response.validate.Tie as tie
@@ -10,16 +12,6 @@ validate-spec =
     (tie.spec
     (λ c. search needs)
     (λ c κs. search needs)
-    (λ c. search needs)
+    (λ c. let a = c .before .before .args in c .passes-over .ensures ∙ no-verdict (a .stand) (a .response) (c .before .match .keys2))
     (λ c κs. search needs)
-    (λ c. search needs)
-    (λ c κs. search needs)
-    (λ c. search needs)
-    (λ c κs. search needs)
-    (λ c. search needs)
-    (λ c κs. search needs)
-    (λ c. rw (c .before .enum-told .given .1) (c .passes-over .ensures))
-    (λ c. rw (c .before .enum-told2 .given .1) (c .passes-over2 .ensures))
-    (λ c. rw (c .before .enum-told3 .given .1) (c .passes-over3 .ensures))
-    (λ c. rw (c .before .before .response .given .1) (c .validated .ensures))
-    (λ c. rw (c .before .enum-told4 .given .1) (c .passes-over4 .ensures)))
+    (λ c. rw (c .before .before .response .given .1) (c .validated .ensures)))

@@ -1,0 +1,23 @@
+// The file that is lent to the indoor end. Each block differs from those beside it, and each byte shows where it lies.
+
+fn byte(at: usize) -> u8 {
+    ((at % 256 + at / 256) % 256) as u8
+}
+
+pub(crate) fn fill(file: &mut [u8]) {
+    for i in 0..file.len() {
+        file[i] = byte(i);
+    }
+}
+
+// Whether these are the file's bytes from this block's place on. They are worked out anew, and not
+// looked up in the memory that was lent.
+pub(crate) fn is_block(number: u16, block: &[u8]) -> bool {
+    let from = 256 * number as usize;
+    for i in 0..block.len() {
+        if block[i] != byte(from + i) {
+            return false;
+        }
+    }
+    true
+}

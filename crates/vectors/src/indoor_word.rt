@@ -1,0 +1,68 @@
+// The words behind `indoor` that say what a line does (01, The indoor end's phases).
+ghost use Prim.Native.Nat.{_≤_};
+ghost use lib.ListN.{length};
+
+pub(crate) enum Act {
+    Lend,
+    Try,
+    Call(Call),
+    Other,
+}
+
+pub(crate) enum Call {
+    Start,
+    Step(Step),
+}
+
+// A call of a session that there is.
+pub(crate) enum Step {
+    Response,
+    Blocks,
+    Time,
+}
+
+// The act of a line's next word, and where that word ends.
+pub(crate) struct Found {
+    pub act: Act,
+    pub end: usize,
+}
+
+pub(crate) fn next(words: &[u8]) -> Found
+    ensures { λ r. ⌜ r .end ≤ length (now (words .entry)) ⌝ }
+{
+    if words.len() == 0 {
+        return Found {
+            act: Act::Other,
+            end: 0,
+        };
+    }
+    let end = bytes::scan::find(words, 1, words.len(), b' ');
+    let act = act_of(&words[1..end]);
+    Found { act, end }
+}
+
+fn act_of(s: &[u8]) -> Act {
+    if check::same(s, b"lend") {
+        return Act::Lend;
+    }
+    if check::same(s, b"try") {
+        return Act::Try;
+    }
+    if check::same(s, b"start") {
+        return Act::Call(Call::Start);
+    }
+    step_of(s)
+}
+
+fn step_of(s: &[u8]) -> Act {
+    if check::same(s, b"response") {
+        return Act::Call(Call::Step(Step::Response));
+    }
+    if check::same(s, b"blocks") {
+        return Act::Call(Call::Step(Step::Blocks));
+    }
+    if check::same(s, b"time") {
+        return Act::Call(Call::Step(Step::Time));
+    }
+    Act::Other
+}
