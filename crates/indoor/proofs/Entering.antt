@@ -10,13 +10,16 @@ use Rattle.wire.specs.declared.response.Response.the-variants as Res
 use Rattle.wire.specs.declared.response.Parsed.the-variants.{Valid}
 use Rattle.indoor_phases.specs.Step.{last}
 use Rattle.indoor_rules.specs.Response.{decideOf}
+use Rattle.indoor_rules.specs.Time.{passOf}
 use Rattle.indoor_phases.specs.declared.plan.Plan.{Plan}
 use Rattle.indoor_phases.specs.declared.phase.Reason.the-variants.{Silence}
 use Rattle.indoor_phases.specs.declared.phase.Progress.{Progress}
 use Rattle.indoor_phases.specs.declared.phase.Phase.{Phase}
 use Rattle.indoor_phases.specs.declared.phase.Phase.the-variants.{Identify, Initiate, Transfer, Validate, Done, Failed}
 use Rattle.indoor_rules.proofs.Row.{ToValidate, ToDone, Enters, decide-row}
-use Rattle.indoor_rules.proofs.Ticks.{order, pass-ticks}
+use Rattle.indoor_rules.proofs.Orders.{failed}
+use Rattle.indoor_rules.proofs.Ticks.{Expires, order, pass-ticks}
+use Rattle.indoor_phases.specs.declared.step.Step.{Step}
 use Rattle.indoor.specs.Response.{responseOf}
 use Rattle.indoor.specs.Time.{timeOf}
 use Rattle.indoor.specs.declared.session.Indoor.{Indoor}
@@ -91,6 +94,10 @@ module _ (s : Indoor) (file response out : List ℕ) where
       (λ h. inl (validating (s .stand .phase) left h))
       (λ r _ _ e h. to-validate response r e (s .plan) (s .stand .phase) (enters r (Validate left) h))
 
+pub failed-phase : (x : Step) (before : ℕ) (E : Type 0) → (order (x .stand .phase) ≡ before) ⊎ ((x ≡ failed Silence) × E) → (order (x .stand .phase) ≡ before) ⊎ (x .stand .phase ≡ Failed Silence)
+failed-phase x before E (inl e) = inl e
+failed-phase x before E (inr e) = inr (ap (λ (y : Step). y .stand .phase) (e .0))
+
 -- Time leads to no phase but Failed.
 pub time-lasts : (s : Indoor) (file : List ℕ) (elapsed : ℕ) (out : List ℕ)
     → (order (timeOf s file elapsed out .answer .state .stand .phase) ≡ order (s .stand .phase))
@@ -99,4 +106,4 @@ time-lasts s file elapsed out =
     time-walk s file elapsed out
     (λ x. (order (x .answer .state .stand .phase) ≡ order (s .stand .phase)) ⊎ (x .answer .state .stand .phase ≡ Failed Silence))
     (inl refl) (inl refl)
-    (λ _ _. pass-ticks (s .plan) (s .stand) elapsed .lasts)
+    (λ _ _. failed-phase (passOf (s .plan) (s .stand) elapsed) (order (s .stand .phase)) (Expires (s .plan) (s .stand) elapsed) (pass-ticks (s .plan) (s .stand) elapsed .lasts))

@@ -28,7 +28,7 @@ use Rattle.indoor_phases.specs.declared.phase.Phase.the-variants.{Identify, Ini
 use Rattle.indoor_phases.specs.declared.answer.Answer.the-variants.{Sending}
 use Rattle.indoor_phases.specs.declared.step.Step.{Step}
 use Rattle.indoor_rules.proofs.Row.{ToValidate, ToDone, Enters, Fit, Within, Emptied, Empties, decide-row}
-use Rattle.indoor_rules.proofs.Ticks.{order, pass-ticks}
+use Rattle.indoor_rules.proofs.Ticks.{Expires, order, pass-ticks}
 use Rattle.indoor.specs.Send.{blockBytes, sendsBytes, bytesOf}
 use Rattle.indoor.specs.Session.{doneOf}
 use Rattle.indoor.specs.Response.{responseOf}
@@ -36,6 +36,7 @@ use Rattle.indoor.specs.Time.{timeOf}
 use Rattle.indoor.specs.History.{sentAfter, AllGenuine, emptyBlock}
 use Rattle.indoor.specs.declared.session.Indoor.{Indoor}
 use Rattle.indoor.proofs.Walk.{response-walk, time-walk}
+use Rattle.indoor.proofs.Entering.{failed-phase}
 use Rattle.indoor.proofs.Genuine.{bytes-genuine}
 
 -- From the first time that the empty block goes out it is among what was written; and there is no Validate and no Done without it.
@@ -206,4 +207,4 @@ module _ (file : List ℕ) (release : Release) (words : Words (release .versions
       let row = pass-ticks (s .plan) (s .stand) elapsed in
       let x = passOf (s .plan) (s .stand) elapsed in
       done-holds x out (row .fit (h .fit)) (row .within (h .fit))
-      (ticked-emptied (s .plan) x file out sent (h .lent) (s .stand .phase) (x .stand .phase) (h .emptied) (row .lasts) (row .empties)))
+      (ticked-emptied (s .plan) x file out sent (h .lent) (s .stand .phase) (x .stand .phase) (h .emptied) (failed-phase x (order (s .stand .phase)) (Expires (s .plan) (s .stand) elapsed) (row .lasts)) (row .empties)))

@@ -17,8 +17,9 @@ use Rattle.wire.specs.Codes.{longest}
 use Rattle.wire.specs.Written.{requestBytes, bareBytes}
 use Rattle.indoor_phases.specs.declared.plan.Plan.{Plan}
 use Rattle.indoor_phases.specs.declared.plan.Release.{Release}
+use Rattle.indoor_phases.specs.declared.phase.Progress.{Progress}
 use Rattle.indoor_phases.specs.declared.phase.Phase.{Phase}
-use Rattle.indoor_phases.specs.declared.phase.Phase.the-variants.{Validate, Done}
+use Rattle.indoor_phases.specs.declared.phase.Phase.the-variants.{Transfer, Validate, Done}
 use Rattle.indoor_phases.specs.declared.answer.Answer.the-variants.{Identifying}
 use Rattle.indoor.specs.Send.{sendsBytes}
 use Rattle.indoor.specs.Start.{lengthMost, plans, begunOf, beginOf, startedOf}
@@ -27,6 +28,8 @@ use Rattle.indoor.specs.declared.session.Started.the-variants.{Made}
 use Rattle.indoor.specs.declared.session.Started.the-variants as Refused
 use Rattle.indoor.specs.History.{Reached, starts, hears, passes, AllGenuine, emptyBlock}
 use Rattle.indoor.specs.declared.session.Indoor.{Indoor}
+use Rattle.indoor_phases.specs.Step.{last}
+use Rattle.indoor_rules.proofs.Row.{Fit}
 use Rattle.indoor.proofs.Genuine.{bytes-genuine}
 use Rattle.indoor.proofs.Holds.{EmptySent, Holds, heard-holds, ticked-holds}
 
@@ -76,6 +79,9 @@ reach-holds file release s sent words (passes {s = t} {sent = before} h elapsed 
 emptied-at : (file : List ℕ) (before phase : Phase) (sent : List (List ℕ)) → before ≡ phase → EmptySent file before sent → EmptySent file phase sent
 emptied-at file before phase sent e h = rw e at h
 
+fit-at : (plan : Plan) (before phase : Phase) → before ≡ phase → Fit plan before → Fit plan phase
+fit-at plan before phase e h = rw e at h
+
 module _ (file : List ℕ) (release : Release) (s : Indoor) (sent : List (List ℕ)) (words : Words (release .versions)) (reached : Reached file release s sent) where
   -- Every request ever written is GET_FW_ID, INITIATE with the file's versions, a DATA whose number j ≤ n carries exactly block j of the
   -- file, VALIDATE or ABORT.
@@ -88,3 +94,10 @@ module _ (file : List ℕ) (release : Release) (s : Indoor) (sent : List (List �
 
   pub done-emptied : s .stand .phase ≡ Done → List·Memᴰ (emptyBlock file) sent
   done-emptied e = emptied-at file (s .stand .phase) Done sent e (reach-holds file release s sent words reached .emptied)
+
+  -- The file is 1 to 1,048,575 bytes, and the block last asked for is one of its n blocks or the empty one.
+  pub length-within : (1 ≤ length file) × (length file ≤ 1048575) × (s .plan .length ≡ length file)
+  length-within = let h = reach-holds file release s sent words reached in (h .some, h .most, h .lent)
+
+  pub asked-within : (p : Progress) → s .stand .phase ≡ Transfer p → p .asked ≤ last (s .plan)
+  asked-within p e = fit-at (s .plan) (s .stand .phase) (Transfer p) e (reach-holds file release s sent words reached .fit)

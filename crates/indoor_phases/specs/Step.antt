@@ -17,7 +17,7 @@ use Rattle.indoor_phases.specs.declared.step.Step.{Step}
 abbrev pub step : Stand → Answer → Step
 step stand answer = record { stand = stand; answer = answer }
 
--- An accepted response sets silence and resends to zero.
+-- An accepted response sets silence and resends to zero; so does whatever ends the session.
 abbrev pub goes : Phase → Answer → Step
 goes phase answer = step (stands phase 0 0) answer
 

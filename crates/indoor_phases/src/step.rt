@@ -12,7 +12,7 @@ pub struct Step {
 }
 
 impl Step {
-    // An accepted response sets silence and resends to zero.
+    // An accepted response sets silence and resends to zero; so does whatever ends the session.
     pub fn goes(phase: Phase, answer: Answer) -> Step
         ensures { λ r. ⌜ r ≡ goes phase answer ⌝ }
     {

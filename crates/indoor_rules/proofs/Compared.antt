@@ -1,7 +1,7 @@
 -- Newer, said back: vendor and product agree and the file's FWVersion1 is greater; else not (01, The indoor end's phases).
 use Prim.Native.Nat.{_<_}
 use mathlib.Core.Bool.{Bool, true, false, true≢false}
-use mathlib.Core.Path.{_≡_, sym}
+use mathlib.Core.Path.{_≡_, refl, sym}
 use borrow.Author.Tests.{eq-eqb, lt-ltb, eqb-true, ltb-true}
 use lib.Dec.{eqb}
 use Rattle.basis.specs.Pick.{pick, pick-all}
@@ -36,3 +36,11 @@ module _ (file : Release) (reported : Identity) where
   newer-yes n =
       rw (eq-eqb (file .vendor) (reported .vendor) (n .vendor), eq-eqb (file .product) (reported .product) (n .product))
       (lt-ltb (reported .versions .first) (file .versions .first) (n .version))
+
+  not-true : (b : Bool) → (b ≡ true → ⊥) → b ≡ false
+  not-true true h = absurd (h refl)
+  not-true false h = refl
+
+  -- Else not newer.
+  pub newer-no : (Newer file reported → ⊥) → newerOf file reported ≡ false
+  newer-no h = not-true (newerOf file reported) (λ t. h (newer-only t))

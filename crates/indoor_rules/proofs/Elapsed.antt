@@ -12,7 +12,7 @@ use Rattle.silence.specs.declared.Event.the-variants.{Quiet, Resend, NoneLeft}
 use Rattle.silence.proofs.Laws.{below-quiet, left-resends, none-left-ends, limit-expires, many-limits}
 use Rattle.indoor_phases.specs.Phase.{progress, stands}
 use Rattle.indoor_phases.specs.Step.{step, emptiedBy}
-use Rattle.indoor_rules.specs.Time.{resentOf, expiredOf, resendsOf, expiresOf, initiatePassOf, transferPassOf, validatePassOf, passedOf, passOf}
+use Rattle.indoor_rules.specs.Time.{resentOf, expiredOf, resendsOf, expiresOf, initiatePassOf, transferPassOf, validatePassOf, pacedOf, passedOf, passOf}
 use Rattle.indoor_phases.specs.declared.plan.Plan.{Plan}
 use Rattle.indoor_phases.specs.declared.phase.Reason.{Reason}
 use Rattle.indoor_phases.specs.declared.phase.Reason.the-variants.{Silence}
@@ -45,35 +45,35 @@ module _ (plan : Plan) (silence resends elapsed : ℕ) where
   -- Silence doesn't grow in a wait.
   module _ (left : ℕ) (below : elapsed < left) where
     pub initiate-still : then (Initiate left) ≡ step (stands (Initiate (left - elapsed)) silence resends) Ans.Passed
-    unfolding passedOf initiatePassOf pick
+    unfolding passedOf initiatePassOf pick pacedOf
     initiate-still = rw (ne-eqb left 0 (λ e. omega arith), lt-ltb elapsed left below)
 
     pub transfer-still : (asked : ℕ) (emptied : Bool)
         → then (Transfer (progress asked left emptied)) ≡ step (stands (Transfer (progress asked (left - elapsed) emptied)) silence resends) Ans.Passed
-    unfolding passedOf transferPassOf pick
+    unfolding passedOf transferPassOf pick pacedOf
     transfer-still asked emptied = rw (ne-eqb left 0 (λ e. omega arith), lt-ltb elapsed left below)
 
     pub validate-still : then (Validate left) ≡ step (stands (Validate (left - elapsed)) silence resends) Ans.Passed
-    unfolding passedOf validatePassOf pick
+    unfolding passedOf validatePassOf pick pacedOf
     validate-still = rw (ne-eqb left 0 (λ e. omega arith), lt-ltb elapsed left below)
 
   -- The call that ends a wait sends, and its leftover time is dropped; this isn't a resend.
   module _ (left : ℕ) (some : 0 < left) (over : left ≤ elapsed) where
     pub initiate-sends : then (Initiate left) ≡ step (stands (Initiate 0) 0 resends) Ans.Initiating
-    unfolding passedOf initiatePassOf pick
+    unfolding passedOf initiatePassOf pick pacedOf
     initiate-sends = rw (ne-eqb left 0 (λ e. omega arith), le-ltb elapsed left over)
 
     pub transfer-sends : (asked : ℕ) (emptied : Bool)
         → then (Transfer (progress asked left emptied)) ≡ step (stands (Transfer (progress asked 0 (emptiedBy plan asked emptied))) 0 resends) (Ans.Sending asked)
-    unfolding passedOf transferPassOf pick
+    unfolding passedOf transferPassOf pick pacedOf
     transfer-sends asked emptied = rw (ne-eqb left 0 (λ e. omega arith), le-ltb elapsed left over)
 
     pub validate-sends : then (Validate left) ≡ step (stands (Validate 0) 0 resends) Ans.Validating
-    unfolding passedOf validatePassOf pick
+    unfolding passedOf validatePassOf pick pacedOf
     validate-sends = rw (ne-eqb left 0 (λ e. omega arith), le-ltb elapsed left over)
 
   listens : (phase : Phase) (again : Answer) → Resends phase again → then phase ≡ resendsOf plan (stands phase silence resends) again elapsed
-  unfolding passedOf initiatePassOf validatePassOf pick
+  unfolding passedOf initiatePassOf validatePassOf pick pacedOf
   listens Identify again e = rw e
   listens (Initiate left) again h = rw (h .0, h .1)
   listens (Transfer p) again h = absurd h
@@ -99,12 +99,12 @@ module _ (plan : Plan) (silence resends elapsed : ℕ) where
   module _ (asked : ℕ) (emptied : Bool) where
     pub transfer-quiet : silence + elapsed < plan .settings .limit
         → then (Transfer (progress asked 0 emptied)) ≡ step (stands (Transfer (progress asked 0 emptied)) (silence + elapsed) resends) Ans.Passed
-    unfolding passedOf transferPassOf expiresOf expiredOf pick
+    unfolding passedOf transferPassOf expiresOf expiredOf pick pacedOf
     transfer-quiet h = rw (below-quiet silence elapsed resends (plan .settings) h)
 
     -- The first expiry in Transfer: 40, whatever resends are left.
     pub transfer-40 : plan .settings .limit ≤ silence + elapsed → then (Transfer (progress asked 0 emptied)) ≡ failed Silence
-    unfolding passedOf transferPassOf expiresOf pick
+    unfolding passedOf transferPassOf expiresOf pick pacedOf
     transfer-40 h =
         let g = grownOf silence elapsed resends (plan .settings) in
         expired-40 (Transfer (progress asked 0 emptied)) g (g .event) (limit-expires silence elapsed resends (plan .settings) h)

@@ -15,7 +15,7 @@ use Rattle.indoor_phases.specs.Answer.{numberOf, sendsOf}
 use Rattle.indoor_phases.specs.Step.{step, last, emptiedBy}
 use Rattle.indoor_phases.proofs.Steps.{emptied-only, emptied-stays, emptied-last}
 use Rattle.indoor_rules.specs.Newer.{newerOf}
-use Rattle.indoor_rules.specs.Response.{sends, okOf, comparedOf, identifiedOf, readyOf, offeredOf, initiatedOf, endedOf, closedOf, askedOf, numberedOf, receiptOf, judgedOf, verdictOf, validatedOf, identifyOf, initiateOf, transferOf, validateOf, decidedOf, decideOf}
+use Rattle.indoor_rules.specs.Response.{sends, okOf, whereOk, comparedOf, readyOf, offeredOf, endedOf, closedOf, askedOf, numberedOf, judgedOf, verdictOf, identifyOf, initiateOf, transferOf, validateOf, decidedOf, decideOf}
 use Rattle.indoor_phases.specs.declared.plan.Plan.{Plan}
 use Rattle.indoor_phases.specs.declared.phase.Progress.{Progress}
 use Rattle.indoor_phases.specs.declared.phase.Phase.{Phase}
@@ -205,8 +205,8 @@ module _ (plan : Plan) (silence resends : ℕ) where
   abbrev P : Phase → Response → Step → Type 0
   P before r s = Row plan (stands before silence resends) r s
 
-  identified-row : (status : ℕ) (reported : Identity) → P Identify (Res.GetFwId status reported) (identifiedOf plan status reported)
-  unfolding identifiedOf comparedOf okOf
+  identified-row : (status : ℕ) (reported : Identity) → P Identify (Res.GetFwId status reported) (whereOk status (comparedOf plan reported))
+  unfolding whereOk okOf comparedOf
   identified-row status reported = search (pick-all (P Identify (Res.GetFwId status reported)), eqb-true) depth 8
 
   ready-row : (left status wait size : ℕ) → status ≡ 0 → wait ≡ 0 → P (Initiate left) (Res.Initiate status wait size) (readyOf plan size)
@@ -227,8 +227,8 @@ module _ (plan : Plan) (silence resends : ℕ) where
         marks = emptied-last plan 0 false;
       })
 
-  initiated-row : (left status wait size : ℕ) → P (Initiate left) (Res.Initiate status wait size) (initiatedOf plan status wait size)
-  unfolding initiatedOf offeredOf okOf
+  initiated-row : (left status wait size : ℕ) → P (Initiate left) (Res.Initiate status wait size) (whereOk status (offeredOf plan wait size))
+  unfolding whereOk okOf offeredOf
   initiated-row left status wait size =
       search (pick-all (P (Initiate left) (Res.Initiate status wait size)), ready-row, eqb-true) depth 8
 
@@ -294,8 +294,8 @@ module _ (plan : Plan) (silence resends : ℕ) where
         marks = tt;
       }))
 
-  receipt-row : (p : Progress) (status wait number : ℕ) → P (Transfer p) (Res.Data status wait number) (receiptOf plan (p .emptied) status wait number)
-  unfolding receiptOf numberedOf okOf
+  receipt-row : (p : Progress) (status wait number : ℕ) → P (Transfer p) (Res.Data status wait number) (whereOk status (numberedOf plan (p .emptied) wait number))
+  unfolding whereOk okOf numberedOf
   receipt-row p status wait number =
       search (pick-all (P (Transfer p) (Res.Data status wait number)), closed-row, asked-row, eqb-true) depth 8
 
@@ -318,8 +318,8 @@ module _ (plan : Plan) (silence resends : ℕ) where
       })
       (λ _. search)
 
-  validated-row : (left status wait : ℕ) (success : Bool) → P (Validate left) (Res.Validate status wait success) (validatedOf status wait success)
-  unfolding validatedOf verdictOf okOf
+  validated-row : (left status wait : ℕ) (success : Bool) → P (Validate left) (Res.Validate status wait success) (whereOk status (verdictOf wait success))
+  unfolding whereOk okOf verdictOf
   validated-row left status wait success =
       search (pick-all (P (Validate left) (Res.Validate status wait success)), judged-row, eqb-true) depth 8
 

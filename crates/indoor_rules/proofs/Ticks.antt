@@ -13,7 +13,7 @@ use Rattle.silence.specs.declared.Event.the-variants.{Quiet, Resend, NoneLeft}
 use Rattle.indoor_phases.specs.Phase.{stands}
 use Rattle.indoor_phases.specs.Answer.{numberOf, sendsOf}
 use Rattle.indoor_phases.specs.Step.{step}
-use Rattle.indoor_rules.specs.Time.{resentOf, expiredOf, resendsOf, expiresOf, initiatePassOf, transferPassOf, validatePassOf, passedOf, passOf}
+use Rattle.indoor_rules.specs.Time.{resentOf, expiredOf, resendsOf, expiresOf, initiatePassOf, transferPassOf, validatePassOf, pacedOf, passedOf, passOf}
 use Rattle.indoor_phases.specs.declared.plan.Plan.{Plan}
 use Rattle.indoor_phases.specs.declared.phase.Reason.the-variants.{Silence}
 use Rattle.indoor_phases.specs.declared.phase.Progress.{Progress}
@@ -23,6 +23,7 @@ use Rattle.indoor_phases.specs.declared.phase.Stand.{Stand}
 use Rattle.indoor_phases.specs.declared.answer.Answer.the-variants as Ans
 use Rattle.indoor_phases.specs.declared.step.Step.{Step}
 use Rattle.indoor_phases.proofs.Steps.{emptied-stays, emptied-last}
+use Rattle.indoor_rules.proofs.Orders.{failed}
 use Rattle.indoor_rules.proofs.Row.{Ends, Fit, Within, Empties, Still, Marks, later-empties}
 
 -- Answered 0 or 40.
@@ -64,7 +65,7 @@ pub record Ticks (plan : Plan) (stand : Stand) (elapsed : ℕ) (s : Step) : Type
   pub number : ticks (numberOf (s .answer)) ≡ true
   pub rests : Rests (stand .phase) stand s
   -- Time leads to no phase but Failed, and there only by an expiry.
-  pub lasts : (order (s .stand .phase) ≡ order (stand .phase)) ⊎ (s .stand .phase ≡ Failed Silence)
+  pub lasts : (order (s .stand .phase) ≡ order (stand .phase)) ⊎ ((s ≡ failed Silence) × Expires plan stand elapsed)
   pub expired : When (eqb (numberOf (s .answer)) 40) (Expires plan stand elapsed)
   pub ends : Ends (s .answer) (s .stand)
   -- A resend is counted only by an expiry, and one call is at most one.
@@ -124,7 +125,7 @@ module _ (plan : Plan) (silence resends elapsed : ℕ) where
       (search inl) (λ at. search (inl, inr)) (λ at. search (inl, inr))
 
   initiate-ticks : (left : ℕ) → P (Initiate left) (initiatePassOf plan (stands (Initiate left) silence resends) left elapsed)
-  unfolding initiatePassOf resendsOf resentOf
+  unfolding initiatePassOf resendsOf resentOf pacedOf
   initiate-ticks left =
       let k = sums silence elapsed resends in
       pick-all (P (Initiate left)) (eqb left 0) _ _
@@ -134,7 +135,7 @@ module _ (plan : Plan) (silence resends elapsed : ℕ) where
       (λ _. pick-all (P (Initiate left)) (ltb elapsed left) _ _ (λ _. search inl) (λ _. search inl))
 
   validate-ticks : (left : ℕ) → P (Validate left) (validatePassOf plan (stands (Validate left) silence resends) left elapsed)
-  unfolding validatePassOf resendsOf resentOf
+  unfolding validatePassOf resendsOf resentOf pacedOf
   validate-ticks left =
       let k = sums silence elapsed resends in
       pick-all (P (Validate left)) (eqb left 0) _ _
@@ -144,7 +145,7 @@ module _ (plan : Plan) (silence resends elapsed : ℕ) where
       (λ _. pick-all (P (Validate left)) (ltb elapsed left) _ _ (λ _. search inl) (λ _. search inl))
 
   transfer-ticks : (p : Progress) → P (Transfer p) (transferPassOf plan (stands (Transfer p) silence resends) p elapsed)
-  unfolding transferPassOf expiresOf expiredOf
+  unfolding transferPassOf expiresOf expiredOf pacedOf
   transfer-ticks p =
       let k = sums silence elapsed resends in
       let later = later-empties plan (p .asked) (p .emptied) in
@@ -174,7 +175,7 @@ module _ (plan : Plan) (silence resends elapsed : ℕ) where
   Calm s = (s .stand .silence ≤ silence) × (s .stand .resends ≡ resends)
 
   calm : (before : Phase) → 0 < waitLeft before → Calm (passedOf plan (stands before silence resends) before elapsed)
-  unfolding passedOf initiatePassOf transferPassOf validatePassOf
+  unfolding passedOf initiatePassOf transferPassOf validatePassOf pacedOf
   calm Identify h = absurd (omega arith)
   calm (Initiate left) h =
       pick-all Calm (eqb left 0) _ _ (λ t. let none = eqb-true left 0 t in absurd (omega arith))

@@ -29,16 +29,17 @@ passesOver stand = step stand Ans.Unexpected
 abbrev pub sends : Plan → ℕ → Bool → Step
 sends plan number emptied = goes (sent plan number emptied) (Ans.Sending number)
 
--- Every status but OK is 41 (001 T5-29).
+-- 001 T5-29
 unfoldable pub okOf : ℕ → Bool
 okOf status = eqb status (codeOf Ok)
+
+-- 41: every status but OK, whatever else the response says.
+unfoldable pub whereOk : ℕ → Step → Step
+whereOk status accepted = pick (okOf status) accepted (fails Refused)
 
 -- GET_FW_ID: 42 where the file is not newer, else INITIATE goes out.
 unfoldable pub comparedOf : Plan → Identity → Step
 comparedOf plan reported = pick (newerOf (plan .release) reported) (goes (Initiate 0) Ans.Initiating) (fails NotNewer)
-
-unfoldable pub identifiedOf : Plan → ℕ → Identity → Step
-identifiedOf plan status reported = pick (okOf status) (comparedOf plan reported) (fails Refused)
 
 -- A ready INITIATE answer brings block 0, or 43 where the file is larger than its MaxImageSize.
 unfoldable pub readyOf : Plan → ℕ → Step
@@ -50,9 +51,6 @@ offeredOf plan wait size =
     pick (eqb wait unable) (fails Refused)
     (pick (eqb wait 0) (readyOf plan size)
     (goes (Initiate (10 * wait)) Ans.Waiting))
-
-unfoldable pub initiatedOf : Plan → ℕ → ℕ → ℕ → Step
-initiatedOf plan status wait size = pick (okOf status) (offeredOf plan wait size) (fails Refused)
 
 -- WaitTime 255 is the close only if the empty block has been sent and the number is n, else 44.
 unfoldable pub endedOf : Plan → ℕ → Step
@@ -71,9 +69,6 @@ askedOf plan emptied wait number =
 unfoldable pub numberedOf : Plan → Bool → ℕ → ℕ → Step
 numberedOf plan emptied wait number = pick (eqb wait unable) (closedOf plan emptied number) (askedOf plan emptied wait number)
 
-unfoldable pub receiptOf : Plan → Bool → ℕ → ℕ → ℕ → Step
-receiptOf plan emptied status wait number = pick (okOf status) (numberedOf plan emptied wait number) (fails Refused)
-
 -- 45 with the success bit clear
 unfoldable pub judgedOf : Bool → Step
 judgedOf success = pick success (goes Done Ans.Finished) (fails NotValid)
@@ -85,12 +80,9 @@ verdictOf wait success =
     (pick (eqb wait 0) (judgedOf success)
     (goes (Validate wait) Ans.Waiting))
 
-unfoldable pub validatedOf : ℕ → ℕ → Bool → Step
-validatedOf status wait success = pick (okOf status) (verdictOf wait success) (fails Refused)
-
 -- In each phase the response of one type is due.
 unfoldable pub identifyOf : Plan → Stand → Response → Step
-identifyOf plan stand (Res.GetFwId status reported) = identifiedOf plan status reported
+identifyOf plan stand (Res.GetFwId status reported) = whereOk status (comparedOf plan reported)
 identifyOf plan stand (Res.Initiate status wait size) = passesOver stand
 identifyOf plan stand (Res.Data status wait number) = passesOver stand
 identifyOf plan stand (Res.Validate status wait success) = passesOver stand
@@ -98,7 +90,7 @@ identifyOf plan stand Res.NotBuilt = passesOver stand
 
 unfoldable pub initiateOf : Plan → Stand → Response → Step
 initiateOf plan stand (Res.GetFwId status reported) = passesOver stand
-initiateOf plan stand (Res.Initiate status wait size) = initiatedOf plan status wait size
+initiateOf plan stand (Res.Initiate status wait size) = whereOk status (offeredOf plan wait size)
 initiateOf plan stand (Res.Data status wait number) = passesOver stand
 initiateOf plan stand (Res.Validate status wait success) = passesOver stand
 initiateOf plan stand Res.NotBuilt = passesOver stand
@@ -106,7 +98,7 @@ initiateOf plan stand Res.NotBuilt = passesOver stand
 unfoldable pub transferOf : Plan → Stand → Progress → Response → Step
 transferOf plan stand p (Res.GetFwId status reported) = passesOver stand
 transferOf plan stand p (Res.Initiate status wait size) = passesOver stand
-transferOf plan stand p (Res.Data status wait number) = receiptOf plan (p .emptied) status wait number
+transferOf plan stand p (Res.Data status wait number) = whereOk status (numberedOf plan (p .emptied) wait number)
 transferOf plan stand p (Res.Validate status wait success) = passesOver stand
 transferOf plan stand p Res.NotBuilt = passesOver stand
 
@@ -114,7 +106,7 @@ unfoldable pub validateOf : Stand → Response → Step
 validateOf stand (Res.GetFwId status reported) = passesOver stand
 validateOf stand (Res.Initiate status wait size) = passesOver stand
 validateOf stand (Res.Data status wait number) = passesOver stand
-validateOf stand (Res.Validate status wait success) = validatedOf status wait success
+validateOf stand (Res.Validate status wait success) = whereOk status (verdictOf wait success)
 validateOf stand Res.NotBuilt = passesOver stand
 
 -- A later response of the due type is judged afresh and ends a wait. Done and Failed stay.

@@ -47,23 +47,26 @@ waits stand phase = step (stands phase (stand .silence) (stand .resends)) Passed
 abbrev pub ends : Stand → Phase → Answer → Step
 ends stand phase answer = step (stands phase 0 (stand .resends)) answer
 
+-- Outside a wait (0 ms left) it listens; in one it waits on, or the wait is over and the request goes out.
+unfoldable pub pacedOf : Stand → ℕ → ℕ → Step → Phase → Phase → Answer → Step
+pacedOf stand wait elapsed listens left over answer =
+    pick (eqb wait 0) listens
+    (pick (ltb elapsed wait) (waits stand left)
+    (ends stand over answer))
+
 unfoldable pub initiatePassOf : Plan → Stand → ℕ → ℕ → Step
 initiatePassOf plan stand wait elapsed =
-    pick (eqb wait 0) (resendsOf plan stand Initiating elapsed)
-    (pick (ltb elapsed wait) (waits stand (Initiate (wait - elapsed)))
-    (ends stand (Initiate 0) Initiating))
+    pacedOf stand wait elapsed (resendsOf plan stand Initiating elapsed) (Initiate (wait - elapsed)) (Initiate 0) Initiating
 
 unfoldable pub transferPassOf : Plan → Stand → Progress → ℕ → Step
 transferPassOf plan stand p elapsed =
-    pick (eqb (p .wait) 0) (expiresOf plan stand elapsed)
-    (pick (ltb elapsed (p .wait)) (waits stand (Transfer (progress (p .asked) (p .wait - elapsed) (p .emptied))))
-    (ends stand (sent plan (p .asked) (p .emptied)) (Sending (p .asked))))
+    pacedOf stand (p .wait) elapsed (expiresOf plan stand elapsed) (Transfer (progress (p .asked) (p .wait - elapsed) (p .emptied)))
+    (sent plan (p .asked) (p .emptied))
+    (Sending (p .asked))
 
 unfoldable pub validatePassOf : Plan → Stand → ℕ → ℕ → Step
 validatePassOf plan stand wait elapsed =
-    pick (eqb wait 0) (resendsOf plan stand Validating elapsed)
-    (pick (ltb elapsed wait) (waits stand (Validate (wait - elapsed)))
-    (ends stand (Validate 0) Validating))
+    pacedOf stand wait elapsed (resendsOf plan stand Validating elapsed) (Validate (wait - elapsed)) (Validate 0) Validating
 
 -- In Done and Failed time does nothing.
 unfoldable pub passedOf : Plan → Stand → Phase → ℕ → Step

@@ -12,7 +12,7 @@ use wire::response::Identity;
 use wire::response::Response;
 use wire::status::Status;
 ghost use mathlib.Core.Path.{_≡_};
-ghost use Rattle.indoor_rules.specs.Response.{passesOver, sends, okOf, comparedOf, identifiedOf, readyOf, offeredOf, initiatedOf, endedOf, closedOf, askedOf, numberedOf, receiptOf, judgedOf, verdictOf, validatedOf, identifyOf, initiateOf, transferOf, validateOf, decidedOf, decideOf};
+ghost use Rattle.indoor_rules.specs.Response.{passesOver, sends, okOf, whereOk, comparedOf, readyOf, offeredOf, endedOf, closedOf, askedOf, numberedOf, judgedOf, verdictOf, identifyOf, initiateOf, transferOf, validateOf, decidedOf, decideOf};
 
 // A WaitTime counts so many milliseconds in an INITIATE response (001 T5-20).
 const INITIATE_UNIT: u16 = 10;
@@ -46,12 +46,21 @@ fn passes_over(stand: Stand) -> Step
     }
 }
 
-// Every status but OK is 41 (001 T5-29).
 fn ok(status: u8) -> bool
     ensures { λ r. ⌜ r ≡ okOf status ⌝ }
 {
     let ok = Status::Ok.code();
     status == ok
+}
+
+// Every status but OK is 41 (001 T5-29), whatever else the response says.
+fn where_ok(status: u8, accepted: Step) -> Step
+    ensures { λ r. ⌜ r ≡ whereOk status accepted ⌝ }
+{
+    if ok(status) {
+        return accepted;
+    }
+    Step::fails(Reason::Refused)
 }
 
 fn identify(plan: Plan, stand: Stand, response: Response) -> Step
@@ -60,16 +69,7 @@ fn identify(plan: Plan, stand: Stand, response: Response) -> Step
     let Response::GetFwId { status, identity } = response else {
         return passes_over(stand);
     };
-    identified(plan, status, identity)
-}
-
-fn identified(plan: Plan, status: u8, reported: Identity) -> Step
-    ensures { λ r. ⌜ r ≡ identifiedOf plan status reported ⌝ }
-{
-    if ok(status) {
-        return compared(plan, reported);
-    }
-    Step::fails(Reason::Refused)
+    where_ok(status, compared(plan, identity))
 }
 
 fn compared(plan: Plan, reported: Identity) -> Step
@@ -88,16 +88,7 @@ fn initiate(plan: Plan, stand: Stand, response: Response) -> Step
     let Response::Initiate { status, wait, size } = response else {
         return passes_over(stand);
     };
-    initiated(plan, status, wait, size)
-}
-
-fn initiated(plan: Plan, status: u8, wait: u8, size: u32) -> Step
-    ensures { λ r. ⌜ r ≡ initiatedOf plan status wait size ⌝ }
-{
-    if ok(status) {
-        return offered(plan, wait, size);
-    }
-    Step::fails(Reason::Refused)
+    where_ok(status, offered(plan, wait, size))
 }
 
 fn offered(plan: Plan, wait: u8, size: u32) -> Step
@@ -140,16 +131,7 @@ fn transfer(plan: Plan, stand: Stand, p: Progress, response: Response) -> Step
     else {
         return passes_over(stand);
     };
-    receipt(plan, p.emptied, status, wait, number)
-}
-
-fn receipt(plan: Plan, emptied: bool, status: u8, wait: u8, number: u16) -> Step
-    ensures { λ r. ⌜ r ≡ receiptOf plan emptied status wait number ⌝ }
-{
-    if ok(status) {
-        return numbered(plan, emptied, wait, number);
-    }
-    Step::fails(Reason::Refused)
+    where_ok(status, numbered(plan, p.emptied, wait, number))
 }
 
 fn numbered(plan: Plan, emptied: bool, wait: u8, number: u16) -> Step
@@ -209,16 +191,7 @@ fn validate(stand: Stand, response: Response) -> Step
     else {
         return passes_over(stand);
     };
-    validated(status, wait, success)
-}
-
-fn validated(status: u8, wait: u8, success: bool) -> Step
-    ensures { λ r. ⌜ r ≡ validatedOf status wait success ⌝ }
-{
-    if ok(status) {
-        return verdict(wait, success);
-    }
-    Step::fails(Reason::Refused)
+    where_ok(status, verdict(wait, success))
 }
 
 fn verdict(wait: u8, success: bool) -> Step

@@ -9,10 +9,11 @@ use indoor_phases::step::Step;
 use silence::Event;
 use silence::Grown;
 ghost use mathlib.Core.Path.{_≡_};
+ghost use Prim.Native.Nat.{_-_};
 ghost use Rattle.indoor_phases.specs.Phase.{stands};
 ghost use Rattle.indoor_phases.specs.declared.answer.Answer.the-variants.{Passed};
 ghost use Rattle.indoor_phases.specs.Step.{step};
-ghost use Rattle.indoor_rules.specs.Time.{grows, resentOf, expiredOf, resendsOf, expiresOf, initiatePassOf, transferPassOf, validatePassOf, passedOf, passOf};
+ghost use Rattle.indoor_rules.specs.Time.{grows, resentOf, expiredOf, resendsOf, expiresOf, initiatePassOf, transferPassOf, pacedOf, validatePassOf, passedOf, passOf};
 
 pub fn pass(plan: Plan, stand: Stand, elapsed: u16) -> Step
     ensures { λ r. ⌜ r ≡ passOf plan stand elapsed ⌝ }
@@ -102,53 +103,71 @@ fn expired(phase: Phase, grown: Grown, event: Event) -> Step
     }
 }
 
+// Outside a wait (0 ms left) it listens. In one it waits on, or the wait is over: the request goes out, and the leftover time is dropped.
+fn paced(
+    stand: Stand,
+    wait: u16,
+    elapsed: u16,
+    listens: Step,
+    left: Phase,
+    over: Phase,
+    answer: Answer,
+) -> Step
+    ensures { λ r. ⌜ r ≡ pacedOf stand wait elapsed listens left over answer ⌝ }
+{
+    if wait == 0 {
+        return listens;
+    }
+    if elapsed < wait {
+        return at(left, stand.silence, stand.resends, Answer::Passed);
+    }
+    at(over, 0, stand.resends, answer)
+}
+
+fn left_of(wait: u16, elapsed: u16) -> u16
+    ensures { λ r. ⌜ r ≡ wait - elapsed ⌝ }
+{
+    if elapsed < wait {
+        return wait - elapsed;
+    }
+    0
+}
+
 fn initiate(plan: Plan, stand: Stand, wait: u16, elapsed: u16) -> Step
     ensures { λ r. ⌜ r ≡ initiatePassOf plan stand wait elapsed ⌝ }
 {
-    if wait == 0 {
-        return resends(plan, stand, Answer::Initiating, elapsed);
-    }
-    if elapsed < wait {
-        let left = Phase::Initiate {
-            wait: wait - elapsed,
-        };
-        return at(left, stand.silence, stand.resends, Answer::Passed);
-    }
+    let again = Answer::Initiating;
+    let listens = resends(plan, stand, again, elapsed);
+    let left = Phase::Initiate {
+        wait: left_of(wait, elapsed),
+    };
     let over = Phase::Initiate { wait: 0 };
-    at(over, 0, stand.resends, Answer::Initiating)
+    paced(stand, wait, elapsed, listens, left, over, again)
 }
 
 fn transfer(plan: Plan, stand: Stand, p: Progress, elapsed: u16) -> Step
     ensures { λ r. ⌜ r ≡ transferPassOf plan stand p elapsed ⌝ }
 {
     let number = p.asked;
-    if p.wait == 0 {
-        return expires(plan, stand, elapsed);
-    }
-    if elapsed < p.wait {
-        let left = Phase::Transfer(Progress {
-            asked: number,
-            wait: p.wait - elapsed,
-            emptied: p.emptied,
-        });
-        return at(left, stand.silence, stand.resends, Answer::Passed);
-    }
+    let listens = expires(plan, stand, elapsed);
+    let left = Phase::Transfer(Progress {
+        asked: number,
+        wait: left_of(p.wait, elapsed),
+        emptied: p.emptied,
+    });
     let over = plan.sent(number, p.emptied);
-    at(over, 0, stand.resends, Answer::Sending { number })
+    let answer = Answer::Sending { number };
+    paced(stand, p.wait, elapsed, listens, left, over, answer)
 }
 
 fn validate(plan: Plan, stand: Stand, wait: u16, elapsed: u16) -> Step
     ensures { λ r. ⌜ r ≡ validatePassOf plan stand wait elapsed ⌝ }
 {
-    if wait == 0 {
-        return resends(plan, stand, Answer::Validating, elapsed);
-    }
-    if elapsed < wait {
-        let left = Phase::Validate {
-            wait: wait - elapsed,
-        };
-        return at(left, stand.silence, stand.resends, Answer::Passed);
-    }
+    let again = Answer::Validating;
+    let listens = resends(plan, stand, again, elapsed);
+    let left = Phase::Validate {
+        wait: left_of(wait, elapsed),
+    };
     let over = Phase::Validate { wait: 0 };
-    at(over, 0, stand.resends, Answer::Validating)
+    paced(stand, wait, elapsed, listens, left, over, again)
 }

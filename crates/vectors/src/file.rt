@@ -1,7 +1,12 @@
-// The file that is lent to the indoor end. Each block differs from those beside it, and each byte shows where it lies.
+// The file that is lent to the indoor end. No two of its whole blocks are alike, so that it shows which one went out.
 
+// The even places of a block tell the low byte of its number, and the odd ones its high byte too.
 fn byte(at: usize) -> u8 {
-    ((at % 256 + at / 256) % 256) as u8
+    let low = at % 256 + at / 256;
+    if at % 2 == 0 {
+        return (low % 256) as u8;
+    }
+    ((low + at / 65536) % 256) as u8
 }
 
 pub(crate) fn fill(file: &mut [u8]) {

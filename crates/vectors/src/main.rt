@@ -33,9 +33,16 @@ use script::Word;
 ghost use Prim.Native.Nat.{_≤_};
 ghost use lib.ListN.{length};
 
+// One byte less than there is room for: a longer script is refused, and none is cut without a word.
+const SCRIPT_MOST: usize = 65535;
+
 fn main() {
     let mut text = io::large_buffer();
     let n = io::read_full(libc::STDIN_FILENO, &mut text);
+    if SCRIPT_MOST < n {
+        say::text(b"the script is too long\n");
+        return;
+    }
     let mut file = [UNWRITTEN; MEMORY];
     let mut image = [UNWRITTEN; MEMORY];
     let mut buffer = [UNWRITTEN; BUFFER];

@@ -1,4 +1,3 @@
-use Rattle.basis.specs.Pick.{tests}
 use Rattle.indoor_rules.specs.Time.{transferPassOf}
 use borrow.Author.Needs.{needs}
 use Rattle.indoor_time.proofs.transfer.Statement.{statement}
@@ -10,10 +9,7 @@ transfer-spec =
     tie.close
     (tie.spec
     (λ c κs. search needs)
-    (λ c. search tests)
-    (λ c. search needs)
-    (λ c κs. search needs)
-    (λ c. search tests)
     (λ c κs. search needs)
     (λ c κs. search needs)
-    (λ c. search (tests, ← (c .before .sent .ensures))))
+    (λ c κs. search needs)
+    (λ c. rw (← (c .before .before .left-of .ensures), ← (c .before .before .before .expires .ensures), ← (c .before .sent .ensures)) (c .paced .ensures)))

@@ -1,4 +1,3 @@
-use Rattle.basis.specs.Pick.{tests}
 use Rattle.indoor_rules.specs.Time.{validatePassOf}
 use borrow.Author.Needs.{needs}
 use Rattle.indoor_time.proofs.validate.Statement.{statement}
@@ -10,9 +9,6 @@ validate-spec =
     tie.close
     (tie.spec
     (λ c κs. search needs)
-    (λ c. search tests)
-    (λ c. search needs)
     (λ c κs. search needs)
-    (λ c. search tests)
     (λ c κs. search needs)
-    (λ c. search tests))
+    (λ c. rw (← (c .before .left-of .ensures), ← (c .before .before .resends .ensures)) (c .paced .ensures)))

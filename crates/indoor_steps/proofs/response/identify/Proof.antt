@@ -14,4 +14,5 @@ identify-spec =
     (λ c κs. search needs)
     (λ c. let a = c .before .before .args in c .passes-over .ensures ∙ no-identity (a .plan) (a .stand) (a .response) (c .before .match .keys2))
     (λ c κs. search needs)
-    (λ c. rw (c .before .before .response .given .1) (c .identified .ensures)))
+    (λ c κs. search needs)
+    (λ c. rw (c .before .before .before .response .given .1, ← (c .before .compared .ensures)) (c .where-ok .ensures)))

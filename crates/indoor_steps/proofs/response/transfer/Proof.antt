@@ -14,4 +14,5 @@ transfer-spec =
     (λ c κs. search needs)
     (λ c. let a = c .before .before .args in c .passes-over .ensures ∙ no-receipt (a .plan) (a .stand) (a .p) (a .response) (c .before .match .keys2))
     (λ c κs. search needs)
-    (λ c. rw (c .before .before .response .given .1) (c .receipt .ensures)))
+    (λ c κs. search needs)
+    (λ c. rw (c .before .before .before .response .given .1, ← (c .before .numbered .ensures)) (c .where-ok .ensures)))

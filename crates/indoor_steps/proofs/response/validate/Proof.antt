@@ -14,4 +14,5 @@ validate-spec =
     (λ c κs. search needs)
     (λ c. let a = c .before .before .args in c .passes-over .ensures ∙ no-verdict (a .stand) (a .response) (c .before .match .keys2))
     (λ c κs. search needs)
-    (λ c. rw (c .before .before .response .given .1) (c .validated .ensures)))
+    (λ c κs. search needs)
+    (λ c. rw (c .before .before .before .response .given .1, ← (c .before .verdict .ensures)) (c .where-ok .ensures)))
