@@ -2,7 +2,7 @@
 use Prim.Native.Nat.{ℕ, _≤_}
 use mathlib.Core.Bool.{true}
 use mathlib.Core.Logic.{_⊎_, inl, inr}
-use mathlib.Core.Path.{_≡_, refl, sym, ap}
+use mathlib.Core.Path.{_≡_, refl, sym, ap, _∙_}
 use mathlib.Core.List.{List, _∷_, append-nil, List·Memᴰ, List·Memᴰ·head, List·Memᴰ·tail}
 use native.Mathlib.Omega.{arith}
 use borrow.Author.Tests.{eqb-false}
@@ -57,9 +57,9 @@ pub record Holds (file : List ℕ) (release : Release) (s : Indoor) (sent : List
   pub genuine : AllGenuine (s .plan .release .versions) file sent
   pub emptied : EmptySent file (s .stand .phase) sent
 
-four-sent : (n : ℕ) (sent : List (List ℕ)) → List·Memᴰ (headBytes n) (pick (eqb (length (headBytes n)) 0) sent (headBytes n ∷ sent))
+head-sent : (n : ℕ) (sent : List (List ℕ)) → List·Memᴰ (headBytes n) (pick (eqb (length (headBytes n)) 0) sent (headBytes n ∷ sent))
 unfolding headBytes pick
-four-sent n sent = List·Memᴰ·head refl
+head-sent n sent = List·Memᴰ·head refl
 
 -- What a step that was done adds to what was written.
 module _ (plan : Plan) (x : Step) (file out : List ℕ) (sent : List (List ℕ)) where
@@ -90,7 +90,7 @@ module _ (plan : Plan) (x : Step) (file out : List ℕ) (sent : List (List ℕ))
   empty-sent : plan .length ≡ length file → x .answer ≡ Sending (last plan) → List·Memᴰ (emptyBlock file) (sentAfter (doneOf plan x file out) sent)
   empty-sent lent e =
       let same : bytes ≡ emptyBlock file = empty-bytes lent e in
-      rw (sent-done, same) (four-sent (blocksOf (length file)) sent)
+      rw (sent-done, same) (head-sent (blocksOf (length file)) sent)
 
 -- What was known of the empty block is still known after a step that says what its phases owe.
 module _ (plan : Plan) (x : Step) (file out : List ℕ) (sent : List (List ℕ)) (lent : plan .length ≡ length file) where
@@ -189,22 +189,28 @@ module _ (file : List ℕ) (release : Release) (words : Words (release .versions
     emptied = emptied;
   }
 
-  pub heard-holds : (response out : List ℕ) → Holds file release (responseOf s file response out .answer .state) (sentAfter (responseOf s file response out) sent)
+  pub heard-holds : (lent response out : List ℕ) → (length lent ≡ length file → lent ≡ file)
+      → Holds file release (responseOf s lent response out .answer .state) (sentAfter (responseOf s lent response out) sent)
   unfolding pick
-  heard-holds response out =
-      response-walk s file response out (λ y. Holds file release (y .answer .state) (sentAfter y sent)) h h h
-      (λ r _ _ _.
+  heard-holds lent response out same =
+      response-walk s lent response out (λ y. Holds file release (y .answer .state) (sentAfter y sent)) h h h
+      (λ r e _ _.
       let row = decide-row (s .plan) (s .stand) r in
       let x = decideOf (s .plan) (s .stand) r in
-      done-holds x out (row .fit (h .fit)) (row .within)
-      (heard-emptied (s .plan) x file out sent (h .lent) r (s .stand .phase) (x .stand .phase) (h .emptied) (row .enters) (row .empties)))
+      rw (same (e ∙ h .lent))
+      (done-holds x out (row .fit (h .fit)) (row .within)
+      (heard-emptied (s .plan) x file out sent (h .lent) r (s .stand .phase) (x .stand .phase) (h .emptied) (row .enters) (row .empties))))
 
-  pub ticked-holds : (elapsed : ℕ) (out : List ℕ) → Holds file release (timeOf s file elapsed out .answer .state) (sentAfter (timeOf s file elapsed out) sent)
+  pub ticked-holds : (lent : List ℕ) (elapsed : ℕ) (out : List ℕ) → (length lent ≡ length file → lent ≡ file)
+      → Holds file release (timeOf s lent elapsed out .answer .state) (sentAfter (timeOf s lent elapsed out) sent)
   unfolding pick
-  ticked-holds elapsed out =
-      time-walk s file elapsed out (λ y. Holds file release (y .answer .state) (sentAfter y sent)) h h
-      (λ _ _.
+  ticked-holds lent elapsed out same =
+      time-walk s lent elapsed out (λ y. Holds file release (y .answer .state) (sentAfter y sent)) h h
+      (λ e _.
       let row = pass-ticks (s .plan) (s .stand) elapsed in
       let x = passOf (s .plan) (s .stand) elapsed in
-      done-holds x out (row .fit (h .fit)) (row .within (h .fit))
-      (ticked-emptied (s .plan) x file out sent (h .lent) (s .stand .phase) (x .stand .phase) (h .emptied) (failed-phase x (order (s .stand .phase)) (Expires (s .plan) (s .stand) elapsed) (row .lasts)) (row .empties)))
+      rw (same (e ∙ h .lent))
+      (done-holds x out (row .fit (h .fit)) (row .within (h .fit))
+      (ticked-emptied (s .plan) x file out sent (h .lent) (s .stand .phase) (x .stand .phase) (h .emptied)
+      (failed-phase x (order (s .stand .phase)) (Expires (s .plan) (s .stand) elapsed) (row .lasts))
+      (row .empties))))

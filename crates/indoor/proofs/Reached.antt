@@ -73,8 +73,10 @@ module _ (release : Release) (file out : List ℕ) (words : Words (release .vers
 
 pub reach-holds : (file : List ℕ) (release : Release) (s : Indoor) (sent : List (List ℕ)) → Words (release .versions) → Reached file release s sent → Holds file release s sent
 reach-holds file release s sent words (starts limit resends _ out _ written out′ e) = rw e at (started-begins release file out words (settingsOf limit resends))
-reach-holds file release s sent words (hears {s = t} {sent = before} h response out) = heard-holds file release words t before (reach-holds file release t before words h) response out
-reach-holds file release s sent words (passes {s = t} {sent = before} h elapsed out) = ticked-holds file release words t before (reach-holds file release t before words h) elapsed out
+reach-holds file release s sent words (hears {s = t} {sent = before} h lent response out same) =
+    heard-holds file release words t before (reach-holds file release t before words h) lent response out same
+reach-holds file release s sent words (passes {s = t} {sent = before} h lent elapsed out same) =
+    ticked-holds file release words t before (reach-holds file release t before words h) lent elapsed out same
 
 emptied-at : (file : List ℕ) (before phase : Phase) (sent : List (List ℕ)) → before ≡ phase → EmptySent file before sent → EmptySent file phase sent
 emptied-at file before phase sent e h = rw e at h

@@ -1,4 +1,5 @@
--- Any calls from a fresh session, the same file lent at each, and the requests that were written, the newest first.
+-- Any calls from a fresh session, and the requests that were written, the newest first. A call is lent the file, or one of another length,
+-- which it refuses (28).
 use Prim.Native.Nat.{ℕ, _≤_}
 use mathlib.Core.Path.{_≡_}
 use mathlib.Core.List.{List, [], _∷_}
@@ -31,10 +32,12 @@ module _ (file : List ℕ) where
     starts : (limit resends : ℕ) (release : Release) (out : List ℕ) (s : Indoor) (written : ℕ) (out′ : List ℕ)
         → startOf limit resends release file out ≡ left (Made s written) out′
         → Reached release s (take written out′ ∷ [])
-    hears : {release : Release} {s : Indoor} {sent : List (List ℕ)} → Reached release s sent → (response out : List ℕ)
-        → Reached release (responseOf s file response out .answer .state) (sentAfter (responseOf s file response out) sent)
-    passes : {release : Release} {s : Indoor} {sent : List (List ℕ)} → Reached release s sent → (elapsed : ℕ) (out : List ℕ)
-        → Reached release (timeOf s file elapsed out .answer .state) (sentAfter (timeOf s file elapsed out) sent)
+    hears : {release : Release} {s : Indoor} {sent : List (List ℕ)} → Reached release s sent → (lent response out : List ℕ)
+        → (length lent ≡ length file → lent ≡ file)
+        → Reached release (responseOf s lent response out .answer .state) (sentAfter (responseOf s lent response out) sent)
+    passes : {release : Release} {s : Indoor} {sent : List (List ℕ)} → Reached release s sent → (lent : List ℕ) (elapsed : ℕ) (out : List ℕ)
+        → (length lent ≡ length file → lent ≡ file)
+        → Reached release (timeOf s lent elapsed out .answer .state) (sentAfter (timeOf s lent elapsed out) sent)
 
 -- GET_FW_ID, INITIATE with the file's versions, a DATA whose number j ≤ n carries exactly block j of the file, VALIDATE or ABORT, as a reader
 -- finds it in the bytes.

@@ -35,7 +35,7 @@ fn deliver(out: &mut [u8], file: &[u8], versions: Versions, sends: Sends) -> usi
     }
 }
 
-// Every request but DATA.
+// A request that has no block; of DATA its head.
 pub(crate) fn whole(out: &mut [u8], request: Request) -> usize
     requires { ⌜ longest ≤ length (now out) ⌝ }
     ensures { λ r. ⌜ left r (now (out .exit)) ≡ leads (requestBytes request) (now (out .entry)) ⌝ }

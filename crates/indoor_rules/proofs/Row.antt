@@ -2,7 +2,7 @@
 use Prim.Native.Nat.{ℕ, _≤_}
 use mathlib.Core.Bool.{Bool, true, false, true≢false, _||_}
 use mathlib.Core.Logic.{_⊎_, inl, inr}
-use mathlib.Core.Path.{_≡_, refl, sym, ap}
+use mathlib.Core.Path.{_≡_, sym, ap}
 use native.Mathlib.Omega.{arith}
 use borrow.Author.Tests.{eqb-true, ltb-false}
 use lib.Dec.{eqb, ltb}
@@ -212,20 +212,11 @@ module _ (plan : Plan) (silence resends : ℕ) where
   ready-row : (left status wait size : ℕ) → status ≡ 0 → wait ≡ 0 → P (Initiate left) (Res.Initiate status wait size) (readyOf plan size)
   unfolding readyOf
   ready-row left status wait size ok none =
+      let low : 0 ≤ last plan = omega arith in
+      let empties = first-empties plan in
+      let marks = emptied-last plan 0 false in
       pick-all (P (Initiate left) (Res.Initiate status wait size)) (ltb size (plan .length)) _ _ (λ _. search)
-      (λ t. record {
-        number = refl;
-        passes = tt;
-        taken = (refl, refl);
-        ends = tt;
-        stays = tt;
-        enters = (ok, none, ltb-false size (plan .length) t);
-        fit = λ _. omega arith;
-        within = omega arith;
-        empties = first-empties plan;
-        still = tt;
-        marks = emptied-last plan 0 false;
-      })
+      (λ t. let fits = ltb-false size (plan .length) t in search)
 
   initiated-row : (left status wait size : ℕ) → P (Initiate left) (Res.Initiate status wait size) (whereOk status (offeredOf plan wait size))
   unfolding whereOk okOf offeredOf
@@ -233,38 +224,18 @@ module _ (plan : Plan) (silence resends : ℕ) where
       search (pick-all (P (Initiate left) (Res.Initiate status wait size)), ready-row, eqb-true) depth 8
 
   sends-row : (p : Progress) (r : Response) (number : ℕ) → number ≤ last plan → P (Transfer p) r (sends plan number (p .emptied))
-  sends-row p r number h = record {
-    number = refl;
-    passes = tt;
-    taken = (refl, refl);
-    ends = tt;
-    stays = tt;
-    enters = tt;
-    fit = λ _. h;
-    within = h;
-    empties = later-empties plan number (p .emptied);
-    still = emptied-stays plan number (p .emptied);
-    marks = emptied-last plan number (p .emptied);
-  }
+  sends-row p r number h =
+      let empties = later-empties plan number (p .emptied) in
+      let still = emptied-stays plan number (p .emptied) in
+      let marks = emptied-last plan number (p .emptied) in
+      search
 
   ended-row : (p : Progress) (status wait number : ℕ) → status ≡ 0 → wait ≡ 255 → p .emptied ≡ true
       → P (Transfer p) (Res.Data status wait number) (endedOf plan number)
   unfolding endedOf
   ended-row p status wait number ok unable e =
       pick-all (P (Transfer p) (Res.Data status wait number)) (eqb number (last plan)) _ _
-      (λ t. record {
-        number = refl;
-        passes = tt;
-        taken = (refl, refl);
-        ends = tt;
-        stays = tt;
-        enters = (e, rw (ok, unable, eqb-true number (last plan) t));
-        fit = λ _. tt;
-        within = tt;
-        empties = tt;
-        still = tt;
-        marks = tt;
-      })
+      (λ t. let told : Res.Data status wait number ≡ Res.Data 0x00 255 (last plan) = rw (ok, unable, eqb-true number (last plan) t) in search)
       (λ _. search)
 
   closed-row : (p : Progress) (status wait number : ℕ) → status ≡ 0 → wait ≡ 255
@@ -279,20 +250,7 @@ module _ (plan : Plan) (silence resends : ℕ) where
       let Q : Step → Type 0 = P (Transfer p) r in
       pick-all Q (ltb (last plan) number) _ _ (λ _. search)
       (λ t. let h = ltb-false (last plan) number t in
-      pick-all Q (eqb wait 0) _ _ (λ _. sends-row p r number h)
-      (λ _. record {
-        number = refl;
-        passes = tt;
-        taken = (refl, refl);
-        ends = tt;
-        stays = tt;
-        enters = tt;
-        fit = λ _. h;
-        within = tt;
-        empties = λ e. inl e;
-        still = λ e. e;
-        marks = tt;
-      }))
+      pick-all Q (eqb wait 0) _ _ (λ _. sends-row p r number h) (λ _. search inl))
 
   receipt-row : (p : Progress) (status wait number : ℕ) → P (Transfer p) (Res.Data status wait number) (whereOk status (numberedOf plan (p .emptied) wait number))
   unfolding whereOk okOf numberedOf
@@ -303,19 +261,7 @@ module _ (plan : Plan) (silence resends : ℕ) where
   unfolding judgedOf
   judged-row left status wait success ok none =
       pick-all (P (Validate left) (Res.Validate status wait success)) success _ _
-      (λ e. record {
-        number = refl;
-        passes = tt;
-        taken = (refl, refl);
-        ends = tt;
-        stays = tt;
-        enters = rw (ok, none, e);
-        fit = λ _. tt;
-        within = tt;
-        empties = tt;
-        still = tt;
-        marks = tt;
-      })
+      (λ e. let told : Res.Validate status wait success ≡ Res.Validate 0x00 0 true = rw (ok, none, e) in search)
       (λ _. search)
 
   validated-row : (left status wait : ℕ) (success : Bool) → P (Validate left) (Res.Validate status wait success) (whereOk status (verdictOf wait success))

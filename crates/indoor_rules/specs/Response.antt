@@ -35,7 +35,7 @@ okOf status = eqb status (codeOf Ok)
 
 -- 41: every status but OK, whatever else the response says.
 unfoldable pub whereOk : ℕ → Step → Step
-whereOk status accepted = pick (okOf status) accepted (fails Refused)
+whereOk status further = pick (okOf status) further (fails Refused)
 
 -- GET_FW_ID: 42 where the file is not newer, else INITIATE goes out.
 unfoldable pub comparedOf : Plan → Identity → Step

@@ -54,11 +54,11 @@ fn ok(status: u8) -> bool
 }
 
 // Every status but OK is 41 (001 T5-29), whatever else the response says.
-fn where_ok(status: u8, accepted: Step) -> Step
-    ensures { λ r. ⌜ r ≡ whereOk status accepted ⌝ }
+fn where_ok(status: u8, further: Step) -> Step
+    ensures { λ r. ⌜ r ≡ whereOk status further ⌝ }
 {
     if ok(status) {
-        return accepted;
+        return further;
     }
     Step::fails(Reason::Refused)
 }
