@@ -1,6 +1,7 @@
 pub mod Answers
 pub mod Beginning
 pub mod Block
+pub mod Bytes
 pub mod Walk
 pub mod Laws
 pub mod Entering
