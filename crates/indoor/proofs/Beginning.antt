@@ -10,7 +10,8 @@ use Rattle.basis.specs.Left.{left}
 use Rattle.silence.specs.Settings as silent
 use Rattle.silence.specs.declared.Checked.{Checked}
 use Rattle.silence.specs.declared.Checked.the-variants as Che
-use Rattle.silence.proofs.Laws.{Within, within-made, outside-29}
+use Rattle.silence.specs.Within.{Within}
+use Rattle.silence.proofs.Laws.{within-made, outside-29}
 use Rattle.wire.specs.Written.{requestBytes, bareBytes}
 use Rattle.indoor_phases.specs.Phase.{stands}
 use Rattle.indoor_phases.specs.declared.plan.Release.{Release}

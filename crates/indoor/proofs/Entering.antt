@@ -2,8 +2,9 @@
 use Prim.Native.Nat.{ℕ}
 use mathlib.Core.Bool.{true}
 use mathlib.Core.Logic.{_⊎_, inl, inr}
-use mathlib.Core.Path.{_≡_, refl, _∙_, ap}
+use mathlib.Core.Path.{_≡_, refl, sym, _∙_, ap}
 use mathlib.Core.List.{List}
+use native.Mathlib.Omega.{arith}
 use Rattle.wire.specs.Response as message
 use Rattle.wire.specs.declared.response.Response.{Response}
 use Rattle.wire.specs.declared.response.Response.the-variants as Res
@@ -107,3 +108,19 @@ time-lasts s file elapsed out =
     (λ x. (order (x .answer .state .stand .phase) ≡ order (s .stand .phase)) ⊎ (x .answer .state .stand .phase ≡ Failed Silence))
     (inl refl) (inl refl)
     (λ _ _. failed-phase (passOf (s .plan) (s .stand) elapsed) (order (s .stand .phase)) (Expires (s .plan) (s .stand) elapsed) (pass-ticks (s .plan) (s .stand) elapsed .lasts))
+
+order-done : (phase : Phase) → order phase ≡ 4 → phase ≡ Done
+order-done Identify e = absurd (omega arith)
+order-done (Initiate left) e = absurd (omega arith)
+order-done (Transfer p) e = absurd (omega arith)
+order-done (Validate left) e = absurd (omega arith)
+order-done Done e = refl
+order-done (Failed reason) e = absurd (omega arith)
+
+lasts-done : (before next : Phase) → (order next ≡ order before) ⊎ (next ≡ Failed Silence) → next ≡ Done → before ≡ Done
+lasts-done before next (inl e) h = order-done before (sym e ∙ ap order h)
+lasts-done before next (inr e) h = let four = ap order (sym h ∙ e) in absurd (omega arith)
+
+-- So Done is never entered by time.
+pub time-done : (s : Indoor) (file : List ℕ) (elapsed : ℕ) (out : List ℕ) → timeOf s file elapsed out .answer .state .stand .phase ≡ Done → s .stand .phase ≡ Done
+time-done s file elapsed out = lasts-done (s .stand .phase) _ (time-lasts s file elapsed out)

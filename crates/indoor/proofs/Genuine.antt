@@ -25,11 +25,16 @@ use Rattle.indoor.specs.Send.{blockBytes, sendsBytes, bytesOf}
 use Rattle.indoor.specs.History.{Genuine}
 use Rattle.indoor.proofs.Block.{block-most}
 
+-- A request without a block is read as what it is.
+pub whole-read : (r : Request) → BuiltRequest r → Sendable r [] → message.requestOf (requestBytes r) ≡ Par.Valid r
+whole-read r built can = rw (append-nil (requestBytes r)) at (request-back r [] built can)
+
 module _ (versions : Versions) (file : List ℕ) where
   read-as : (m : List ℕ) (p : Parsed) → message.requestOf m ≡ p → Genuine versions file m p → Genuine versions file m (message.requestOf m)
   read-as m p e h = rw e h
 
-  block-read : (number : ℕ) → number < 65536 → message.requestOf (blockBytes file number) ≡ Par.Valid (Req.Data number (length (blockAt file number)))
+  -- DATA is read as the number and the size of its block.
+  pub block-read : (number : ℕ) → number < 65536 → message.requestOf (blockBytes file number) ≡ Par.Valid (Req.Data number (length (blockAt file number)))
   unfolding blockBytes
   block-read number low = request-back (Req.Data number (length (blockAt file number))) (blockAt file number) tt (low, refl, block-most file number)
 
@@ -44,7 +49,7 @@ module _ (versions : Versions) (file : List ℕ) where
 
   whole-genuine : (r : Request) → BuiltRequest r → Sendable r [] → Genuine versions file (requestBytes r) (Par.Valid r)
       → Genuine versions file (requestBytes r) (message.requestOf (requestBytes r))
-  whole-genuine r built can h = read-as (requestBytes r) (Par.Valid r) (rw (append-nil (requestBytes r)) at (request-back r [] built can)) h
+  whole-genuine r built can h = read-as (requestBytes r) (Par.Valid r) (whole-read r built can) h
 
   sends-genuine : (plan : Plan) (sends : Sends) → Words versions → plan .length ≡ length file → length file ≤ 1048575 → Within plan sends → (length (sendsBytes versions file sends) ≡ 0 → ⊥)
       → Genuine versions file (sendsBytes versions file sends) (message.requestOf (sendsBytes versions file sends))

@@ -9,4 +9,5 @@ pub mod Written
 pub mod Genuine
 pub mod Holds
 pub mod Reached
+pub mod Fresh
 pub mod Unique

@@ -1,19 +1,13 @@
 -- Every session that calls lead to has written nothing but what the paper allows, and never closes early (01, The indoor end's phases).
 use Prim.Native.Nat.{ℕ, _≤_}
-use mathlib.Core.Path.{_≡_, refl}
-use mathlib.Core.List.{List, [], _∷_, List·Memᴰ}
+use mathlib.Core.Path.{_≡_, sym, subst}
+use mathlib.Core.List.{List, [], _∷_, List·Memᴰ, List·Memᴰ·head, List·Memᴰ·tail}
 use native.Mathlib.Omega.{arith}
-use borrow.Author.Tests.{eqb-false, ltb-false}
-use lib.Dec.{eqb, ltb}
 use lib.ListN.{length, take}
-use Rattle.basis.specs.Pick.{pick-all}
-use Rattle.basis.specs.Left.{Left, left}
-use Rattle.silence.specs.Settings.{settingsOf}
-use Rattle.silence.specs.declared.Settings.{Settings}
-use Rattle.silence.specs.declared.Checked.{Checked}
-use Rattle.silence.specs.declared.Checked.the-variants as Che
+use Rattle.basis.specs.Left.{left}
 use Rattle.wire.specs.Fields.{Words}
-use Rattle.wire.specs.Codes.{longest}
+use Rattle.wire.specs.Request as message
+use Rattle.wire.specs.declared.request.Versions.{Versions}
 use Rattle.wire.specs.Written.{requestBytes, bareBytes}
 use Rattle.indoor_phases.specs.declared.plan.Plan.{Plan}
 use Rattle.indoor_phases.specs.declared.plan.Release.{Release}
@@ -22,61 +16,42 @@ use Rattle.indoor_phases.specs.declared.phase.Phase.{Phase}
 use Rattle.indoor_phases.specs.declared.phase.Phase.the-variants.{Transfer, Validate, Done}
 use Rattle.indoor_phases.specs.declared.answer.Answer.the-variants.{Identifying}
 use Rattle.indoor.specs.Send.{sendsBytes}
-use Rattle.indoor.specs.Start.{lengthMost, plans, begunOf, beginOf, startedOf}
-use Rattle.indoor.specs.declared.session.Started.{Started}
-use Rattle.indoor.specs.declared.session.Started.the-variants.{Made}
-use Rattle.indoor.specs.declared.session.Started.the-variants as Refused
-use Rattle.indoor.specs.History.{Reached, starts, hears, passes, AllGenuine, emptyBlock}
+use Rattle.indoor.specs.History.{Reached, starts, hears, passes, Genuine, AllGenuine, emptyBlock}
 use Rattle.indoor.specs.declared.session.Indoor.{Indoor}
 use Rattle.indoor_phases.specs.Step.{last}
 use Rattle.indoor_rules.proofs.Row.{Fit}
+use Rattle.indoor.proofs.Fresh.{Fresh, start-fresh}
 use Rattle.indoor.proofs.Genuine.{bytes-genuine}
 use Rattle.indoor.proofs.Holds.{EmptySent, Holds, heard-holds, ticked-holds}
 
 -- A session that was made holds it from the start.
-abbrev Begins : List ℕ → Release → Started → List ℕ → Type 0
-Begins file release (Made s written) out = Holds file release s (take written out ∷ [])
-Begins file release Refused.Settings out = Unit
-Begins file release Refused.FileSize out = Unit
-Begins file release Refused.BufferShort out = Unit
-
-module _ (release : Release) (file out : List ℕ) (words : Words (release .versions)) where
-  abbrev B : Left Started → Type 0
-  B x = Begins file release (x .answer) (x .memory)
-
-  begun-begins : (plan : Plan) → plan .release ≡ release → plan .length ≡ length file → 1 ≤ length file → length file ≤ 1048575 → B (begunOf plan out)
-  unfolding sendsBytes requestBytes bareBytes
-  begun-begins plan offered lent some most = record {
-    offered = offered;
-    lent = lent;
-    some = some;
-    most = most;
-    fit = tt;
-    genuine = (bytes-genuine plan file Identifying (rw offered words) lent most tt (λ e. omega arith), tt);
-    emptied = tt;
-  }
-
-  begin-begins : (settings : Settings) → B (beginOf settings release file out)
-  unfolding beginOf
-  begin-begins settings =
-      pick-all B (eqb (length file) 0) _ _ (λ _. tt)
-      (λ a. let none = eqb-false (length file) 0 a in
-      pick-all B (ltb lengthMost (length file)) _ _ (λ _. tt)
-      (λ b. let most = ltb-false lengthMost (length file) b in
-      pick-all B (ltb (length out) longest) _ _ (λ _. tt)
-      (λ _. begun-begins (plans settings release (length file)) refl refl (omega arith) (omega arith))))
-
-  started-begins : (x : Checked) → B (startedOf x release file out)
-  unfolding startedOf
-  started-begins (Che.Made settings) = begin-begins settings
-  started-begins Che.Refused = tt
+fresh-holds : (file : List ℕ) (release : Release) (s : Indoor) (first : List ℕ) → Words (release .versions) → Fresh release file s first → Holds file release s (first ∷ [])
+unfolding sendsBytes requestBytes bareBytes
+fresh-holds file release s first words f = record {
+  offered = f .offered;
+  lent = f .lent;
+  some = f .some;
+  most = f .most;
+  fit = subst (Fit (s .plan)) (sym (f .identify)) tt;
+  genuine = (
+    subst (λ (m : List ℕ). Genuine (s .plan .release .versions) file m (message.requestOf m)) (sym (f .written))
+        (bytes-genuine (s .plan) file Identifying (rw (f .offered) words) (f .lent) (f .most) tt (λ e. omega arith)),
+    tt,
+  );
+  emptied = subst (λ (p : Phase). EmptySent file p (first ∷ [])) (sym (f .identify)) tt;
+}
 
 pub reach-holds : (file : List ℕ) (release : Release) (s : Indoor) (sent : List (List ℕ)) → Words (release .versions) → Reached file release s sent → Holds file release s sent
-reach-holds file release s sent words (starts limit resends _ out _ written out′ e) = rw e at (started-begins release file out words (settingsOf limit resends))
+reach-holds file release s sent words (starts limit resends _ out _ written out′ e) =
+    fresh-holds file release s (take written out′) words (start-fresh release file out limit resends s written out′ e)
 reach-holds file release s sent words (hears {s = t} {sent = before} h lent response out same) =
     heard-holds file release words t before (reach-holds file release t before words h) lent response out same
 reach-holds file release s sent words (passes {s = t} {sent = before} h lent elapsed out same) =
     ticked-holds file release words t before (reach-holds file release t before words h) lent elapsed out same
+
+genuine-each : (versions : Versions) (file : List ℕ) (sent : List (List ℕ)) (m : List ℕ) → AllGenuine versions file sent → List·Memᴰ m sent → Genuine versions file m (message.requestOf m)
+genuine-each versions file (x ∷ sent) m all (List·Memᴰ·head e) = rw e (all .0)
+genuine-each versions file (x ∷ sent) m all (List·Memᴰ·tail h) = genuine-each versions file sent m (all .1) h
 
 emptied-at : (file : List ℕ) (before phase : Phase) (sent : List (List ℕ)) → before ≡ phase → EmptySent file before sent → EmptySent file phase sent
 emptied-at file before phase sent e h = rw e at h
@@ -89,6 +64,9 @@ module _ (file : List ℕ) (release : Release) (s : Indoor) (sent : List (List �
   -- file, VALIDATE or ABORT.
   pub all-genuine : AllGenuine (release .versions) file sent
   all-genuine = let h = reach-holds file release s sent words reached in rw (h .offered) at (h .genuine)
+
+  pub each-genuine : (m : List ℕ) → List·Memᴰ m sent → Genuine (release .versions) file m (message.requestOf m)
+  each-genuine m = genuine-each (release .versions) file sent m all-genuine
 
   -- There is no Validate and no Done before the empty block has gone out.
   pub validate-emptied : (left : ℕ) → s .stand .phase ≡ Validate left → List·Memᴰ (emptyBlock file) sent

@@ -3,10 +3,9 @@
 use Prim.Native.Nat.{ℕ, _≤_}
 use mathlib.Core.Path.{_≡_}
 use mathlib.Core.List.{List, [], _∷_}
-use lib.Dec.{eqb}
 use lib.ListN.{length, take, drop}
-use Rattle.basis.specs.Pick.{pick}
 use Rattle.basis.specs.Left.{Left, left}
+use Rattle.lent.specs.Sent.{withSent}
 use Rattle.image.specs.Blocks.{blocksOf, blockAt}
 use Rattle.wire.specs.Codes.{dataHead}
 use Rattle.wire.specs.Request as message
@@ -23,9 +22,9 @@ use Rattle.indoor.specs.declared.session.Indoor.{Indoor}
 use Rattle.indoor.specs.declared.session.Outcome.{Outcome}
 use Rattle.indoor.specs.declared.session.Started.the-variants.{Made}
 
--- What a call wrote is one request: the first bytes of the buffer, as many as the call says.
+-- What a call wrote is one request.
 abbrev pub sentAfter : Left Outcome → List (List ℕ) → List (List ℕ)
-sentAfter x sent = pick (eqb (x .answer .written) 0) sent (take (x .answer .written) (x .memory) ∷ sent)
+sentAfter x sent = withSent (x .answer .written) (x .memory) sent
 
 module _ (file : List ℕ) where
   pub data Reached : Release → Indoor → List (List ℕ) → Type 0 where

@@ -1,2 +1,3 @@
 pub mod Put
 pub mod Led
+pub mod Sent

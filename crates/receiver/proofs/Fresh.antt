@@ -15,27 +15,30 @@ use Rattle.receiver.specs.declared.session.Receiver.{Receiver}
 use Rattle.receiver.specs.declared.session.Started.{Started}
 use Rattle.receiver.specs.declared.session.Started.the-variants.{Made, Refused}
 
--- A fresh session is in Idle, its capacity within the limit.
-pub record Fresh (r : Receiver) : Type 0 where
+-- A fresh session is in Idle, with the identity and the capacity that it was started with, this within the limit.
+pub record Fresh (identity : Identity) (capacity : ℕ) (r : Receiver) : Type 0 where
   pub idle : r .phase ≡ Idle
+  pub who : r .identity ≡ identity
+  pub room : r .capacity ≡ capacity
   pub within : r .capacity ≤ 1048575
 
 made-same : (a b : Receiver) → Made a ≡ Made b → a ≡ b
 made-same a b e = cc
 
-refused-made : (r : Receiver) → Refused ≡ Made r → ⊥
+pub refused-made : (r : Receiver) → Refused ≡ Made r → ⊥
 refused-made r e = let z : _≡_ {A = ℕ} 0 1 = cc in omega arith
 
-made-fresh : (identity : Identity) (capacity : ℕ) (r : Receiver) (x : Checked) → capacity ≤ 1048575 → freshOf x identity capacity ≡ Made r → Fresh r
+made-fresh : (identity : Identity) (capacity : ℕ) (r : Receiver) (x : Checked) → capacity ≤ 1048575 → freshOf x identity capacity ≡ Made r → Fresh identity capacity r
 unfolding freshOf
 made-fresh identity capacity r (Che.Made settings) h e =
     let same = made-same _ r e in
-    record { idle = ap (λ x. x .phase) (sym same); within = let c = ap (λ x. x .capacity) same in omega arith }
+    let room = ap (λ x. x .capacity) (sym same) in
+    record { idle = ap (λ x. x .phase) (sym same); who = ap (λ x. x .identity) (sym same); room = room; within = omega arith }
 made-fresh identity capacity r Che.Refused h e = absurd (refused-made r e)
 
-pub start-fresh : (limit resends : ℕ) (identity : Identity) (capacity : ℕ) (r : Receiver) → startOf limit resends identity capacity ≡ Made r → Fresh r
+pub start-fresh : (limit resends : ℕ) (identity : Identity) (capacity : ℕ) (r : Receiver) → startOf limit resends identity capacity ≡ Made r → Fresh identity capacity r
 unfolding startOf
 start-fresh limit resends identity capacity r =
-    pick-all (λ (x : Started). x ≡ Made r → Fresh r) (ltb capacityMost capacity) _ _
+    pick-all (λ (x : Started). x ≡ Made r → Fresh identity capacity r) (ltb capacityMost capacity) _ _
     (λ _ e. absurd (refused-made r e))
     (λ t. made-fresh identity capacity r (silent.settingsOf limit resends) (let few = ltb-false capacityMost capacity t in omega arith))

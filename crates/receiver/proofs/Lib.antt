@@ -13,4 +13,6 @@ pub mod Keeps
 pub mod Fresh
 pub mod Reached
 pub mod InPlace
+pub mod OfFile
+pub mod Truthful
 pub mod Unique

@@ -35,7 +35,7 @@ refused-carries (Par.Valid Req.Validate) number h = refl
 refused-carries (Par.Valid Req.Abort) number h = refl
 refused-carries (Par.Valid Req.NotBuilt) number h = refl
 
-refused-accepts : (before : Phase) (m : Parsed) (number : ℕ) → eqb number 0 ≡ false → acceptsBlock before m number ≡ false
+pub refused-accepts : (before : Phase) (m : Parsed) (number : ℕ) → eqb number 0 ≡ false → acceptsBlock before m number ≡ false
 refused-accepts Idle m number h = refl
 refused-accepts (Transfer p) m number h = refused-carries m number h
 refused-accepts (Await a) m number h = refl

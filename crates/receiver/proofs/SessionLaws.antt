@@ -6,7 +6,8 @@ use borrow.Author.Tests.{le-ltb, ltb-false}
 use lib.Dec.{ltb}
 use Rattle.basis.specs.Pick.{pick, pick-all}
 use Rattle.silence.specs.Settings as silent
-use Rattle.silence.proofs.Laws.{Within, within-made, outside-29}
+use Rattle.silence.specs.Within.{Within}
+use Rattle.silence.proofs.Laws.{within-made, outside-29}
 use Rattle.silence.specs.declared.Checked.{Checked}
 use Rattle.silence.specs.declared.Checked.the-variants as Che
 use Rattle.wire.specs.declared.response.Identity.{Identity}

@@ -87,6 +87,17 @@ module _ (r : Receiver) (image request : List ℕ) (readiness : ℕ) (verdict : 
       refl refl refl refl
       (λ q _ room _. led-length r (decideOf (r .phase) q (r .capacity) readiness verdict .answer) out room)
 
+  -- What is written lies in the buffer, however long that is.
+  pub request-within : requestOf r image request readiness verdict out .outcome .written ≤ length (requestOf r image request readiness verdict out .out)
+  request-within =
+      request-walk r image request readiness verdict out (λ x. x .outcome .written ≤ length (x .out))
+      (omega arith) (omega arith) (omega arith) (omega arith)
+      (λ q _ room _.
+      let answer = decideOf (r .phase) q (r .capacity) readiness verdict .answer in
+      let fits = reply-fits (replyOf (r .identity) (r .capacity) answer) in
+      let long = led-length r answer out room in
+      omega arith)
+
 pub time-length : (r : Receiver) (elapsed : ℕ) (out : List ℕ) → length (timeOf r elapsed out .memory) ≡ length out
 time-length r elapsed out =
     time-walk r elapsed out (λ x. length (x .memory) ≡ length out) refl

@@ -5,6 +5,7 @@ use mathlib.Core.Path.{_≡_, refl}
 use mathlib.Core.List.{[], _∷_, map}
 use Rattle.wire.specs.declared.response.Identity.{Identity}
 use Rattle.wire.specs.declared.response.Response.the-variants as Res
+use Rattle.receiver_phases.specs.Phase.{nothing}
 use Rattle.receiver_phases.specs.Answer.{numberOf, replyOf, identified, initiated, receipt, validated}
 use Rattle.receiver_phases.specs.declared.answer.Answer.{Answer}
 use Rattle.receiver_phases.specs.declared.answer.Answer.the-variants.{Identified, Offered, Asking, Closed, Success, Later, Aborted, Passed, Malformed, UnexpectedInitiate, UnexpectedData, UnexpectedValidate, Unexpected, NotDue, PassesCapacity, WrongFile, VerdictBad, OutOfRange, BufferShort, ImageLength}
@@ -80,3 +81,7 @@ module _ (identity : Identity) (capacity : ℕ) where
   not-ok-unable OutOfRange = tt
   not-ok-unable BufferShort = tt
   not-ok-unable ImageLength = tt
+
+-- Going to Idle sets accepted to zero, and with nothing accepted INITIATE starts (01, The receiver's phases).
+pub nothing-zero : (nothing .blocks ≡ 0) × (nothing .bytes ≡ 0)
+nothing-zero = (refl, refl)

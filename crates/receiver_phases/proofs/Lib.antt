@@ -1,2 +1,3 @@
 pub mod Laws
+pub mod Truth
 pub mod Unique

@@ -10,7 +10,8 @@ use Rattle.wire.specs.declared.request.Request.{Request}
 use Rattle.wire.specs.declared.request.Request.the-variants as Req
 use Rattle.receiver_phases.specs.Answer.{numberOf}
 use Rattle.receiver_phases.specs.Phase.{accepts}
-use Rattle.receiver_steps.specs.Request.{to, progress, offerOf, againOf, initiateOf, passesCapacity, closeOf, takeOf, transferOf, dataOf, judgeOf, validateOf, abortOf, decideOf}
+use Rattle.receiver_phases.proofs.Truth.{Tells}
+use Rattle.receiver_steps.specs.Request.{progress, offerOf, againOf, initiateOf, passesCapacity, closeOf, takeOf, transferOf, dataOf, judgeOf, validateOf, abortOf, decideOf}
 use Rattle.receiver_phases.specs.declared.phase.Accepted.{Accepted}
 use Rattle.receiver_phases.specs.declared.phase.Progress.{Progress}
 use Rattle.receiver_phases.specs.declared.phase.Phase.{Phase}
@@ -84,6 +85,7 @@ pub record Row (before : Phase) (q : Request) (capacity : ℕ) (verdict : Verdic
   pub stays : Stays before (s .phase)
   pub enters : Enters before q verdict (s .phase)
   pub puts : Puts before q capacity (s .phase) (s .store)
+  pub tells : Tells (s .answer) (s .phase)
 
 module _ (capacity : ℕ) (verdict : Verdict) where
   initiate-row : (before : Phase) (q : Request) (readiness : ℕ) → Row before q capacity verdict (initiateOf before readiness)
@@ -111,6 +113,7 @@ module _ (capacity : ℕ) (verdict : Verdict) where
         ends = tt;
         stays = tt;
         enters = tt;
+        tells = tt;
         puts = record { size = size; asked = refl; due = due; whole = whole; some = some; low = w .0; fits = w .1; counted = refl };
       }
 
@@ -120,7 +123,7 @@ module _ (capacity : ℕ) (verdict : Verdict) where
       pick-all (Row (Transfer p) (Req.Data number 0) capacity verdict) (eqb (p .accepted .blocks) 0) _ _ (λ _. search)
       (λ t.
       let some = eqb-false (p .accepted .blocks) 0 t in
-      record { heard = refl; keeps = tt; ends = tt; stays = tt; enters = (refl, rw due, omega arith); puts = tt })
+      record { heard = refl; keeps = tt; ends = tt; stays = tt; enters = (refl, rw due, omega arith); puts = tt; tells = tt })
 
   transfer-row : (p : Progress) (number size readiness : ℕ) → Row (Transfer p) (Req.Data number size) capacity verdict (transferOf p number size capacity readiness)
   unfolding transferOf

@@ -7,6 +7,7 @@ use Rattle.silence.proofs.Laws.{below-quiet, left-resends, none-left-ends, one-
 use Rattle.silence.specs.declared.Settings.{Settings}
 use Rattle.silence.specs.declared.Event.{Event}
 use Rattle.silence.specs.declared.Event.the-variants.{Quiet, Resend, NoneLeft}
+use Rattle.receiver_phases.proofs.Truth.{Tells}
 use Rattle.receiver_phases.specs.Answer.{numberOf}
 use Rattle.receiver_phases.specs.declared.answer.Answer.{Answer}
 use Rattle.receiver_phases.specs.declared.answer.Answer.the-variants.{Asking, Closed, Passed}
@@ -85,6 +86,7 @@ pub record Ticks (before : Phase) (made : ℕ) (t : Tick) : Type 0 where
   pub taken : numberOf (t .answer) ≡ 0
   pub lasts : Lasts before (t .phase)
   pub once : t .resends ≤ made + 1
+  pub tells : Tells (t .answer) (t .phase)
 
 module _ (made silence resends : ℕ) (once : resends ≤ made + 1) where
   transfer-ticks : (p : Progress) (number : ℕ) (event : Event) → Ticks (Transfer p) made (expireOf (Transfer p) (Asking 0 number) silence resends event)
@@ -101,14 +103,14 @@ module _ (made silence resends : ℕ) (once : resends ≤ made + 1) where
 
 pub pass-ticks : (before : Phase) (silence elapsed made : ℕ) (settings : Settings) → Ticks before made (passOf before silence elapsed made settings)
 unfolding passOf waitOf
-pass-ticks Idle silence elapsed made settings = record { taken = refl; lasts = tt; once = omega arith }
+pass-ticks Idle silence elapsed made settings = record { taken = refl; lasts = tt; once = omega arith; tells = tt }
 pass-ticks (Transfer p) silence elapsed made settings =
     let g = grownOf silence elapsed made settings in
     transfer-ticks made (g .silence) (g .resends) (one-expiry silence elapsed made settings) p (p .accepted .blocks) (g .event)
 pass-ticks (Await a) silence elapsed made settings =
     let g = grownOf silence elapsed made settings in
     await-ticks made (g .silence) (g .resends) (one-expiry silence elapsed made settings) a (a .blocks) (g .event)
-pass-ticks (Good a) silence elapsed made settings = record { taken = refl; lasts = refl; once = omega arith }
+pass-ticks (Good a) silence elapsed made settings = record { taken = refl; lasts = refl; once = omega arith; tells = tt }
 
 -- One call that passes several limits is one expiry: it does what a call does that reaches the first exactly.
 module _ (silence made e e′ : ℕ) (settings : Settings) (h : settings .limit ≤ silence + e) (h′ : settings .limit ≤ silence + e′) where

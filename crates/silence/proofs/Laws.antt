@@ -5,18 +5,14 @@ use native.Mathlib.Omega.{arith}
 use borrow.Author.Tests.{ltb-true, ltb-false, le-ltb}
 use lib.Dec.{ltb}
 use Rattle.basis.specs.Pick.{pick, pick-all}
+use Rattle.silence.specs.Within.{Within}
 use Rattle.silence.specs.Settings.{limitLeast, limitMost, resendsMost, settingsOf, numberOf}
 use Rattle.silence.specs.Expiry.{grownOf, grown}
 use Rattle.silence.specs.declared.Settings.{Settings}
 use Rattle.silence.specs.declared.Checked.{Checked}
-use Rattle.silence.specs.declared.Checked.the-variants.{Made}
+use Rattle.silence.specs.declared.Checked.the-variants.{Made, Refused}
 use Rattle.silence.specs.declared.Grown.{Grown}
 use Rattle.silence.specs.declared.Event.the-variants.{Quiet, Resend, NoneLeft}
-
-pub record Within (limit resends : ℕ) : Type 0 where
-  pub low : 1 ≤ limit
-  pub high : limit ≤ 10000
-  pub few : resends ≤ 10
 
 -- Settings within the limits are made as they were asked for; settings outside these: 29.
 pub within-made : (limit resends : ℕ) → Within limit resends → settingsOf limit resends ≡ Made (record { limit = limit; resends = resends })
@@ -39,6 +35,23 @@ outside-29 limit resends h =
     let high = ltb-false limitMost limit b in
     let few = ltb-false resendsMost resends c in
     absurd (h (record { low = omega arith; high = omega arith; few = omega arith })))))
+
+refused-made : (s : Settings) → Refused ≡ Made s → ⊥
+refused-made s e = let z : _≡_ {A = ℕ} 0 1 = cc in omega arith
+
+-- What is made was within the limits.
+pub made-within : (limit resends : ℕ) (s : Settings) → settingsOf limit resends ≡ Made s → Within limit resends
+unfolding settingsOf
+made-within limit resends s =
+    let P : Checked → Type 0 = λ x. x ≡ Made s → Within limit resends in
+    pick-all P (ltb limit limitLeast) _ _ (λ _ e. absurd (refused-made s e))
+    (λ a. pick-all P (ltb limitMost limit) _ _ (λ _ e. absurd (refused-made s e))
+    (λ b. pick-all P (ltb resendsMost resends) _ _ (λ _ e. absurd (refused-made s e))
+    (λ c _.
+    let low = ltb-false limit limitLeast a in
+    let high = ltb-false limitMost limit b in
+    let few = ltb-false resendsMost resends c in
+    record { low = omega arith; high = omega arith; few = omega arith })))
 
 module _ (silence elapsed made : ℕ) (settings : Settings) where
   abbrev after : Grown
