@@ -2,6 +2,7 @@
 // (001 chapter 5; 01, The receiver's phases; 01, The indoor end's phases).
 mod bench;
 mod call;
+mod clean_line;
 mod file;
 mod hex;
 mod indoor_call;
@@ -98,6 +99,7 @@ fn answer(line: &[u8], bench: Bench, file: &[u8], image: &mut [u8], buffer: &mut
         Word::Sweep(varied) => bench.heard(message::directed(varied, rest)),
         Word::Session(act) => session::run(act, rest, bench, image, buffer),
         Word::Indoor => indoors(rest, bench, file, buffer),
+        Word::Clean => bench.heard(clean_line::answer(rest, file, image)),
         Word::Other => bench.heard(false),
     }
 }

@@ -13,6 +13,7 @@ pub(crate) enum Word {
     Sweep(Varied),
     Session(Act),
     Indoor,
+    Clean,
     Other,
 }
 
@@ -48,6 +49,9 @@ pub(crate) fn word_of(s: &[u8]) -> Word {
     }
     if check::same(s, b"indoor") {
         return Word::Indoor;
+    }
+    if check::same(s, b"clean") {
+        return Word::Clean;
     }
     sweep_of(s)
 }

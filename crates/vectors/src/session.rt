@@ -36,7 +36,7 @@ pub(crate) fn run(
 }
 
 // Every bit that 001 T5-18 calls reserved is set, so that a GET_FW_ID response shows them cleared.
-fn identity() -> Identity {
+pub(crate) fn identity() -> Identity {
     Identity {
         vendor: 0x1234,
         product: 0xABCD,

@@ -1,0 +1,80 @@
+-- The receiver's start decides between 29 and a session that begins.
+use Prim.Native.Nat.{ℕ}
+use mathlib.Core.Bool.{Bool, true, false}
+use mathlib.Core.Path.{_≡_, refl, sym, _∙_, ap}
+use mathlib.Core.List.{List}
+use lib.Dec.{ltb}
+use lib.ListN.{length}
+use mir.Val.{Val}
+use denote.Laws.{Is}
+use denote.Struct.Declared.{row}
+use Rattle.basis.specs.Pick.{pick}
+use Rattle.basis.specs.Left.{left}
+use Rattle.silence.specs.Settings.{settingsOf}
+use Rattle.silence.specs.declared.Checked.{Checked}
+use Rattle.silence.specs.declared.Checked.the-variants as Che
+use Rattle.wire.specs.Fields.{Words}
+use Rattle.wire.specs.declared.request.Versions.{Versions}
+use Rattle.wire.specs.declared.response.Identity.{Identity}
+use Rattle.wire.proofs.request.Versions as versions
+use Rattle.wire.proofs.response.Identity as identities
+use Rattle.receiver.specs.Session.{capacityMost, freshOf, startOf}
+use Rattle.receiver.specs.declared.session.Receiver.{Receiver}
+use Rattle.receiver.specs.declared.session.Started.the-variants.{Made, Refused}
+use Rattle.receiver.proofs.Fresh.{refused-made, start-fresh}
+use Rattle.indoor_phases.specs.declared.plan.Release.{Release}
+use Rattle.indoor_phases.proofs.plan.Release as releases
+use Rattle.line.specs.Line.{Wide}
+use Rattle.clean.specs.Run.{begunOf, checkedOf, runOf}
+use Rattle.clean.specs.declared.ran.Ran.the-variants.{Settings}
+
+-- A value of a type is as wide as the type.
+versions-wide : (v : Versions) (vs : List Val) → Is (row versions.the-type) v vs → Words v
+versions-wide v vs h = let w = h .1 .1 in (w .0 .1, w .1 .0 .1, w .1 .1 .0 .1, w .1 .1 .1 .0 .1)
+
+pub values-wide : (release : Release) (identity : Identity) (us vs : List Val) → Is (row releases.the-type) release us → Is (row identities.the-type) identity vs → Wide release identity
+values-wide release identity us vs r i =
+    let w = i .1 .1 in
+    record {
+      vendor = w .0 .1;
+      product = w .1 .0 .1;
+      reported = versions-wide (identity .versions) _ (w .1 .1 .1 .1 .0);
+      offered = versions-wide (release .versions) _ (r .1 .1 .1 .1 .0);
+    }
+
+module _ (limit resends : ℕ) (identity : Identity) (release : Release) (file memory : List ℕ) where
+  checked-29 : (x : Checked) → freshOf x identity (length memory) ≡ Refused → left Settings memory ≡ checkedOf x release identity file memory
+  unfolding freshOf checkedOf
+  checked-29 (Che.Made s) e = absurd (refused-made _ (sym e))
+  checked-29 Che.Refused e = refl
+
+  tested-29 : (t : Bool) → ltb capacityMost (length memory) ≡ t → pick t Refused (freshOf (settingsOf limit resends) identity (length memory)) ≡ Refused
+      → left Settings memory ≡ runOf limit resends identity release file memory
+  unfolding runOf pick
+  tested-29 true t e = rw t
+  tested-29 false t e = rw t (checked-29 (settingsOf limit resends) e)
+
+  pub refused-29 : startOf limit resends identity (length memory) ≡ Refused → left Settings memory ≡ runOf limit resends identity release file memory
+  unfolding startOf
+  refused-29 = tested-29 (ltb capacityMost (length memory)) refl
+
+  checked-begun : (r : Receiver) (x : Checked) → freshOf x identity (length memory) ≡ Made r → begunOf release identity file memory ≡ checkedOf x release identity file memory
+  unfolding freshOf checkedOf
+  checked-begun r (Che.Made s) e = refl
+  checked-begun r Che.Refused e = absurd (refused-made r e)
+
+  tested-begun : (r : Receiver) (t : Bool) → ltb capacityMost (length memory) ≡ t → pick t Refused (freshOf (settingsOf limit resends) identity (length memory)) ≡ Made r
+      → begunOf release identity file memory ≡ runOf limit resends identity release file memory
+  unfolding runOf pick
+  tested-begun r true t e = absurd (refused-made r e)
+  tested-begun r false t e = rw t (checked-begun r (settingsOf limit resends) e)
+
+  module _ (r : Receiver) (made : startOf limit resends identity (length memory) ≡ Made r) where
+    pub same-identity : r .identity ≡ identity
+    same-identity = start-fresh limit resends identity (length memory) r made .who
+
+    pub made-begun : begunOf release (r .identity) file memory ≡ runOf limit resends identity release file memory
+    unfolding startOf
+    made-begun =
+        ap (λ (i : Identity). begunOf release i file memory) same-identity
+        ∙ tested-begun r (ltb capacityMost (length memory)) refl made

@@ -1,0 +1,23 @@
+use mathlib.Core.Path.{_∙_, ap, sym}
+use native.Mathlib.Omega.{arith}
+use borrow.Author.Tests.{ne-eqb}
+use lib.Dec.{eqb}
+use lib.Seq.{length-take-le}
+use denote.Ref.{now}
+use Rattle.basis.specs.Pick.{tests, pick-no}
+use Rattle.clean.specs.Turn.{toldOf, answerOf}
+use borrow.Author.Needs.{needs}
+use Rattle.clean.proofs.ends.answer.Statement.{statement}
+use Rattle.clean.proofs.ends.answer.Tie as tie
+
+pub answer-spec : {M : Type 1} → statement M
+unfolding answerOf
+answer-spec =
+    tie.close
+    (tie.spec
+    (λ c. search tests)
+    (λ c. let a = c .before .before .before .before .before .args in sym (length-take-le (a .written) (now (a .down)) (omega arith)))
+    (λ c κs. search needs)
+    (λ c. search needs)
+    (λ c. let a = c .before .before .before .before .before .before .before .before .before .before .args in
+    ap (toldOf (a .receiver)) (c .before .before .before .response .ensures) ∙ sym (pick-no (eqb (a .written) 0) _ _ (ne-eqb (a .written) 0 (c .before .before .before .before .before .before .if1 .left)))))

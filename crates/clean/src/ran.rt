@@ -1,0 +1,34 @@
+// What came of a session.
+use indoor_phases::phase::Phase;
+ghost use mathlib.Core.Path.{_≡_};
+ghost use Rattle.clean.specs.Run.{phaseNumber, numberOf};
+
+// A start was refused, for the settings or the capacity or for the file's size; or both were made, and it is told where the indoor end
+// stands when nothing is on its way, and how many requests were sent.
+pub enum Ran {
+    Settings,
+    FileSize,
+    Ended { phase: Phase, requests: u16 },
+}
+
+impl Ran {
+    // 01, Numbers we answer.
+    pub fn number(self) -> u8
+        ensures { λ r. ⌜ r ≡ numberOf self ⌝ }
+    {
+        match self {
+            Ran::Settings => 29,
+            Ran::FileSize => 46,
+            Ran::Ended { phase, requests: _ } => phase_number(phase),
+        }
+    }
+}
+
+fn phase_number(phase: Phase) -> u8
+    ensures { λ r. ⌜ r ≡ phaseNumber phase ⌝ }
+{
+    let Phase::Failed(reason) = phase else {
+        return 0;
+    };
+    reason.number()
+}

@@ -1,0 +1,88 @@
+// A whole session: both starts, and then turns until nothing is on its way.
+use crate::ends::Ends;
+use crate::ran::Ran;
+use indoor::Indoor;
+use indoor::Started as Begun;
+use indoor_phases::plan::Release;
+use receiver::Receiver;
+use receiver::Started;
+use wire::codes;
+use wire::response::Identity;
+ghost use mathlib.Core.Path.{_≡_};
+ghost use lib.ListN.{length};
+ghost use Rattle.basis.specs.Left.{left};
+ghost use Rattle.receiver.specs.Session.{startOf};
+ghost use Rattle.receiver.specs.declared.session.Started.the-variants.{Made};
+ghost use Rattle.line.specs.Line.{Wide};
+ghost use Rattle.clean.specs.Run.{runOf, begunOf, carriedOf};
+ghost use Rattle.clean.specs.On.{On};
+
+// A file of 4,096 blocks, the most that there are, takes 4,100 requests; every session has ended by then.
+const TURNS_MOST: u16 = 4100;
+
+// The same limit and resend count for both ends.
+pub fn run(
+    limit: u16,
+    resends: u8,
+    identity: Identity,
+    release: Release,
+    file: &[u8],
+    image: &mut [u8],
+) -> Ran
+    ensures { λ r. ⌜ left r (now (image .exit)) ≡ runOf limit resends identity release (now (file .entry)) (now (image .entry)) ⌝ }
+{
+    let started = Receiver::new(limit, resends, identity, image.len());
+    let Started::Made(receiver) = started else {
+        return Ran::Settings;
+    };
+    begin(receiver, limit, resends, release, file, image)
+}
+
+// The settings have made a receiver and the buffer is long enough, so that only 46 is left to refuse.
+fn begin(
+    receiver: Receiver,
+    limit: u16,
+    resends: u8,
+    release: Release,
+    file: &[u8],
+    image: &mut [u8],
+) -> Ran
+    requires { ⌜ startOf limit resends (receiver .identity) (length (now image)) ≡ Made receiver ⌝ }
+    requires { ⌜ Wide release (receiver .identity) ⌝ }
+    ensures { λ r. ⌜ left r (now (image .exit)) ≡ begunOf release (receiver .identity) (now (file .entry)) (now (image .entry)) ⌝ }
+{
+    let mut up = [0u8; codes::LONGEST];
+    let begun = Indoor::start(limit, resends, release, file, &mut up);
+    let Begun::Made { state, written } = begun else {
+        return Ran::FileSize;
+    };
+    let ends = Ends {
+        receiver,
+        indoor: state,
+        underway: written,
+    };
+    carry(ends, file, image, &mut up)
+}
+
+fn carry(begun: Ends, file: &[u8], image: &mut [u8], up: &mut [u8]) -> Ran
+    requires { ⌜ On (now file) (now image) (begun .indoor .plan .release) (begun .receiver .identity) begun (now image) (now up) 0 ⌝ }
+    ensures { λ r. ⌜ left r (now (image .exit)) ≡ carriedOf (begun .indoor .plan .release) (begun .receiver .identity) (now (file .entry)) (now (image .entry)) ⌝ }
+{
+    let mut down = [0u8; codes::LONGEST];
+    let mut ends = begun;
+    let mut left = TURNS_MOST;
+    while 0 < left {
+        if ends.underway == 0 {
+            break;
+        }
+        ends = ends.turn(file, image, up, &mut down);
+        left -= 1;
+    }
+    let indoor = ends.indoor;
+    let stand = indoor.stand;
+    let phase = stand.phase;
+    Ran::Ended {
+        phase,
+        requests: TURNS_MOST - left,
+    }
+}

@@ -1,0 +1,7 @@
+pub mod Sent
+pub mod AnyLine
+pub mod Clean
+pub mod Carried
+pub mod Course
+pub mod Ends
+pub mod Demand3
