@@ -3,7 +3,7 @@
 use Prim.Native.Nat.{ℕ, _+_, _≤_, _<_}
 use mathlib.Core.Bool.{true}
 use mathlib.Core.Path.{_≡_, refl, _∙_, ap}
-use mathlib.Core.List.{List, _++_}
+use mathlib.Core.List.{List, [], _∷_, _++_, map}
 use native.Mathlib.Omega.{arith}
 use borrow.Author.Tests.{eq-eqb, ne-eqb, lt-ltb, le-ltb, eqb-false, ltb-false}
 use lib.Dec.{eqb, ltb}
@@ -26,9 +26,15 @@ use Rattle.indoor_phases.specs.declared.phase.Phase.the-variants.{Done, Failed}
 use Rattle.indoor_rules.specs.Newer.{newerOf}
 use Rattle.indoor_rules.proofs.Compared.{Newer, newer-only, newer-yes, newer-no}
 use Rattle.indoor.specs.Start.{lengthMost}
-use Rattle.clean.specs.Run.{transferredOf, carriedOf, begunOf, checkedOf, runOf}
+use Rattle.clean.specs.Run.{numberOf, transferredOf, carriedOf, begunOf, checkedOf, runOf}
 use Rattle.clean.specs.declared.ran.Ran.{Ran}
 use Rattle.clean.specs.declared.ran.Ran.the-variants.{Settings, FileSize, Ended}
+
+-- 01, Numbers we answer: 29, 46, 42, 43, and 0 where the session ends done.
+pub ran-rows : (requests : ℕ) →
+    map numberOf (Settings ∷ FileSize ∷ Ended (Failed NotNewer) requests ∷ Ended (Failed TooLarge) requests ∷ Ended Done requests ∷ [])
+    ≡ 29 ∷ 46 ∷ 42 ∷ 43 ∷ 0 ∷ []
+ran-rows requests = refl
 
 settings-done : (requests : ℕ) → Settings ≡ Ended Done requests → ⊥
 settings-done requests e = let z : _≡_ {A = ℕ} 0 1 = cc in omega arith
