@@ -1,0 +1,15 @@
+-- The contracts of `look` and `take_apart` leave one answer for each input.
+use Prim.Native.Nat.{ℕ}
+use mathlib.Core.List.{List}
+use mathlib.Core.Path.{_≡_}
+use Rattle.basis.specs.Only.{only}
+use Rattle.commands.specs.Table.{entryOf}
+use Rattle.commands.specs.Control.{controlOf}
+use Rattle.commands.specs.declared.table.Entry.{Entry}
+use Rattle.commands.specs.declared.control.Parsed.{Parsed}
+
+pub one-look : (code : ℕ) (r r′ : Entry) → r ≡ entryOf code → r′ ≡ entryOf code → r ≡ r′
+one-look code r r′ p q = only p q
+
+pub one-take-apart : (control : List ℕ) (r r′ : Parsed) → r ≡ controlOf control → r′ ≡ controlOf control → r ≡ r′
+one-take-apart control r r′ p q = only p q

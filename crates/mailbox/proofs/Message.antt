@@ -1,0 +1,73 @@
+-- MESSAGE_IN: filled by a success, zeroed by every other completion, by cancel and by reset, kept by a start, by ACK and by a refusal
+-- (01, The mailbox).
+use Prim.Native.Nat.{ℕ, zero, suc, _-_, _≤_}
+use mathlib.Core.Bool.{true}
+use mathlib.Core.List.{List, _++_}
+use mathlib.Core.Path.{_≡_, refl, sym, _∙_, ap}
+use native.Mathlib.Nat.{sub-zero, suc-sub-suc, zero-sub}
+use lib.ListN.{length, drop, replicate}
+use Rattle.commands.specs.Table.{entryOf}
+use Rattle.commands.specs.declared.control.Control.{Control}
+use Rattle.mailbox_state.specs.Told.{runsOf}
+use Rattle.mailbox_state.specs.declared.answer.Answer.the-variants.{Taken}
+use Rattle.mailbox_state.specs.declared.told.Told.{Told}
+use Rattle.mailbox_state.specs.declared.told.Told.the-variants.{Nothing, ResetDone, Busy, Completed, Failed, NotSupported, Cancelled, Acknowledged}
+use Rattle.mailbox_state.specs.declared.step.Clears.{Clears}
+use Rattle.mailbox_state.specs.declared.step.Clears.the-variants as clears
+use Rattle.mailbox_state.specs.declared.step.Step.{Step}
+use Rattle.mailbox_state.specs.Step.{step}
+use Rattle.mailbox_rules.specs.Refusal.{refusalOf}
+use Rattle.mailbox_rules.specs.Write as write
+use Rattle.mailbox_rules.proofs.Command.{Zeroes, write-takes}
+use Rattle.mailbox_rules.proofs.Report.{telling, success-completes, failure-completes}
+use Rattle.mailbox.specs.Mailbox.{zeros, filledOf, clearedOf, settledOf}
+use Rattle.mailbox.specs.Events.{reportedOf, successOf, failureOf}
+use Rattle.mailbox.specs.declared.state.Mailbox.{Mailbox}
+use Rattle.mailbox.specs.declared.state.Outcome.{Outcome}
+use Rattle.mailbox.proofs.Reported.{reported}
+
+dropped : (k n : ℕ) → drop k (replicate n 0) ≡ replicate {A = ℕ} (n - k) 0
+dropped zero n = ap (λ (m : ℕ). replicate {A = ℕ} m 0) (sym (sub-zero n))
+dropped (suc k) zero = ap (λ (m : ℕ). replicate {A = ℕ} m 0) (sym (zero-sub (suc k)))
+dropped (suc k) (suc n) = dropped k n ∙ ap (λ (m : ℕ). replicate {A = ℕ} m 0) (sym (suc-sub-suc n k))
+
+-- After a success of k bytes: those bytes, and 256 - k zeros.
+pub success-fills : (m : Mailbox) (bytes : List ℕ) → runsOf (m .stand .told) ≡ true → length bytes ≤ 255 → successOf m bytes .state .message ≡ bytes ++ replicate (256 - length bytes) 0
+unfolding filledOf zeros
+success-fills m bytes e h =
+    ap (λ (s : Step). reportedOf m bytes s .state .message) (success-completes (m .stand) (length bytes) e h)
+    ∙ ap (λ (o : Outcome). o .state .message) (reported m bytes (step (telling (m .stand) (Completed (length bytes))) Taken clears.Nothing) refl)
+    ∙ ap (λ (l : List ℕ). bytes ++ l) (dropped (length bytes) 256)
+
+-- After a write that is taken, by what is told then.
+abbrev pub After : Told → List ℕ → List ℕ → Type 0
+After Nothing before after = ⊥
+After ResetDone before after = after ≡ zeros
+After (Busy command) before after = after ≡ before
+After (Completed length) before after = after ≡ zeros
+After Failed before after = after ≡ zeros
+After NotSupported before after = after ≡ zeros
+After Cancelled before after = after ≡ zeros
+After Acknowledged before after = after ≡ before
+
+after : (told : Told) (c : Clears) (message : List ℕ) → Zeroes told c → After told message (clearedOf message c)
+unfolding clearedOf
+after Nothing c message e = e
+after ResetDone c message e = ap (clearedOf message) e
+after (Busy command) c message e = ap (clearedOf message) e
+after (Completed length) c message e = ap (clearedOf message) e
+after Failed c message e = ap (clearedOf message) e
+after NotSupported c message e = ap (clearedOf message) e
+after Cancelled c message e = ap (clearedOf message) e
+after Acknowledged c message e = ap (clearedOf message) e
+
+module _ (m : Mailbox) (control : Control) where
+  abbrev wrote : Mailbox
+  wrote = settledOf m (write.writeOf (m .stand) control) .state
+
+  pub write-message : refusalOf (m .stand) (entryOf (control .code) .class) control ≡ Taken → After (wrote .stand .told) (m .message) (wrote .message)
+  write-message e = after (wrote .stand .told) (write.writeOf (m .stand) control .clears) (m .message) (write-takes (m .stand) control e .zeroes)
+
+pub failure-zeroes : (m : Mailbox) → runsOf (m .stand .told) ≡ true → failureOf m .state .message ≡ zeros
+unfolding clearedOf
+failure-zeroes m e = rw (failure-completes (m .stand) e)

@@ -1,0 +1,3 @@
+pub mod Mailbox
+pub mod Events
+pub mod History

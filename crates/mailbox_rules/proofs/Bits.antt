@@ -1,0 +1,105 @@
+-- CCI said back bit by bit, in the numbers of document 01 and 000 T3-2.
+use Prim.Native.Nat.{ℕ, _+_, _*_, _/_, _%_, _<_, _≤_, _^_}
+use mathlib.Core.Bool.{Bool, true, false, true≢false}
+use mathlib.Core.Path.{_≡_, refl, sym}
+use native.Mathlib.Omega.{arith}
+use Rattle.mailbox_state.specs.declared.told.Command.{Command}
+use Rattle.mailbox_state.specs.Told.{runsOf}
+use Rattle.mailbox_state.specs.declared.told.Told.{Told}
+use Rattle.mailbox_state.specs.declared.told.Told.the-variants.{Nothing, ResetDone, Busy, Completed, Failed, NotSupported, Cancelled, Acknowledged}
+use Rattle.mailbox_rules.specs.Cci.{cciOf}
+
+abbrev pub flag : Bool → ℕ
+flag true = 1
+flag false = 0
+
+flag-small : (b : Bool) → flag b ≤ 1
+flag-small true = omega arith
+flag-small false = omega arith
+
+-- The connector, the data length, and bits 25 to 31; every other bit is clear.
+pub record Says (cci connector length : ℕ) (notSupported cancelDone resetDone busy acknowledge error complete : Bool) : Type 0 where
+  pub bit-0 : cci % 2 ≡ 0
+  pub bits-1-to-7 : cci / 2 ^ 1 % 2 ^ 7 ≡ connector
+  pub bits-8-to-15 : cci / 2 ^ 8 % 2 ^ 8 ≡ length
+  pub bits-16-to-24 : cci / 2 ^ 16 % 2 ^ 9 ≡ 0
+  pub bit-25 : cci / 2 ^ 25 % 2 ≡ flag notSupported
+  pub bit-26 : cci / 2 ^ 26 % 2 ≡ flag cancelDone
+  pub bit-27 : cci / 2 ^ 27 % 2 ≡ flag resetDone
+  pub bit-28 : cci / 2 ^ 28 % 2 ≡ flag busy
+  pub bit-29 : cci / 2 ^ 29 % 2 ≡ flag acknowledge
+  pub bit-30 : cci / 2 ^ 30 % 2 ≡ flag error
+  pub bit-31 : cci / 2 ^ 31 ≡ flag complete
+
+pub says : (cci connector length : ℕ) (notSupported cancelDone resetDone busy acknowledge error complete : Bool) → cci ≡ 2 * connector + 256 * length + 2 ^ 25 * flag notSupported + 2 ^ 26 * flag cancelDone + 2 ^ 27 * flag resetDone + 2 ^ 28 * flag busy + 2 ^ 29 * flag acknowledge + 2 ^ 30 * flag error + 2 ^ 31 * flag complete → connector < 128 → length < 256 → Says cci connector length notSupported cancelDone resetDone busy acknowledge error complete
+says cci connector length notSupported cancelDone resetDone busy acknowledge error complete e hc hl =
+    record {
+      bit-0 = omega (arith, flag-small notSupported, flag-small cancelDone, flag-small resetDone, flag-small busy, flag-small acknowledge, flag-small error, flag-small complete);
+      bits-1-to-7 = omega (arith, flag-small notSupported, flag-small cancelDone, flag-small resetDone, flag-small busy, flag-small acknowledge, flag-small error, flag-small complete);
+      bits-8-to-15 = omega (arith, flag-small notSupported, flag-small cancelDone, flag-small resetDone, flag-small busy, flag-small acknowledge, flag-small error, flag-small complete);
+      bits-16-to-24 = omega (arith, flag-small notSupported, flag-small cancelDone, flag-small resetDone, flag-small busy, flag-small acknowledge, flag-small error, flag-small complete);
+      bit-25 = omega (arith, flag-small notSupported, flag-small cancelDone, flag-small resetDone, flag-small busy, flag-small acknowledge, flag-small error, flag-small complete);
+      bit-26 = omega (arith, flag-small notSupported, flag-small cancelDone, flag-small resetDone, flag-small busy, flag-small acknowledge, flag-small error, flag-small complete);
+      bit-27 = omega (arith, flag-small notSupported, flag-small cancelDone, flag-small resetDone, flag-small busy, flag-small acknowledge, flag-small error, flag-small complete);
+      bit-28 = omega (arith, flag-small notSupported, flag-small cancelDone, flag-small resetDone, flag-small busy, flag-small acknowledge, flag-small error, flag-small complete);
+      bit-29 = omega (arith, flag-small notSupported, flag-small cancelDone, flag-small resetDone, flag-small busy, flag-small acknowledge, flag-small error, flag-small complete);
+      bit-30 = omega (arith, flag-small notSupported, flag-small cancelDone, flag-small resetDone, flag-small busy, flag-small acknowledge, flag-small error, flag-small complete);
+      bit-31 = omega (arith, flag-small notSupported, flag-small cancelDone, flag-small resetDone, flag-small busy, flag-small acknowledge, flag-small error, flag-small complete);
+    }
+
+-- Of what was told, the bits that are set: outside a run the connector shown too, and in a run bit 28 alone.
+module _ (shown : ℕ) where
+  pub nothing-says : Says (cciOf Nothing shown) (shown % 128) 0 false false false false false false false
+  unfolding cciOf
+  nothing-says = says _ _ _ false false false false false false false (omega arith) (omega arith) (omega arith)
+
+  pub reset-done-says : Says (cciOf ResetDone shown) (shown % 128) 0 false false true false false false false
+  unfolding cciOf
+  reset-done-says = says _ _ _ false false true false false false false (omega arith) (omega arith) (omega arith)
+
+  pub completed-says : (length : ℕ) → length < 256 → Says (cciOf (Completed length) shown) (shown % 128) length false false false false false false true
+  unfolding cciOf
+  completed-says length h = says _ _ _ false false false false false false true (omega arith) (omega arith) h
+
+  pub failed-says : Says (cciOf Failed shown) (shown % 128) 0 false false false false false true true
+  unfolding cciOf
+  failed-says = says _ _ _ false false false false false true true (omega arith) (omega arith) (omega arith)
+
+  pub not-supported-says : Says (cciOf NotSupported shown) (shown % 128) 0 true false false false false false true
+  unfolding cciOf
+  not-supported-says = says _ _ _ true false false false false false true (omega arith) (omega arith) (omega arith)
+
+  pub cancelled-says : Says (cciOf Cancelled shown) (shown % 128) 0 false true false false false false true
+  unfolding cciOf
+  cancelled-says = says _ _ _ false true false false false false true (omega arith) (omega arith) (omega arith)
+
+  pub acknowledged-says : Says (cciOf Acknowledged shown) (shown % 128) 0 false false false false true false false
+  unfolding cciOf
+  acknowledged-says = says _ _ _ false false false false true false false (omega arith) (omega arith) (omega arith)
+
+  pub busy-says : (command : Command) → Says (cciOf (Busy command) shown) 0 0 false false false true false false false
+  unfolding cciOf
+  busy-says command = says _ _ _ false false false true false false false (omega arith) (omega arith) (omega arith)
+
+-- Whatever else is told.
+pub outside-shows : (told : Told) (shown : ℕ) → runsOf told ≡ false → cciOf told shown / 2 ^ 1 % 2 ^ 7 ≡ shown % 128
+unfolding cciOf runsOf
+outside-shows Nothing shown e = omega arith
+outside-shows ResetDone shown e = omega arith
+outside-shows (Busy command) shown e = absurd (true≢false e)
+outside-shows (Completed length) shown e = omega arith
+outside-shows Failed shown e = omega arith
+outside-shows NotSupported shown e = omega arith
+outside-shows Cancelled shown e = omega arith
+outside-shows Acknowledged shown e = omega arith
+
+pub in-run-alone : (told : Told) (shown : ℕ) → runsOf told ≡ true → cciOf told shown ≡ 2 ^ 28
+unfolding cciOf runsOf
+in-run-alone (Busy command) shown e = refl
+in-run-alone Nothing shown e = absurd (true≢false (sym e))
+in-run-alone ResetDone shown e = absurd (true≢false (sym e))
+in-run-alone (Completed length) shown e = absurd (true≢false (sym e))
+in-run-alone Failed shown e = absurd (true≢false (sym e))
+in-run-alone NotSupported shown e = absurd (true≢false (sym e))
+in-run-alone Cancelled shown e = absurd (true≢false (sym e))
+in-run-alone Acknowledged shown e = absurd (true≢false (sym e))

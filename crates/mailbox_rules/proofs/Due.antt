@@ -1,0 +1,93 @@
+-- When an acknowledgement is due, and what ends that (01, The mailbox).
+use Prim.Native.Nat.{ℕ}
+use mathlib.Core.Bool.{Bool, true, false, true≢false}
+use mathlib.Core.Logic.{_⊎_, inl, inr}
+use mathlib.Core.Path.{_≡_, refl, sym, ap}
+use native.Mathlib.Omega.{arith}
+use borrow.Author.Tests.{eqb-true}
+use Rattle.basis.specs.Pick.{pick, pick-all}
+use Rattle.commands.specs.Table.{entryOf}
+use Rattle.commands.proofs.Rows.{Named, named}
+use Rattle.commands.specs.declared.table.Class.{Class}
+use Rattle.commands.specs.declared.table.Class.the-variants as class
+use Rattle.commands.specs.declared.control.Control.{Control}
+use Rattle.mailbox_state.specs.Answer.{numberOf}
+use Rattle.mailbox_state.specs.Told.{runsOf, dueOf}
+use Rattle.mailbox_state.specs.declared.answer.Answer.the-variants.{Taken}
+use Rattle.mailbox_state.specs.declared.told.Told.{Told}
+use Rattle.mailbox_state.specs.declared.told.Told.the-variants.{Nothing, ResetDone, Busy, Completed, Failed, NotSupported, Cancelled, Acknowledged}
+use Rattle.mailbox_state.specs.declared.stand.Stand.{Stand}
+use Rattle.mailbox_state.specs.declared.step.Step.{Step}
+use Rattle.mailbox_rules.specs.Refusal.{judgedOf, refusalOf}
+use Rattle.mailbox_rules.specs.Write.{heededOf, writeOf}
+use Rattle.mailbox_rules.proofs.Command.{Tells, zero-taken, write-takes}
+
+pub due-still : (told : Told) → dueOf told ≡ true → runsOf told ≡ false
+unfolding dueOf runsOf
+due-still Nothing e = refl
+due-still ResetDone e = refl
+due-still (Busy command) e = sym e
+due-still (Completed length) e = refl
+due-still Failed e = refl
+due-still NotSupported e = refl
+due-still Cancelled e = refl
+due-still Acknowledged e = refl
+
+-- What ends an acknowledgement that is due: PPM_RESET, or ACK with bit 17.
+pub data Ends (code : ℕ) (command : Bool) : Type 0 where
+  reset : code ≡ 0x01 → Ends code command
+  acknowledged : code ≡ 0x04 → command ≡ true → Ends code command
+
+ending : (class : Class) (off runs due shown change command : Bool) (code : ℕ) → runs ≡ false → due ≡ true → judgedOf class off runs due shown change command ≡ Taken → Named code class → Ends code command
+unfolding judgedOf pick
+ending class off true due shown change command code r d e h = absurd (true≢false r)
+ending class off false false shown change command code r d e h = absurd (true≢false (sym d))
+ending class.Reset off false true shown change command code r d e h = reset h
+ending class.Acknowledge true false true shown change command code r d e h = absurd (omega (arith, ap numberOf e))
+ending class.Acknowledge false false true shown change true code r d e h = acknowledged h refl
+ending class.Acknowledge false false true shown change false code r d e h = absurd (omega (arith, ap numberOf e))
+ending class.Cancel true false true shown change command code r d e h = absurd (omega (arith, ap numberOf e))
+ending class.Cancel false false true shown change command code r d e h = absurd (omega (arith, ap numberOf e))
+ending class.Enable true false true shown change command code r d e h = absurd (omega (arith, ap numberOf e))
+ending class.Enable false false true shown change command code r d e h = absurd (omega (arith, ap numberOf e))
+ending class.Run true false true shown change command code r d e h = absurd (omega (arith, ap numberOf e))
+ending class.Run false false true shown change command code r d e h = absurd (omega (arith, ap numberOf e))
+ending class.NotSupported true false true shown change command code r d e h = absurd (omega (arith, ap numberOf e))
+ending class.NotSupported false false true shown change command code r d e h = absurd (omega (arith, ap numberOf e))
+
+abbrev IsDue : Step → Type 0
+IsDue step = dueOf (step .stand .told) ≡ true
+
+module _ (stand : Stand) (control : Control) where
+  pub due-stays : dueOf (stand .told) ≡ true → IsDue (writeOf stand control) ⊎ Ends (control .code) (control .command)
+  unfolding heededOf
+  due-stays h =
+      pick-all (λ (s : Step). IsDue s ⊎ Ends (control .code) (control .command)) _ _ _
+      (λ y.
+      inr
+      (ending (entryOf (control .code) .class) _ _ _ _ _ _ (control .code) (due-still (stand .told) h) h
+      (zero-taken _ (eqb-true (numberOf (refusalOf stand (entryOf (control .code) .class) control)) 0 y))
+      (named (control .code))))
+      (λ n. inl h)
+
+-- Every completion and cancel leaves an acknowledgement due; what does not complete at once runs.
+abbrev pub Leaves : Class → Told → Type 0
+Leaves class.Reset told = Unit
+Leaves class.Acknowledge told = Unit
+Leaves class.Cancel told = dueOf told ≡ true
+Leaves class.Enable told = dueOf told ≡ true
+Leaves class.Run told = (runsOf told ≡ true) ⊎ (dueOf told ≡ true)
+Leaves class.NotSupported told = dueOf told ≡ true
+
+leaves : (class : Class) (told : Told) → Tells class told → Leaves class told
+unfolding dueOf
+leaves class.Reset told e = tt
+leaves class.Acknowledge told e = tt
+leaves class.Cancel told e = ap dueOf e
+leaves class.Enable told e = ap dueOf e
+leaves class.Run told (inl r) = inl r
+leaves class.Run told (inr e) = inr (ap dueOf e)
+leaves class.NotSupported told e = ap dueOf e
+
+pub write-leaves : (stand : Stand) (control : Control) → refusalOf stand (entryOf (control .code) .class) control ≡ Taken → Leaves (entryOf (control .code) .class) (writeOf stand control .stand .told)
+write-leaves stand control e = leaves (entryOf (control .code) .class) (writeOf stand control .stand .told) (write-takes stand control e .tells)

@@ -1,0 +1,46 @@
+-- In a run nothing but the class and the notifications matter (01, Numbers we answer: 2 and 3).
+use mathlib.Core.Bool.{Bool, true, false}
+use mathlib.Core.Path.{_≡_, refl, sym}
+use Rattle.basis.specs.Pick.{pick}
+use Rattle.commands.specs.declared.table.Class.{Class}
+use Rattle.commands.specs.declared.table.Class.the-variants.{Reset, Cancel, Acknowledge, Enable, Run, NotSupported}
+use Rattle.mailbox_state.specs.Told.{runsOf, dueOf}
+use Rattle.mailbox_state.specs.declared.told.Told.{Told}
+use Rattle.mailbox_state.specs.declared.told.Told.the-variants.{Nothing, ResetDone, Busy, Completed, Failed, NotSupported as Unsupported, Cancelled, Acknowledged}
+use Rattle.mailbox_rules.specs.Refusal.{judgedOf, unheardOf}
+
+-- An acknowledgement is never due in a run.
+pub not-due : (told : Told) → runsOf told ≡ true → dueOf told ≡ false
+unfolding runsOf dueOf
+not-due (Busy command) e = refl
+not-due Nothing e = refl
+not-due ResetDone e = refl
+not-due (Completed length) e = sym e
+not-due Failed e = sym e
+not-due Unsupported e = sym e
+not-due Cancelled e = sym e
+not-due Acknowledged e = refl
+
+pub in-run : (class : Class) (off shown change command : Bool) → judgedOf class off true false false false false ≡ judgedOf class off true false shown change command
+unfolding judgedOf pick
+in-run Reset off shown change command = refl
+in-run Cancel true shown change command = refl
+in-run Cancel false shown change command = refl
+in-run Acknowledge true shown change command = refl
+in-run Acknowledge false shown change command = refl
+in-run Enable true shown change command = refl
+in-run Enable false shown change command = refl
+in-run Run true shown change command = refl
+in-run Run false shown change command = refl
+in-run NotSupported true shown change command = refl
+in-run NotSupported false shown change command = refl
+
+-- A command that runs while notifications are off is judged by the same order.
+pub unheard : (class : Class) (due shown change command : Bool) → unheardOf class ≡ judgedOf class true true due shown change command
+unfolding judgedOf pick
+unheard Reset due shown change command = refl
+unheard Cancel due shown change command = refl
+unheard Acknowledge due shown change command = refl
+unheard Enable due shown change command = refl
+unheard Run due shown change command = refl
+unheard NotSupported due shown change command = refl

@@ -1,0 +1,14 @@
+pub mod Bits
+pub mod Command
+pub mod Due
+pub mod InRun
+pub mod Judged
+pub mod Keeps
+pub mod Lowest
+pub mod Marked
+pub mod Meets
+pub mod Noted
+pub mod Places
+pub mod Report
+pub mod Rows
+pub mod Steps

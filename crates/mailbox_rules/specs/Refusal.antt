@@ -1,0 +1,74 @@
+-- Which refusal a write meets, in the order of document 01: PPM_RESET, 2, 3, 4, 5, 6 (01, Numbers we answer).
+use mathlib.Core.Bool.{Bool, true, false, not, _&&_, _||_}
+use lib.Dec.{eqb}
+use Rattle.basis.specs.Pick.{pick}
+use Rattle.commands.specs.declared.table.Class.{Class}
+use Rattle.commands.specs.declared.table.Class.the-variants.{Reset, Cancel, Acknowledge, Enable, Run, NotSupported}
+use Rattle.commands.specs.declared.control.Control.{Control}
+use Rattle.mailbox_state.specs.Told.{runsOf, dueOf}
+use Rattle.mailbox_state.specs.Stand.{offOf}
+use Rattle.mailbox_state.specs.declared.answer.Answer.{Answer}
+use Rattle.mailbox_state.specs.declared.answer.Answer.the-variants.{Taken, NotificationsOff, CommandRuns, AcknowledgementDue, NothingToClear, NothingToCancel}
+use Rattle.mailbox_state.specs.declared.stand.Stand.{Stand}
+
+abbrev pub isReset : Class → Bool
+isReset Reset = true
+isReset Cancel = false
+isReset Acknowledge = false
+isReset Enable = false
+isReset Run = false
+isReset NotSupported = false
+
+abbrev pub isCancel : Class → Bool
+isCancel Reset = false
+isCancel Cancel = true
+isCancel Acknowledge = false
+isCancel Enable = false
+isCancel Run = false
+isCancel NotSupported = false
+
+abbrev pub isAcknowledge : Class → Bool
+isAcknowledge Reset = false
+isAcknowledge Cancel = false
+isAcknowledge Acknowledge = true
+isAcknowledge Enable = false
+isAcknowledge Run = false
+isAcknowledge NotSupported = false
+
+abbrev pub isEnable : Class → Bool
+isEnable Reset = false
+isEnable Cancel = false
+isEnable Acknowledge = false
+isEnable Enable = true
+isEnable Run = false
+isEnable NotSupported = false
+
+-- ACK with neither bit, or a bit with nothing to clear.
+abbrev pub clearsNothing : Bool → Bool → Bool → Bool → Bool
+clearsNothing due shown change command = not (change || command) || (change && not shown) || (command && not due)
+
+-- Of a class: notifications off, running, acknowledgement due, a connector shown; and ACK's bits 16 and 17.
+unfoldable pub judgedOf : Class → Bool → Bool → Bool → Bool → Bool → Bool → Answer
+judgedOf class off runs due shown change command =
+    pick (isReset class) Taken
+    (pick (off && not (isEnable class)) NotificationsOff
+    (pick (runs && not (isCancel class)) CommandRuns
+    (pick (due && not (isAcknowledge class && command)) AcknowledgementDue
+    (pick (isAcknowledge class && clearsNothing due shown change command) NothingToClear
+    (pick (isCancel class && not runs) NothingToCancel
+    Taken)))))
+
+abbrev pub refusalOf : Stand → Class → Control → Answer
+refusalOf stand class control =
+    judgedOf class (offOf (stand .notifications)) (runsOf (stand .told)) (dueOf (stand .told)) (not (eqb (stand .changes .shown) 0))
+    (control .change)
+    (control .command)
+
+-- A command that runs while notifications are off: 0x05 is 3, everything else but PPM_RESET is 2.
+abbrev pub unheardOf : Class → Answer
+unheardOf Reset = Taken
+unheardOf Cancel = NotificationsOff
+unheardOf Acknowledge = NotificationsOff
+unheardOf Enable = CommandRuns
+unheardOf Run = NotificationsOff
+unheardOf NotSupported = NotificationsOff

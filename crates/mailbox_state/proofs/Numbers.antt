@@ -1,0 +1,52 @@
+-- The numbers of the answers, and of a count of connectors, as document 01 has them (01, Numbers we answer; 01, The mailbox).
+use Prim.Native.Nat.{ℕ, _≤_, _<_}
+use mathlib.Core.Path.{_≡_, refl}
+use native.Mathlib.Omega.{arith}
+use borrow.Author.Tests.{lt-ltb, le-ltb}
+use Rattle.basis.specs.Pick.{pick}
+use Rattle.mailbox_state.specs.Answer.{numberOf}
+use Rattle.mailbox_state.specs.Connectors as connectors
+use Rattle.mailbox_state.specs.declared.answer.Answer.the-variants.{Taken, ControlLength, NotificationsOff, CommandRuns, AcknowledgementDue, NothingToClear, NothingToCancel, NothingRuns, DataTooLong, NoSuchConnector}
+use Rattle.mailbox_state.specs.declared.connectors.Counted.the-variants.{Made, Refused}
+
+pub record Numbers : Type 0 where
+  pub taken : numberOf Taken ≡ 0
+  pub controlLength : numberOf ControlLength ≡ 1
+  pub notificationsOff : numberOf NotificationsOff ≡ 2
+  pub commandRuns : numberOf CommandRuns ≡ 3
+  pub acknowledgementDue : numberOf AcknowledgementDue ≡ 4
+  pub nothingToClear : numberOf NothingToClear ≡ 5
+  pub nothingToCancel : numberOf NothingToCancel ≡ 6
+  pub nothingRuns : numberOf NothingRuns ≡ 7
+  pub dataTooLong : numberOf DataTooLong ≡ 8
+  pub noSuchConnector : numberOf NoSuchConnector ≡ 9
+  pub refused : connectors.numberOf Refused ≡ 29
+
+pub numbers : Numbers
+numbers =
+    record {
+      taken = refl;
+      controlLength = refl;
+      notificationsOff = refl;
+      commandRuns = refl;
+      acknowledgementDue = refl;
+      nothingToClear = refl;
+      nothingToCancel = refl;
+      nothingRuns = refl;
+      dataTooLong = refl;
+      noSuchConnector = refl;
+      refused = refl;
+    }
+
+module _ (count : ℕ) where
+  pub counted : 1 ≤ count → count ≤ 8 → connectors.countedOf count ≡ Made (record { count = count })
+  unfolding connectors.countedOf pick
+  counted low high = rw (le-ltb count 1 low, le-ltb 8 count high)
+
+  pub none-29 : count ≡ 0 → connectors.countedOf count ≡ Refused
+  unfolding connectors.countedOf pick
+  none-29 e = rw (lt-ltb count 1 (omega arith))
+
+  pub many-29 : 8 < count → connectors.countedOf count ≡ Refused
+  unfolding connectors.countedOf pick
+  many-29 h = rw (le-ltb count 1 (omega arith), lt-ltb 8 count h)

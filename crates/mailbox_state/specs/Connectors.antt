@@ -1,0 +1,19 @@
+-- There are 1 to 8 connectors, fixed at the start; other counts: 29, no mailbox (01, The mailbox).
+use Prim.Native.Nat.{ℕ}
+use lib.Dec.{ltb}
+use Rattle.basis.specs.Pick.{pick}
+use Rattle.mailbox_state.specs.declared.connectors.Counted.{Counted}
+use Rattle.mailbox_state.specs.declared.connectors.Counted.the-variants.{Made, Refused}
+
+abbrev pub least : ℕ
+least = 1
+
+abbrev pub most : ℕ
+most = 8
+
+unfoldable pub countedOf : ℕ → Counted
+countedOf count = pick (ltb count least) Refused (pick (ltb most count) Refused (Made (record { count = count })))
+
+abbrev pub numberOf : Counted → ℕ
+numberOf (Made connectors) = 0
+numberOf Refused = 29

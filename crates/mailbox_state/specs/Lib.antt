@@ -1,0 +1,5 @@
+pub mod Answer
+pub mod Told
+pub mod Stand
+pub mod Connectors
+pub mod Step

@@ -1,0 +1,35 @@
+// Where the mailbox stands.
+use crate::told::Told;
+ghost use mathlib.Core.Path.{_≡_};
+ghost use Rattle.mailbox_state.specs.Stand.{offOf};
+
+// A mask is there only while notifications are on.
+pub enum Notifications {
+    Off,
+    On { mask: u16 },
+}
+
+// `shown` is a connector or 0 for none; connector c waits if `waiting[c - 1]`.
+pub struct Changes {
+    pub shown: u8,
+    pub waiting: [bool; 8],
+}
+
+// `connectors` is how many there are.
+pub struct Stand {
+    pub connectors: u8,
+    pub notifications: Notifications,
+    pub told: Told,
+    pub changes: Changes,
+}
+
+impl Notifications {
+    pub fn off(self) -> bool
+        ensures { λ r. ⌜ r ≡ offOf self ⌝ }
+    {
+        match self {
+            Notifications::Off => true,
+            Notifications::On { mask: _ } => false,
+        }
+    }
+}

@@ -1,0 +1,3 @@
+pub mod Lowest
+pub mod Outside
+pub mod Unique
