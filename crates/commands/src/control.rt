@@ -9,7 +9,7 @@ pub const CONTROL_SIZE: usize = 8;
 // The fields that the commands of document 01 use; each command looks at its own.
 pub struct Control {
     pub code: u8,
-    // 000 T4-5, T4-15, T4-42: Connector Number.
+    // 000 T4-5, T4-15, T4-41: Connector Number.
     pub connector: u8,
     // 000 T4-5: Reset Type.
     pub reset_type: u8,

@@ -10,7 +10,7 @@ use Rattle.commands.specs.Control.{fieldsOf, controlOf}
 use Rattle.commands.specs.declared.control.Parsed.{Parsed}
 use Rattle.mailbox_state.specs.Told.{runsOf, dueOf}
 use Rattle.mailbox_state.specs.declared.stand.Stand.{Stand}
-use Rattle.mailbox_rules.proofs.Due.{Ends, due-still, due-stays}
+use Rattle.mailbox_rules.proofs.Pending.{Ends, due-still, due-stays}
 use Rattle.mailbox_rules.proofs.Noted.{change-alters}
 use Rattle.mailbox_rules.proofs.Report.{success-7, success-completes, failure-7, failure-completes}
 use Rattle.mailbox.specs.Events.{readOf, reportedOf, successOf, failureOf}
@@ -19,6 +19,15 @@ use Rattle.mailbox.specs.declared.state.Mailbox.{Mailbox}
 
 abbrev pub IsDue : Mailbox → Type 0
 IsDue m = dueOf (m .stand .told) ≡ true
+
+module _ (m : Mailbox) (r : runsOf (m .stand .told) ≡ true) where
+  pub success-due : (bytes : List ℕ) → length bytes ≤ 255 → IsDue (successOf m bytes .state)
+  unfolding reportedOf dueOf pick
+  success-due bytes h = rw (success-completes (m .stand) (length bytes) r h)
+
+  pub failure-due : IsDue (failureOf m .state)
+  unfolding dueOf
+  failure-due = rw (failure-completes (m .stand) r)
 
 -- Of an event: whether it is the one that may end it.
 abbrev pub EndsIt : Event → Type 0
@@ -39,12 +48,3 @@ module _ (m : Mailbox) (d : IsDue m) where
   due-until (succeeds bytes) = inl (success-not bytes)
   due-until fails = inl (rw (failure-7 (m .stand) (due-still (m .stand .told) d)) d)
   due-until (changes c reason) = inl (ap (λ (s : Stand). dueOf (s .told)) (change-alters (m .stand) c reason .stand-kept) ∙ d)
-
-module _ (m : Mailbox) (r : runsOf (m .stand .told) ≡ true) where
-  pub success-due : (bytes : List ℕ) → length bytes ≤ 255 → IsDue (successOf m bytes .state)
-  unfolding reportedOf dueOf pick
-  success-due bytes h = rw (success-completes (m .stand) (length bytes) r h)
-
-  pub failure-due : IsDue (failureOf m .state)
-  unfolding dueOf
-  failure-due = rw (failure-completes (m .stand) r)

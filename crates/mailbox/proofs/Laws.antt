@@ -2,7 +2,7 @@
 use Prim.Native.Nat.{ℕ, _/_, _%_, _^_}
 use mathlib.Core.Bool.{true, false}
 use mathlib.Core.List.{List}
-use mathlib.Core.Path.{_≡_, refl, ap}
+use mathlib.Core.Path.{_≡_, refl, sym, _∙_, ap}
 use borrow.Author.Tests.{ne-eqb, eqb-true}
 use lib.Dec.{eqb}
 use lib.ListN.{length, replicate}
@@ -16,12 +16,13 @@ use Rattle.mailbox_state.specs.declared.answer.Answer.the-variants.{ControlLeng
 use Rattle.mailbox_state.specs.declared.connectors.Connectors.{Connectors}
 use Rattle.mailbox_state.specs.declared.stand.Notifications.the-variants.{Off}
 use Rattle.mailbox_state.specs.declared.stand.Stand.{Stand}
+use Rattle.mailbox_state.specs.declared.told.Told.{Told}
 use Rattle.mailbox_state.specs.declared.step.Step.{Step}
 use Rattle.mailbox_rules.specs.Report.{succeedOf, failOf}
 use Rattle.mailbox_rules.specs.Cci as cci
 use Rattle.mailbox_rules.specs.Change as change
 use Rattle.mailbox_rules.specs.Write as write
-use Rattle.mailbox_rules.proofs.Bits.{in-run-alone, outside-shows}
+use Rattle.mailbox_rules.proofs.Bits.{in-run-alone, outside-shows, others-stay, bit-0-clear}
 use Rattle.mailbox_rules.proofs.Keeps.{Keeps, write-keeps, failure-keeps, change-keeps}
 use Rattle.mailbox_rules.proofs.Noted.{change-alters}
 use Rattle.mailbox.specs.Mailbox.{zeros, freshOf, mailbox, outcome, filledOf, keptOf, cciOf, clearedOf, settledOf}
@@ -86,6 +87,22 @@ change-altered m c reason =
       told = ap (λ (s : Stand). s .told) (a .stand-kept);
       message = ap (clearedOf (m .message)) (a .cleared);
     }
+
+-- A change alters only bits 1 to 7 of CCI, and in a run none.
+module _ (m : Mailbox) (c reason : ℕ) where
+  abbrev changed : Mailbox
+  changed = changeOf m c reason .state
+
+  pub change-cci-high : cciOf changed / 2 ^ 8 ≡ cciOf m / 2 ^ 8
+  change-cci-high =
+      ap (λ (t : Told). cci.cciOf t (changed .stand .changes .shown) / 2 ^ 8) (change-altered m c reason .told)
+      ∙ others-stay (m .stand .told) (changed .stand .changes .shown) (m .stand .changes .shown)
+
+  pub change-cci-low : cciOf changed % 2 ≡ cciOf m % 2
+  change-cci-low = bit-0-clear (changed .stand .told) (changed .stand .changes .shown) ∙ sym (bit-0-clear (m .stand .told) (m .stand .changes .shown))
+
+  pub change-cci-in-run : runsOf (m .stand .told) ≡ true → cciOf changed ≡ cciOf m
+  change-cci-in-run e = cci-in-run changed (ap runsOf (change-altered m c reason .told) ∙ e) ∙ sym (cci-in-run m e)
 
 -- A fresh mailbox: CCI 0, notifications off, MESSAGE_IN zero, none shown and none waiting.
 pub record Fresh (m : Mailbox) : Type 0 where

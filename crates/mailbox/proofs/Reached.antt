@@ -1,16 +1,20 @@
 -- From a fresh mailbox, over any events: the connector shown and those waiting are within the count (01, The mailbox).
-use Prim.Native.Nat.{ℕ}
+use Prim.Native.Nat.{ℕ, _/_, _%_, _^_, _≤_}
+use mathlib.Core.Bool.{false}
 use mathlib.Core.List.{List}
 use mathlib.Core.Path.{_≡_, refl, sym, _∙_, subst}
+use native.Mathlib.Omega.{arith}
 use lib.ListN.{length}
 use Rattle.basis.specs.Pick.{pick-all}
 use Rattle.commands.specs.Control.{fieldsOf, controlOf}
 use Rattle.commands.specs.declared.control.Parsed.{Parsed}
+use Rattle.mailbox_state.specs.Told.{runsOf}
 use Rattle.mailbox_state.specs.declared.connectors.Connectors.{Connectors}
 use Rattle.mailbox_state.specs.declared.step.Step.{Step}
 use Rattle.mailbox_rules.proofs.Places.{Within, none-within}
 use Rattle.mailbox_rules.proofs.Steps.{Steps, write-steps, success-steps, failure-steps, change-steps}
-use Rattle.mailbox.specs.Mailbox.{mailbox, freshOf}
+use Rattle.mailbox.proofs.Laws.{cci-outside}
+use Rattle.mailbox.specs.Mailbox.{mailbox, freshOf, cciOf}
 use Rattle.mailbox.specs.Events.{readOf, reportedOf}
 use Rattle.mailbox.specs.History.{Event, writes, succeeds, fails, changes, eventOf, Reached, begins, goesOn}
 use Rattle.mailbox.specs.declared.state.Mailbox.{Mailbox}
@@ -43,3 +47,10 @@ module _ (connectors : Connectors) where
   unfolding freshOf
   holds begins = record { count = refl; within = none-within (connectors .count) }
   holds (goesOn {m = m} e r) = keeps-event m e (holds r)
+
+  -- So seven bits hold the connector shown.
+  pub shown-told : {m : Mailbox} → connectors .count ≤ 8 → Reached connectors m → runsOf (m .stand .told) ≡ false → cciOf m / 2 ^ 1 % 2 ^ 7 ≡ m .stand .changes .shown
+  shown-told {m} few r still =
+      let e = cci-outside m still in
+      let low = holds r .within .shown in
+      omega (arith, e, low, few)

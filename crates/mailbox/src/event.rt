@@ -52,7 +52,7 @@ impl Mailbox {
         ensures { λ r. ⌜ r ≡ changeOf self connector reason ⌝ }
     {
         let stand = self.stand;
-        let step = mailbox_steps::change(stand, connector, reason);
+        let step = mailbox_changes::change(stand, connector, reason);
         self.settled(step)
     }
 }

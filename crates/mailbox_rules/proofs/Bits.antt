@@ -103,3 +103,26 @@ in-run-alone Failed shown e = absurd (true≢false (sym e))
 in-run-alone NotSupported shown e = absurd (true≢false (sym e))
 in-run-alone Cancelled shown e = absurd (true≢false (sym e))
 in-run-alone Acknowledged shown e = absurd (true≢false (sym e))
+
+-- Whichever connector is shown, only bits 1 to 7 tell.
+pub others-stay : (told : Told) (one other : ℕ) → cciOf told one / 2 ^ 8 ≡ cciOf told other / 2 ^ 8
+unfolding cciOf
+others-stay Nothing one other = omega arith
+others-stay ResetDone one other = omega arith
+others-stay (Busy command) one other = refl
+others-stay (Completed length) one other = omega arith
+others-stay Failed one other = omega arith
+others-stay NotSupported one other = omega arith
+others-stay Cancelled one other = omega arith
+others-stay Acknowledged one other = omega arith
+
+pub bit-0-clear : (told : Told) (shown : ℕ) → cciOf told shown % 2 ≡ 0
+unfolding cciOf
+bit-0-clear Nothing shown = omega arith
+bit-0-clear ResetDone shown = omega arith
+bit-0-clear (Busy command) shown = refl
+bit-0-clear (Completed length) shown = omega arith
+bit-0-clear Failed shown = omega arith
+bit-0-clear NotSupported shown = omega arith
+bit-0-clear Cancelled shown = omega arith
+bit-0-clear Acknowledged shown = omega arith

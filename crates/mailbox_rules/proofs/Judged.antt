@@ -20,7 +20,10 @@ pub record Off (runs due shown change command : Bool) : Type 0 where
 
 pub off-2 : (runs due shown change command : Bool) → Off runs due shown change command
 unfolding judgedOf pick
-off-2 runs due shown change command = record { cancel = refl; acknowledge = refl; run = refl; notSupported = refl }
+off-2 true true shown change command = record { cancel = refl; acknowledge = refl; run = refl; notSupported = refl }
+off-2 true false shown change command = record { cancel = refl; acknowledge = refl; run = refl; notSupported = refl }
+off-2 false true shown change command = record { cancel = refl; acknowledge = refl; run = refl; notSupported = refl }
+off-2 false false shown change command = record { cancel = refl; acknowledge = refl; run = refl; notSupported = refl }
 
 -- 3: running, not CANCEL.
 pub record Running (due shown change command : Bool) : Type 0 where

@@ -1,14 +1,15 @@
 pub mod Bits
 pub mod Command
-pub mod Due
-pub mod InRun
 pub mod Judged
 pub mod Keeps
 pub mod Lowest
 pub mod Marked
 pub mod Meets
+pub mod Next
 pub mod Noted
+pub mod Pending
 pub mod Places
 pub mod Report
 pub mod Rows
+pub mod Running
 pub mod Steps

@@ -45,8 +45,9 @@ above-one (suc (suc n)) k e = omega arith
 pub meets-shared : (reason mask k : ℕ) → bit reason (suc k) ≡ 1 → bit mask (suc k) ≡ 1 → meetsOf reason mask ≡ true
 unfolding meetsOf
 meets-shared reason mask k r m =
-    lt-ltb 1 (bitAnd reason mask)
-    (above-one (bitAnd reason mask) k (both reason mask (suc k) ∙ ap (λ (x : ℕ). min x (bit mask (suc k))) r ∙ ap (λ (x : ℕ). min 1 x) m))
+    let n = bitAnd reason mask in
+    let big = above-one n k (both reason mask (suc k) ∙ ap (λ (x : ℕ). min x (bit mask (suc k))) r ∙ ap (λ (x : ℕ). min 1 x) m) in
+    lt-ltb _ n (omega (arith, big))
 
 -- and is needed.
 pub record Shared (reason mask : ℕ) : Type 0 where

@@ -23,7 +23,7 @@ use Rattle.mailbox_state.specs.declared.step.Step.{Step}
 use Rattle.mailbox_rules.specs.Changes.{nextOf}
 use Rattle.mailbox_rules.specs.Refusal.{refusalOf}
 use Rattle.mailbox_rules.specs.Write.{thereOf, begins, takenOf, heededOf, writeOf}
-use Rattle.mailbox_rules.proofs.InRun.{not-due}
+use Rattle.mailbox_rules.proofs.Running.{not-due}
 use Rattle.mailbox_rules.proofs.Judged.{reset-taken, running-3, free}
 use Rattle.mailbox_rules.proofs.Report.{telling}
 

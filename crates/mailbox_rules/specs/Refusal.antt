@@ -1,5 +1,6 @@
 -- Which refusal a write meets, in the order of document 01: PPM_RESET, 2, 3, 4, 5, 6 (01, Numbers we answer).
-use mathlib.Core.Bool.{Bool, true, false, not, _&&_, _||_}
+use Prim.Native.Nat.{ℕ}
+use mathlib.Core.Bool.{Bool, not, _&&_, _||_}
 use lib.Dec.{eqb}
 use Rattle.basis.specs.Pick.{pick}
 use Rattle.commands.specs.declared.table.Class.{Class}
@@ -11,37 +12,17 @@ use Rattle.mailbox_state.specs.declared.answer.Answer.{Answer}
 use Rattle.mailbox_state.specs.declared.answer.Answer.the-variants.{Taken, NotificationsOff, CommandRuns, AcknowledgementDue, NothingToClear, NothingToCancel}
 use Rattle.mailbox_state.specs.declared.stand.Stand.{Stand}
 
-abbrev pub isReset : Class → Bool
-isReset Reset = true
-isReset Cancel = false
-isReset Acknowledge = false
-isReset Enable = false
-isReset Run = false
-isReset NotSupported = false
+abbrev place : Class → ℕ
+place Reset = 0
+place Cancel = 1
+place Acknowledge = 2
+place Enable = 3
+place Run = 4
+place NotSupported = 5
 
-abbrev pub isCancel : Class → Bool
-isCancel Reset = false
-isCancel Cancel = true
-isCancel Acknowledge = false
-isCancel Enable = false
-isCancel Run = false
-isCancel NotSupported = false
-
-abbrev pub isAcknowledge : Class → Bool
-isAcknowledge Reset = false
-isAcknowledge Cancel = false
-isAcknowledge Acknowledge = true
-isAcknowledge Enable = false
-isAcknowledge Run = false
-isAcknowledge NotSupported = false
-
-abbrev pub isEnable : Class → Bool
-isEnable Reset = false
-isEnable Cancel = false
-isEnable Acknowledge = false
-isEnable Enable = true
-isEnable Run = false
-isEnable NotSupported = false
+-- Of this class.
+abbrev pub is : Class → Class → Bool
+is one class = eqb (place one) (place class)
 
 -- ACK with neither bit, or a bit with nothing to clear.
 abbrev pub clearsNothing : Bool → Bool → Bool → Bool → Bool
@@ -50,12 +31,12 @@ clearsNothing due shown change command = not (change || command) || (change && n
 -- Of a class: notifications off, running, acknowledgement due, a connector shown; and ACK's bits 16 and 17.
 unfoldable pub judgedOf : Class → Bool → Bool → Bool → Bool → Bool → Bool → Answer
 judgedOf class off runs due shown change command =
-    pick (isReset class) Taken
-    (pick (off && not (isEnable class)) NotificationsOff
-    (pick (runs && not (isCancel class)) CommandRuns
-    (pick (due && not (isAcknowledge class && command)) AcknowledgementDue
-    (pick (isAcknowledge class && clearsNothing due shown change command) NothingToClear
-    (pick (isCancel class && not runs) NothingToCancel
+    pick (is Reset class) Taken
+    (pick (off && not (is Enable class)) NotificationsOff
+    (pick (runs && not (is Cancel class)) CommandRuns
+    (pick (due && not (is Acknowledge class && command)) AcknowledgementDue
+    (pick (is Acknowledge class && clearsNothing due shown change command) NothingToClear
+    (pick (is Cancel class && not runs) NothingToCancel
     Taken)))))
 
 abbrev pub refusalOf : Stand → Class → Control → Answer

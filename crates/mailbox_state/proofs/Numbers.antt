@@ -41,7 +41,7 @@ numbers =
 module _ (count : ℕ) where
   pub counted : 1 ≤ count → count ≤ 8 → connectors.countedOf count ≡ Made (record { count = count })
   unfolding connectors.countedOf pick
-  counted low high = rw (le-ltb count 1 low, le-ltb 8 count high)
+  counted low high = rw (le-ltb count connectors.least (omega arith), le-ltb connectors.most count (omega arith))
 
   pub none-29 : count ≡ 0 → connectors.countedOf count ≡ Refused
   unfolding connectors.countedOf pick

@@ -1,10 +1,9 @@
--- The contracts of `cci`, `write`, `succeed`, `fail` and `change` leave one answer for each input.
+-- The contracts of `cci`, `write`, `succeed` and `fail` leave one answer for each input.
 use Prim.Native.Nat.{ℕ}
 use mathlib.Core.Path.{_≡_}
 use Rattle.basis.specs.Only.{only}
 use Rattle.commands.specs.declared.control.Control.{Control}
 use Rattle.mailbox_rules.specs.Cci.{cciOf}
-use Rattle.mailbox_rules.specs.Change.{changeOf}
 use Rattle.mailbox_rules.specs.Report.{succeedOf, failOf}
 use Rattle.mailbox_rules.specs.Write.{writeOf}
 use Rattle.mailbox_state.specs.declared.stand.Stand.{Stand}
@@ -23,6 +22,3 @@ module _ (stand : Stand) where
 
   pub one-fail : (r r′ : Step) → r ≡ failOf stand → r′ ≡ failOf stand → r ≡ r′
   one-fail r r′ p q = only p q
-
-  pub one-change : (connector reason : ℕ) (r r′ : Step) → r ≡ changeOf stand connector reason → r′ ≡ changeOf stand connector reason → r ≡ r′
-  one-change connector reason r r′ p q = only p q

@@ -1,9 +1,10 @@
 // One write of CONTROL (01, The mailbox).
-use crate::changes::next;
-use crate::refusal::refusal;
 use commands::control::Control;
 use commands::table::Class;
 use commands::table::look;
+use mailbox_changes::next;
+use mailbox_changes::there;
+use mailbox_refusals::refusal;
 use mailbox_state::answer::Answer;
 use mailbox_state::stand::Changes;
 use mailbox_state::stand::Notifications;
@@ -15,7 +16,7 @@ use mailbox_state::told::Told;
 ghost use mathlib.Core.Path.{_≡_};
 ghost use Rattle.basis.specs.Pick.{pick};
 ghost use Rattle.mailbox_rules.specs.Changes.{nextOf};
-ghost use Rattle.mailbox_rules.specs.Write.{thereOf, tells, resets, acknowledges, enables, commandOf, begins, takenOf, writeOf};
+ghost use Rattle.mailbox_rules.specs.Write.{tells, resets, acknowledges, enables, commandOf, begins, takenOf, writeOf};
 
 // 002, Table A-1.
 const CONNECTOR_RESET: u8 = 0x03;
@@ -151,11 +152,4 @@ fn where_needed(needed: bool, field: u8) -> u8
         return field;
     }
     0
-}
-
-// A connector number from 1 to the count.
-pub(crate) fn there(connector: u8, count: u8) -> bool
-    ensures { λ r. ⌜ r ≡ thereOf connector count ⌝ }
-{
-    (1 <= connector) & (connector <= count)
 }

@@ -1,4 +1,5 @@
-// What a session's lines work on: the sessions of both ends, and how much memory is lent to each.
+// What lines work on: the sessions of both ends, how much memory is lent to each, and the mailbox.
+use crate::mailbox_held::Held;
 use crate::say;
 use indoor::Indoor;
 use receiver::Started;
@@ -23,6 +24,7 @@ pub(crate) struct Bench {
     pub session: Started,
     pub lent: Lent,
     pub indoors: Indoors,
+    pub held: Held,
 }
 
 pub(crate) struct Indoors {
@@ -48,45 +50,41 @@ impl Bench {
                 session: Session::Nothing,
                 lent,
             },
+            held: Held::nothing(),
         }
     }
 
     pub(crate) fn with(self, session: Started) -> Bench {
         let lent = self.lent;
         let indoors = self.indoors;
+        let held = self.held;
         Bench {
             session,
             lent,
             indoors,
+            held,
         }
     }
 
     // The receiver borrows so much from here on.
-    pub(crate) fn lending(self, lent: Lent) -> Bench {
-        let session = self.session;
-        let indoors = self.indoors;
-        Bench {
-            session,
-            lent,
-            indoors,
-        }
+    pub(crate) fn lending(mut self, lent: Lent) -> Bench {
+        self.lent = lent;
+        self
     }
 
-    pub(crate) fn with_indoors(self, indoors: Indoors) -> Bench {
-        let session = self.session;
-        let lent = self.lent;
-        Bench {
-            session,
-            lent,
-            indoors,
-        }
+    pub(crate) fn with_indoors(mut self, indoors: Indoors) -> Bench {
+        self.indoors = indoors;
+        self
+    }
+
+    pub(crate) fn holding(mut self, held: Held) -> Bench {
+        self.held = held;
+        self
     }
 
     // After a line that changes nothing here.
     pub(crate) fn heard(self, understood: bool) -> Bench {
-        if !understood {
-            say::text(b" not understood");
-        }
+        say::heard(understood);
         self
     }
 }

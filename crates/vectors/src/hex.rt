@@ -50,9 +50,22 @@ pub(crate) fn byte_of(high: u8, low: u8) -> Byte {
 }
 
 pub(crate) fn print(b: u8) {
+    say::text(b" ");
+    pair(b);
+}
+
+fn pair(b: u8) {
     let high = (b / 16) as usize;
     let low = (b % 16) as usize;
-    say::text(&[b' ', DIGITS[high], DIGITS[low]]);
+    say::text(&[DIGITS[high], DIGITS[low]]);
+}
+
+// 32 bits, as CCI has (01, The mailbox): eight digits in one word, the highest first.
+pub(crate) fn print_wide(n: u32) {
+    print((n / 16777216) as u8);
+    pair((n / 65536 % 256) as u8);
+    pair((n / 256 % 256) as u8);
+    pair((n % 256) as u8);
 }
 
 pub(crate) fn print_all(s: &[u8]) {

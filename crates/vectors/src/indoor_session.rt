@@ -15,9 +15,10 @@ use crate::script;
 use indoor::Started;
 
 pub(crate) fn run(words: &[u8], indoors: Indoors, file: &[u8], buffer: &mut [u8]) -> Indoors {
-    let found = indoor_word::next(words);
-    let end = found.end;
-    let act = found.act;
+    let next = script::next(words);
+    let start = next.start;
+    let end = next.end;
+    let act = indoor_word::act_of(&words[start..end]);
     let rest = &words[end..];
     match act {
         Act::Lend => lend(rest, indoors),
@@ -44,9 +45,10 @@ fn lend(words: &[u8], indoors: Indoors) -> Indoors {
 
 // A call whose session is left where it stood, so that the next line begins there too.
 fn tried(words: &[u8], indoors: Indoors, file: &[u8], buffer: &mut [u8]) -> Indoors {
-    let found = indoor_word::next(words);
-    let end = found.end;
-    let act = found.act;
+    let next = script::next(words);
+    let start = next.start;
+    let end = next.end;
+    let act = indoor_word::act_of(&words[start..end]);
     let Act::Call(call) = act else {
         return unchanged(b" not understood", indoors);
     };

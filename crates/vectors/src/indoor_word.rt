@@ -1,6 +1,4 @@
 // The words behind `indoor` that say what a line does (01, The indoor end's phases).
-ghost use Prim.Native.Nat.{_≤_};
-ghost use lib.ListN.{length};
 
 pub(crate) enum Act {
     Lend,
@@ -21,27 +19,7 @@ pub(crate) enum Step {
     Time,
 }
 
-// The act of a line's next word, and where that word ends.
-pub(crate) struct Found {
-    pub act: Act,
-    pub end: usize,
-}
-
-pub(crate) fn next(words: &[u8]) -> Found
-    ensures { λ r. ⌜ r .end ≤ length (now (words .entry)) ⌝ }
-{
-    if words.len() == 0 {
-        return Found {
-            act: Act::Other,
-            end: 0,
-        };
-    }
-    let end = bytes::scan::find(words, 1, words.len(), b' ');
-    let act = act_of(&words[1..end]);
-    Found { act, end }
-}
-
-fn act_of(s: &[u8]) -> Act {
+pub(crate) fn act_of(s: &[u8]) -> Act {
     if check::same(s, b"lend") {
         return Act::Lend;
     }

@@ -1,5 +1,5 @@
-// Reads a script of messages and sessions, and prints behind each line what came of it
-// (001 chapter 5; 01, The receiver's phases; 01, The indoor end's phases).
+// Reads a script of messages, sessions and mailboxes, and prints behind each line what came of it
+// (001 chapter 5; 01, The receiver's phases; 01, The indoor end's phases; 01, The mailbox).
 mod bench;
 mod call;
 mod clean_line;
@@ -11,6 +11,11 @@ mod indoor_phase;
 mod indoor_session;
 mod indoor_word;
 mod lend;
+mod mailbox_call;
+mod mailbox_held;
+mod mailbox_line;
+mod mailbox_outcome;
+mod mailbox_word;
 mod memory;
 mod message;
 mod number;
@@ -34,32 +39,41 @@ use script::Word;
 ghost use Prim.Native.Nat.{_≤_};
 ghost use lib.ListN.{length};
 
+const SCRIPT_ROOM: usize = 131072;
+
 // One byte less than there is room for: a longer script is refused, and none is cut without a word.
-const SCRIPT_MOST: usize = 65535;
+const SCRIPT_MOST: usize = 131071;
 
 fn main() {
-    let mut text = io::large_buffer();
-    let n = io::read_full(libc::STDIN_FILENO, &mut text);
+    let mut text = [0u8; SCRIPT_ROOM];
+    let mut file = [UNWRITTEN; MEMORY];
+    let mut image = [UNWRITTEN; MEMORY];
+    let mut buffer = [UNWRITTEN; BUFFER];
+    over(&mut text, &mut file, &mut image, &mut buffer);
+}
+
+// Here the arrays become slices: their lengths are known from their types, and no proof counts a million bytes.
+fn over(
+    text: &mut [u8; SCRIPT_ROOM],
+    file: &mut [u8; MEMORY],
+    image: &mut [u8; MEMORY],
+    buffer: &mut [u8; BUFFER],
+) {
+    file::fill(file);
+    read(text, file, image, buffer);
+}
+
+fn read(text: &mut [u8], file: &[u8], image: &mut [u8], buffer: &mut [u8]) {
+    let n = io::read_full(libc::STDIN_FILENO, text);
     if SCRIPT_MOST < n {
         say::text(b"the script is too long\n");
         return;
     }
-    let mut file = [UNWRITTEN; MEMORY];
-    let mut image = [UNWRITTEN; MEMORY];
-    let mut buffer = [UNWRITTEN; BUFFER];
-    over(&text[..n], &mut file, &mut image, &mut buffer);
-}
-
-// Here the arrays become slices: their lengths are known from their types, and no proof counts a million bytes.
-fn over(s: &[u8], file: &mut [u8; MEMORY], image: &mut [u8; MEMORY], buffer: &mut [u8; BUFFER])
-    requires { ⌜ length (now s) ≤ 65536 ⌝ }
-{
-    file::fill(file);
-    lines(s, file, image, buffer);
+    lines(&text[..n], file, image, buffer);
 }
 
 fn lines(s: &[u8], file: &[u8], image: &mut [u8], buffer: &mut [u8])
-    requires { ⌜ length (now s) ≤ 65536 ⌝ }
+    requires { ⌜ length (now s) ≤ 131071 ⌝ }
 {
     let mut bench = Bench::empty();
     let mut at = 0;
@@ -89,7 +103,13 @@ fn indoors(words: &[u8], bench: Bench, file: &[u8], buffer: &mut [u8]) -> Bench 
     bench.with_indoors(indoor_session::run(words, indoors, file, buffer))
 }
 
-// The bench as the line leaves it; only a session's line changes it.
+// The mailbox's lines know nothing of the sessions.
+fn mailboxes(words: &[u8], bench: Bench) -> Bench {
+    let held = bench.held;
+    bench.holding(mailbox_line::run(words, held))
+}
+
+// The bench as the line leaves it; only a line of a session or of the mailbox changes it.
 fn answer(line: &[u8], bench: Bench, file: &[u8], image: &mut [u8], buffer: &mut [u8]) -> Bench {
     let end = bytes::scan::find(line, 0, line.len(), b' ');
     let word = script::word_of(&line[0..end]);
@@ -99,6 +119,7 @@ fn answer(line: &[u8], bench: Bench, file: &[u8], image: &mut [u8], buffer: &mut
         Word::Sweep(varied) => bench.heard(message::directed(varied, rest)),
         Word::Session(act) => session::run(act, rest, bench, image, buffer),
         Word::Indoor => indoors(rest, bench, file, buffer),
+        Word::Mailbox => mailboxes(rest, bench),
         Word::Clean => bench.heard(clean_line::answer(rest, file, image)),
         Word::Other => bench.heard(false),
     }

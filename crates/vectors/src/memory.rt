@@ -1,4 +1,4 @@
-// Bytes of a lent memory, to see what a call wrote and what it kept.
+// Bytes of a memory, to see what a call wrote and what it kept.
 use crate::bench;
 use crate::number::Field;
 use crate::written;

@@ -8,11 +8,10 @@ use crate::sweep;
 
 // The first word says whether the others spell a request or a response.
 pub(crate) fn directed(varied: Varied, words: &[u8]) -> bool {
-    if words.len() == 0 {
-        return false;
-    }
-    let end = bytes::scan::find(words, 1, words.len(), b' ');
-    let word = script::word_of(&words[1..end]);
+    let next = script::next(words);
+    let start = next.start;
+    let end = next.end;
+    let word = script::word_of(&words[start..end]);
     let rest = &words[end..];
     match word {
         Word::Message { asking } => answer(varied, asking, rest),

@@ -19,6 +19,13 @@ pub(crate) fn range(first: u64, last: u64) {
     }
 }
 
+// Nothing more behind a line that was understood: it has its answer.
+pub(crate) fn heard(understood: bool) {
+    if !understood {
+        text(b" not understood");
+    }
+}
+
 // FWVersion1 to FWVersion4 (001 T5-6, T5-18).
 pub(crate) fn versions(v: Versions) {
     number(v.first as u64);

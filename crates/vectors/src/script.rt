@@ -13,6 +13,7 @@ pub(crate) enum Word {
     Sweep(Varied),
     Session(Act),
     Indoor,
+    Mailbox,
     Clean,
     Other,
 }
@@ -49,6 +50,9 @@ pub(crate) fn word_of(s: &[u8]) -> Word {
     }
     if check::same(s, b"indoor") {
         return Word::Indoor;
+    }
+    if check::same(s, b"mailbox") {
+        return Word::Mailbox;
     }
     if check::same(s, b"clean") {
         return Word::Clean;
@@ -102,6 +106,23 @@ fn memory_of(s: &[u8]) -> Word {
         return Word::Session(Act::Buffer);
     }
     Word::Other
+}
+
+// The next word of a line: where it starts and ends. Where there is none it is empty.
+pub(crate) struct Place {
+    pub start: usize,
+    pub end: usize,
+}
+
+pub(crate) fn next(words: &[u8]) -> Place
+    ensures { λ r. ⌜ r .start ≤ r .end ⌝ }
+    ensures { λ r. ⌜ r .end ≤ length (now (words .entry)) ⌝ }
+{
+    if words.len() == 0 {
+        return Place { start: 0, end: 0 };
+    }
+    let end = bytes::scan::find(words, 1, words.len(), b' ');
+    Place { start: 1, end }
 }
 
 pub(crate) fn is_heading(line: &[u8]) -> bool {

@@ -1,0 +1,63 @@
+// Lines for a mailbox that there is: a write of CONTROL, a report of the port, a change, a look at MESSAGE_IN.
+use crate::mailbox_held::Held;
+use crate::mailbox_outcome;
+use crate::mailbox_word::Step;
+use crate::memory;
+use crate::number::Field;
+use crate::script;
+use mailbox::Outcome;
+
+pub(crate) fn run(step: Step, words: &[u8], held: Held) -> Held {
+    match step {
+        Step::Bytes { reported } => spelled(reported, words, held),
+        Step::Failure => failure(words, held),
+        Step::Change => change(words, held),
+        Step::Message => message(words, held),
+    }
+}
+
+// The room of 320 bytes lets a script report more than 255, for 8 (01, Numbers we answer).
+fn spelled(reported: bool, words: &[u8], held: Held) -> Held {
+    let mut space = [0u8; 320];
+    let spelled = script::spell(words, &mut space);
+    let n = spelled.len;
+    if !spelled.known {
+        return held.heard(false);
+    }
+    let mailbox = held.mailbox;
+    if reported {
+        return ended(mailbox.report_success(&space[..n]));
+    }
+    ended(mailbox.write(&space[..n]))
+}
+
+fn ended(outcome: Outcome) -> Held {
+    let answer = outcome.answer;
+    let state = outcome.state;
+    mailbox_outcome::left(answer.number(), state)
+}
+
+fn failure(words: &[u8], held: Held) -> Held {
+    if words.len() != 0 {
+        return held.heard(false);
+    }
+    let mailbox = held.mailbox;
+    ended(mailbox.report_failure())
+}
+
+// Every connector number of 8 bits is spelled, for 9 (01, Numbers we answer).
+fn change(words: &[u8], held: Held) -> Held {
+    let connector = Field::none().next(words, 255);
+    let reason = connector.next(words, 65535);
+    if !reason.ends(words) {
+        return held.heard(false);
+    }
+    let mailbox = held.mailbox;
+    ended(mailbox.change(connector.byte(), reason.word()))
+}
+
+fn message(words: &[u8], held: Held) -> Held {
+    let mailbox = held.mailbox;
+    let message = mailbox.message_in();
+    held.heard(memory::print(words, &message))
+}
