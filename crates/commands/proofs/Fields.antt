@@ -1,17 +1,21 @@
 -- The fields of CONTROL in the bytes that hold them, and each field by its bytes (000 T3-3, T4-5, T4-7, T4-9).
 use Prim.Native.Nat.{ℕ, _+_, _*_, _/_, _%_, _<_}
 use mathlib.Core.Bool.{Bool}
-use mathlib.Core.List.{[], _∷_}
+use mathlib.Core.List.{List, _∷_}
 use mathlib.Core.Path.{_≡_, _∙_, sym, ap}
 use native.Mathlib.Nat.{add-zero}
 use native.Mathlib.Omega.{arith}
+use borrow.Author.Tests.{eq-eqb, ne-eqb}
 use lib.Dec.{eqb}
-use Rattle.commands.specs.Control.{field, isSet, fieldsOf}
+use lib.ListN.{length}
+use Rattle.basis.specs.Pick.{pick-yes, pick-no}
+use Rattle.commands.specs.Control.{field, isSet, fieldsOf, controlOf}
 use Rattle.commands.specs.declared.control.Control.{Control}
+use Rattle.commands.specs.declared.control.Parsed.the-variants.{Fields, WrongLength}
 
 abbrev control : ℕ → ℕ → ℕ → ℕ → Bool → Bool → Control
-control code connector type mask change command =
-    record { code = code; connector = connector; «reset_type» = type; mask = mask; change = change; command = command }
+control code connector type mask change completed =
+    record { code = code; connector = connector; «reset_type» = type; mask = mask; change = change; completed = completed }
 
 alike : {a b d e a′ b′ d′ e′ : ℕ} {f f′ g : Bool} → a ≡ a′ → b ≡ b′ → d ≡ d′ → e ≡ e′ → f ≡ f′ → control a b d e f g ≡ control a′ b′ d′ e′ f′ g
 alike p q r s t = cc
@@ -80,10 +84,11 @@ lowest n = omega arith
 highest : (n : ℕ) → n < 256 → n / 128 % 2 + 0 ≡ n / 128
 highest n h = omega arith
 
-pub in-bytes : (code low high : ℕ) → code < 256 → low < 256 → high < 256 → inBytes code low high ≡ fieldsOf (code ∷ 0 ∷ low ∷ high ∷ [])
+-- Whatever the second byte and those behind the fourth are: Data Length and reserved bits are not looked at.
+pub in-bytes : (code any low high : ℕ) (rest : List ℕ) → code < 256 → low < 256 → high < 256 → inBytes code low high ≡ fieldsOf (code ∷ any ∷ low ∷ high ∷ rest)
 unfolding fieldsOf
-in-bytes code low high hc hl hh =
-    let b = code ∷ 0 ∷ low ∷ high ∷ [] in
+in-bytes code any low high rest hc hl hh =
+    let b = code ∷ any ∷ low ∷ high ∷ rest in
     let above : field b 24 8 ≡ high = byte high 0 hh ∙ add-zero high in
     let p : code ≡ field b 0 8 = sym (byte code 0 hc ∙ add-zero code) in
     let q : low % 128 ≡ field b 16 7 = sym (seven low) in
@@ -91,3 +96,12 @@ in-bytes code low high hc hl hh =
     let s : low + 256 * high ≡ field b 16 16 = sym (byte low (field b 24 8) hl ∙ ap (λ (t : ℕ). low + 256 * t) above) in
     let u : eqb (low % 2) 1 ≡ isSet b 16 = ap (λ (n : ℕ). eqb n 1) (sym (lowest low)) in
     alike p q r s u
+
+-- Every CONTROL of 8 bytes is taken apart, and no other.
+pub eight-read : (b : List ℕ) → length b ≡ 8 → controlOf b ≡ Fields (fieldsOf b)
+unfolding controlOf
+eight-read b e = pick-yes _ _ _ (eq-eqb (length b) 8 e)
+
+pub others-not : (b : List ℕ) → (length b ≡ 8 → ⊥) → controlOf b ≡ WrongLength
+unfolding controlOf
+others-not b h = pick-no _ _ _ (ne-eqb (length b) 8 h)

@@ -1,4 +1,4 @@
--- The codes of the commands that document 01 treats by themselves, and where the table ends (002, Table A-1).
+-- The codes of the commands that document 01 treats by themselves (002, Table A-1).
 use Prim.Native.Nat.{ℕ}
 
 abbrev pub ppmReset : ℕ
@@ -24,7 +24,3 @@ getConnectorCapability = 0x07
 
 abbrev pub getConnectorStatus : ℕ
 getConnectorStatus = 0x12
-
--- 0x00 to 0x1D
-abbrev pub codes : ℕ
-codes = 30

@@ -34,7 +34,7 @@ fieldsOf b =
       «reset_type» = field b 23 1;
       mask = field b 16 16;
       change = isSet b 16;
-      command = isSet b 17;
+      completed = isSet b 17;
     }
 
 unfoldable pub controlOf : List ℕ → Parsed

@@ -17,7 +17,7 @@ pub struct Control {
     pub mask: u16,
     // 000 T4-7: Connector Change Acknowledge, Command Completed Acknowledge.
     pub change: bool,
-    pub command: bool,
+    pub completed: bool,
 }
 
 pub enum Parsed {
@@ -44,6 +44,6 @@ fn fields(code: u8, low: u8, high: u8) -> Control
         reset_type: low / 128,
         mask: low as u16 + 256 * (high as u16),
         change: low % 2 == 1,
-        command: low / 2 % 2 == 1,
+        completed: low / 2 % 2 == 1,
     }
 }

@@ -31,7 +31,7 @@ module _ (m : Mailbox) (r : runsOf (m .stand .told) ≡ true) where
 
 -- Of an event: whether it is the one that may end it.
 abbrev pub EndsIt : Event → Type 0
-EndsIt (writes control) = Ends (fieldsOf control .code) (fieldsOf control .command)
+EndsIt (writes control) = Ends (fieldsOf control .code) (fieldsOf control .completed)
 EndsIt (succeeds bytes) = ⊥
 EndsIt fails = ⊥
 EndsIt (changes c reason) = ⊥

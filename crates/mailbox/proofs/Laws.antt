@@ -3,11 +3,12 @@ use Prim.Native.Nat.{ℕ, _/_, _%_, _^_}
 use mathlib.Core.Bool.{true, false}
 use mathlib.Core.List.{List}
 use mathlib.Core.Path.{_≡_, refl, sym, _∙_, ap}
-use borrow.Author.Tests.{ne-eqb, eqb-true}
+use borrow.Author.Tests.{eqb-true}
 use lib.Dec.{eqb}
 use lib.ListN.{length, replicate}
-use Rattle.basis.specs.Pick.{pick, pick-all}
-use Rattle.commands.specs.Control.{controlOf}
+use Rattle.basis.specs.Pick.{pick-all}
+use Rattle.commands.specs.Control.{fieldsOf, controlOf}
+use Rattle.commands.proofs.Fields.{eight-read, others-not}
 use Rattle.commands.specs.declared.control.Parsed.{Parsed}
 use Rattle.commands.specs.declared.control.Parsed.the-variants.{Fields, WrongLength}
 use Rattle.mailbox_state.specs.Answer.{numberOf}
@@ -26,15 +27,30 @@ use Rattle.mailbox_rules.proofs.Bits.{in-run-alone, outside-shows, others-stay,
 use Rattle.mailbox_rules.proofs.Keeps.{Keeps, write-keeps, failure-keeps, change-keeps}
 use Rattle.mailbox_rules.proofs.Noted.{change-alters}
 use Rattle.mailbox.specs.Mailbox.{zeros, freshOf, mailbox, outcome, filledOf, keptOf, cciOf, clearedOf, settledOf}
-use Rattle.mailbox.specs.Events.{readOf, reportedOf, writeOf, changeOf}
+use Rattle.mailbox.specs.Events.{readOf, reportedOf, writeOf, failureOf, changeOf}
 use Rattle.mailbox.specs.History.{Event, writes, succeeds, fails, changes, eventOf}
 use Rattle.mailbox.specs.declared.state.Mailbox.{Mailbox}
 use Rattle.mailbox.specs.declared.state.Outcome.{Outcome}
 
--- 1 comes before everything, before PPM_RESET too.
-pub control-1 : (m : Mailbox) (control : List ℕ) → (length control ≡ 8 → ⊥) → writeOf m control ≡ keptOf m ControlLength
-unfolding readOf controlOf pick
-control-1 m control h = rw (ne-eqb (length control) 8 h)
+-- Each call is the step that the rules decide, with MESSAGE_IN cleared where the step says so.
+abbrev pub moved : Mailbox → Step → Outcome
+moved m step = outcome (mailbox (step .stand) (clearedOf (m .message) (step .clears))) (step .answer)
+
+module _ (m : Mailbox) where
+  pub write-step : (control : List ℕ) → length control ≡ 8 → writeOf m control ≡ moved m (write.writeOf (m .stand) (fieldsOf control))
+  unfolding readOf
+  write-step control e = ap (readOf m) (eight-read control e)
+
+  pub failure-step : failureOf m ≡ moved m (failOf (m .stand))
+  failure-step = refl
+
+  pub change-step : (c reason : ℕ) → changeOf m c reason ≡ moved m (change.changeOf (m .stand) c reason)
+  change-step c reason = refl
+
+  -- 1 comes before everything, before PPM_RESET too.
+  pub control-1 : (control : List ℕ) → (length control ≡ 8 → ⊥) → writeOf m control ≡ keptOf m ControlLength
+  unfolding readOf
+  control-1 control h = ap (readOf m) (others-not control h)
 
 abbrev Kept : Mailbox → Outcome → Type 0
 Kept m o = (numberOf (o .answer) ≡ 0 → ⊥) → o ≡ keptOf m (o .answer)

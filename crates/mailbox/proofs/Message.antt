@@ -3,11 +3,11 @@
 use Prim.Native.Nat.{ℕ, zero, suc, _-_, _≤_}
 use mathlib.Core.Bool.{true}
 use mathlib.Core.List.{List, _++_}
-use mathlib.Core.Path.{_≡_, refl, sym, _∙_, ap}
+use mathlib.Core.Path.{_≡_, refl, sym, _∙_, ap, subst}
 use native.Mathlib.Nat.{sub-zero, suc-sub-suc, zero-sub}
 use lib.ListN.{length, drop, replicate}
+use Rattle.commands.specs.Control.{fieldsOf}
 use Rattle.commands.specs.Table.{entryOf}
-use Rattle.commands.specs.declared.control.Control.{Control}
 use Rattle.mailbox_state.specs.Told.{runsOf}
 use Rattle.mailbox_state.specs.declared.answer.Answer.the-variants.{Taken}
 use Rattle.mailbox_state.specs.declared.told.Told.{Told}
@@ -20,10 +20,11 @@ use Rattle.mailbox_rules.specs.Refusal.{refusalOf}
 use Rattle.mailbox_rules.specs.Write as write
 use Rattle.mailbox_rules.proofs.Command.{Zeroes, write-takes}
 use Rattle.mailbox_rules.proofs.Report.{telling, success-completes, failure-completes}
-use Rattle.mailbox.specs.Mailbox.{zeros, filledOf, clearedOf, settledOf}
-use Rattle.mailbox.specs.Events.{reportedOf, successOf, failureOf}
+use Rattle.mailbox.specs.Mailbox.{zeros, filledOf, mailbox, outcome, clearedOf}
+use Rattle.mailbox.specs.Events.{reportedOf, writeOf, successOf, failureOf}
 use Rattle.mailbox.specs.declared.state.Mailbox.{Mailbox}
 use Rattle.mailbox.specs.declared.state.Outcome.{Outcome}
+use Rattle.mailbox.proofs.Laws.{write-step}
 use Rattle.mailbox.proofs.Reported.{reported}
 
 dropped : (k n : ℕ) → drop k (replicate n 0) ≡ replicate {A = ℕ} (n - k) 0
@@ -31,13 +32,16 @@ dropped zero n = ap (λ (m : ℕ). replicate {A = ℕ} m 0) (sym (sub-zero n))
 dropped (suc k) zero = ap (λ (m : ℕ). replicate {A = ℕ} m 0) (sym (zero-sub (suc k)))
 dropped (suc k) (suc n) = dropped k n ∙ ap (λ (m : ℕ). replicate {A = ℕ} m 0) (sym (suc-sub-suc n k))
 
--- After a success of k bytes: those bytes, and 256 - k zeros.
-pub success-fills : (m : Mailbox) (bytes : List ℕ) → runsOf (m .stand .told) ≡ true → length bytes ≤ 255 → successOf m bytes .state .message ≡ bytes ++ replicate (256 - length bytes) 0
-unfolding filledOf zeros
-success-fills m bytes e h =
-    ap (λ (s : Step). reportedOf m bytes s .state .message) (success-completes (m .stand) (length bytes) e h)
-    ∙ ap (λ (o : Outcome). o .state .message) (reported m bytes (step (telling (m .stand) (Completed (length bytes))) Taken clears.Nothing) refl)
-    ∙ ap (λ (l : List ℕ). bytes ++ l) (dropped (length bytes) 256)
+module _ (m : Mailbox) (bytes : List ℕ) (r : runsOf (m .stand .told) ≡ true) (few : length bytes ≤ 255) where
+  pub success-step : successOf m bytes ≡ outcome (mailbox (telling (m .stand) (Completed (length bytes))) (filledOf bytes)) Taken
+  success-step =
+      ap (reportedOf m bytes) (success-completes (m .stand) (length bytes) r few)
+      ∙ reported m bytes (step (telling (m .stand) (Completed (length bytes))) Taken clears.Nothing) refl
+
+  -- After a success of k bytes: those bytes, and 256 - k zeros.
+  pub success-fills : successOf m bytes .state .message ≡ bytes ++ replicate (256 - length bytes) 0
+  unfolding filledOf zeros
+  success-fills = ap (λ (o : Outcome). o .state .message) success-step ∙ ap (λ (l : List ℕ). bytes ++ l) (dropped (length bytes) 256)
 
 -- After a write that is taken, by what is told then.
 abbrev pub After : Told → List ℕ → List ℕ → Type 0
@@ -61,12 +65,17 @@ after NotSupported c message e = ap (clearedOf message) e
 after Cancelled c message e = ap (clearedOf message) e
 after Acknowledged c message e = ap (clearedOf message) e
 
-module _ (m : Mailbox) (control : Control) where
+module _ (m : Mailbox) (control : List ℕ) where
   abbrev wrote : Mailbox
-  wrote = settledOf m (write.writeOf (m .stand) control) .state
+  wrote = writeOf m control .state
 
-  pub write-message : refusalOf (m .stand) (entryOf (control .code) .class) control ≡ Taken → After (wrote .stand .told) (m .message) (wrote .message)
-  write-message e = after (wrote .stand .told) (write.writeOf (m .stand) control .clears) (m .message) (write-takes (m .stand) control e .zeroes)
+  abbrev step-of : Step
+  step-of = write.writeOf (m .stand) (fieldsOf control)
+
+  pub write-message : length control ≡ 8 → refusalOf (m .stand) (entryOf (fieldsOf control .code) .class) (fieldsOf control) ≡ Taken → After (wrote .stand .told) (m .message) (wrote .message)
+  write-message e t =
+      subst (λ (o : Outcome). After (o .state .stand .told) (m .message) (o .state .message)) (sym (write-step m control e))
+      (after (step-of .stand .told) (step-of .clears) (m .message) (write-takes (m .stand) (fieldsOf control) t .zeroes))
 
 pub failure-zeroes : (m : Mailbox) → runsOf (m .stand .told) ≡ true → failureOf m .state .message ≡ zeros
 unfolding clearedOf

@@ -1,6 +1,6 @@
 -- The shown connector changes only by PPM_RESET, by a recorded change while none is shown, or by an accepted ACK with bit 16
 -- (01, The mailbox).
-use Prim.Native.Nat.{ℕ, _≤_}
+use Prim.Native.Nat.{ℕ}
 use mathlib.Core.Bool.{true}
 use mathlib.Core.List.{List}
 use mathlib.Core.Logic.{_⊎_, inl, inr}
@@ -16,7 +16,7 @@ use Rattle.mailbox_state.specs.declared.stand.Changes.{Changes}
 use Rattle.mailbox_rules.specs.Change as change
 use Rattle.mailbox_rules.specs.Changes.{lowestOf, notedOf, nextOf}
 use Rattle.mailbox_rules.proofs.Command.{ShownBy, stays, reset, acknowledged, write-shown}
-use Rattle.mailbox_rules.proofs.Noted.{change-alters}
+use Rattle.mailbox_rules.proofs.Noted.{Recorded, change-alters}
 use Rattle.mailbox_rules.proofs.Report.{success-leaves, failure-leaves}
 use Rattle.mailbox.specs.Events.{readOf, reportedOf}
 use Rattle.mailbox.specs.History.{Event, writes, succeeds, fails, changes, eventOf}
@@ -31,7 +31,7 @@ pub data Shows (m : Mailbox) : Event → Answer → ℕ → Type 0 where
   as-before : {e : Event} {a : Answer} {shown : ℕ} → shown ≡ shownOf m → Shows m e a shown
   none : {control : List ℕ} {a : Answer} {shown : ℕ} → fieldsOf control .code ≡ 0x01 → shown ≡ 0 → Shows m (writes control) a shown
   next : {control : List ℕ} {a : Answer} {shown : ℕ} → fieldsOf control .code ≡ 0x04 → fieldsOf control .change ≡ true → a ≡ Taken → shown ≡ lowestOf (m .stand .changes .waiting) → Shows m (writes control) a shown
-  noticed : {c reason : ℕ} {a : Answer} {shown : ℕ} → shownOf m ≡ 0 → shown ≡ c → Shows m (changes c reason) a shown
+  noticed : {c reason : ℕ} {a : Answer} {shown : ℕ} → shownOf m ≡ 0 → Recorded (m .stand) c reason → shown ≡ c → Shows m (changes c reason) a shown
 
 abbrev Showing : Mailbox → Event → Outcome → Type 0
 Showing m e o = Shows m e (o .answer) (shownOf (o .state))
@@ -43,14 +43,14 @@ module _ (m : Mailbox) where
   by-write control a after (reset h e) = none h (ap (λ (s : Changes). s .shown) e)
   by-write control a after (acknowledged h b t e) = next h b t (ap (λ (s : Changes). s .shown) e)
 
-  by-change : (c reason : ℕ) (a : Answer) → Shows m (changes c reason) a (notedOf (m .stand .changes) c .shown)
+  by-change : (c reason : ℕ) (a : Answer) → Recorded (m .stand) c reason → Shows m (changes c reason) a (notedOf (m .stand .changes) c .shown)
   unfolding notedOf
-  by-change c reason a =
-      pick-all (λ (s : Changes). Shows m (changes c reason) a (s .shown)) _ _ _ (λ y. noticed (eqb-true (shownOf m) 0 y) refl) (λ n. as-before refl)
+  by-change c reason a r =
+      pick-all (λ (s : Changes). Shows m (changes c reason) a (s .shown)) _ _ _ (λ y. noticed (eqb-true (shownOf m) 0 y) r refl) (λ n. as-before refl)
 
-  by-noted : (c reason : ℕ) (a : Answer) (after : Changes) → (after ≡ m .stand .changes) ⊎ ((1 ≤ c) × (c ≤ m .stand .connectors) × (after ≡ notedOf (m .stand .changes) c)) → Shows m (changes c reason) a (after .shown)
+  by-noted : (c reason : ℕ) (a : Answer) (after : Changes) → (after ≡ m .stand .changes) ⊎ (Recorded (m .stand) c reason × (after ≡ notedOf (m .stand .changes) c)) → Shows m (changes c reason) a (after .shown)
   by-noted c reason a after (inl e) = as-before (ap (λ (s : Changes). s .shown) e)
-  by-noted c reason a after (inr (low, high, e)) = rw e (by-change c reason a)
+  by-noted c reason a after (inr (r, e)) = rw e (by-change c reason a r)
 
   pub shown-moves : (e : Event) → Showing m e (eventOf m e)
   unfolding readOf reportedOf controlOf

@@ -4,8 +4,6 @@ ghost use mathlib.Core.Path.{_≡_};
 ghost use mathlib.Core.Bool.{true, false};
 ghost use Rattle.mailbox_rules.specs.Changes.{lowestOf, markedOf, notedOf, nextOf};
 
-const MOST: u8 = 8;
-
 const PLACES: usize = 8;
 
 // A recorded change.
@@ -55,13 +53,13 @@ fn marked(waiting: [bool; 8], connector: u8, waits: bool) -> [bool; 8]
     ensures { λ r. ⌜ r ≡ markedOf waiting connector waits ⌝ }
 {
     let mut after = waiting;
-    if connector == 0 {
+    let count = connector as usize;
+    if count == 0 {
         return after;
     }
-    if MOST < connector {
+    if PLACES < count {
         return after;
     }
-    let place = (connector - 1) as usize;
-    after[place] = waits;
+    after[count - 1] = waits;
     after
 }

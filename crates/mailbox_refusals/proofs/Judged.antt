@@ -7,33 +7,33 @@ use Rattle.mailbox_rules.specs.Refusal.{clearsNothing, judgedOf}
 use Rattle.mailbox_state.specs.declared.answer.Answer.the-variants.{Taken, NothingToClear, NothingToCancel}
 use Rattle.mailbox_refusals.specs.Stopped.{stoppedOf}
 
-pub cancels : (off due shown change command : Bool) → stoppedOf off due NothingToCancel ≡ judgedOf Cancel off false due shown change command
+pub cancels : (off due shown change completed : Bool) → stoppedOf off due NothingToCancel ≡ judgedOf Cancel off false due shown change completed
 unfolding judgedOf stoppedOf pick
-cancels true due shown change command = refl
-cancels false true shown change command = refl
-cancels false false shown change command = refl
+cancels true due shown change completed = refl
+cancels false true shown change completed = refl
+cancels false false shown change completed = refl
 
-pub enables : (off due shown change command : Bool) → stoppedOf false due Taken ≡ judgedOf Enable off false due shown change command
+pub enables : (off due shown change completed : Bool) → stoppedOf false due Taken ≡ judgedOf Enable off false due shown change completed
 unfolding judgedOf stoppedOf pick
-enables true true shown change command = refl
-enables true false shown change command = refl
-enables false true shown change command = refl
-enables false false shown change command = refl
+enables true true shown change completed = refl
+enables true false shown change completed = refl
+enables false true shown change completed = refl
+enables false false shown change completed = refl
 
-pub runs : (off due shown change command : Bool) → stoppedOf off due Taken ≡ judgedOf Run off false due shown change command
+pub runs : (off due shown change completed : Bool) → stoppedOf off due Taken ≡ judgedOf Run off false due shown change completed
 unfolding judgedOf stoppedOf pick
-runs true due shown change command = refl
-runs false true shown change command = refl
-runs false false shown change command = refl
+runs true due shown change completed = refl
+runs false true shown change completed = refl
+runs false false shown change completed = refl
 
-pub others : (off due shown change command : Bool) → stoppedOf off due Taken ≡ judgedOf NotSupported off false due shown change command
+pub others : (off due shown change completed : Bool) → stoppedOf off due Taken ≡ judgedOf NotSupported off false due shown change completed
 unfolding judgedOf stoppedOf pick
-others true due shown change command = refl
-others false true shown change command = refl
-others false false shown change command = refl
+others true due shown change completed = refl
+others false true shown change completed = refl
+others false false shown change completed = refl
 
 -- ACK_CC_CI goes on to 5.
-pub acknowledges : (off due shown change command : Bool) → stoppedOf off (due && not command) (pick (clearsNothing due shown change command) NothingToClear Taken) ≡ judgedOf Acknowledge off false due shown change command
+pub acknowledges : (off due shown change completed : Bool) → stoppedOf off (due && not completed) (pick (clearsNothing due shown change completed) NothingToClear Taken) ≡ judgedOf Acknowledge off false due shown change completed
 unfolding judgedOf stoppedOf pick
-acknowledges true due shown change command = refl
-acknowledges false due shown change command = refl
+acknowledges true due shown change completed = refl
+acknowledges false due shown change completed = refl

@@ -25,7 +25,7 @@ pub fn refusal(stand: Stand, class: Class, control: Control) -> Answer
         told.due(),
         shown,
         control.change,
-        control.command,
+        control.completed,
     )
 }
 
@@ -60,13 +60,13 @@ fn unheard(class: Class) -> Answer
     }
 }
 
-fn outside(class: Class, off: bool, due: bool, shown: bool, change: bool, command: bool) -> Answer
-    ensures { λ r. ⌜ r ≡ judgedOf class off false due shown change command ⌝ }
+fn outside(class: Class, off: bool, due: bool, shown: bool, change: bool, completed: bool) -> Answer
+    ensures { λ r. ⌜ r ≡ judgedOf class off false due shown change completed ⌝ }
 {
     match class {
         Class::Reset => Answer::Taken,
         Class::Cancel => stopped(off, due, Answer::NothingToCancel),
-        Class::Acknowledge => acknowledge(off, due, shown, change, command),
+        Class::Acknowledge => acknowledge(off, due, shown, change, completed),
         Class::Enable => stopped(false, due, Answer::Taken),
         Class::Run => stopped(off, due, Answer::Taken),
         Class::NotSupported => stopped(off, due, Answer::Taken),
@@ -85,18 +85,18 @@ fn stopped(off: bool, due: bool, otherwise: Answer) -> Answer
     otherwise
 }
 
-fn acknowledge(off: bool, due: bool, shown: bool, change: bool, command: bool) -> Answer
-    ensures { λ r. ⌜ r ≡ judgedOf Acknowledge off false due shown change command ⌝ }
+fn acknowledge(off: bool, due: bool, shown: bool, change: bool, completed: bool) -> Answer
+    ensures { λ r. ⌜ r ≡ judgedOf Acknowledge off false due shown change completed ⌝ }
 {
-    if clears_nothing(due, shown, change, command) {
-        return stopped(off, due & !command, Answer::NothingToClear);
+    if clears_nothing(due, shown, change, completed) {
+        return stopped(off, due & !completed, Answer::NothingToClear);
     }
-    stopped(off, due & !command, Answer::Taken)
+    stopped(off, due & !completed, Answer::Taken)
 }
 
 // ACK with neither bit, or a bit with nothing to clear.
-fn clears_nothing(due: bool, shown: bool, change: bool, command: bool) -> bool
-    ensures { λ r. ⌜ r ≡ clearsNothing due shown change command ⌝ }
+fn clears_nothing(due: bool, shown: bool, change: bool, completed: bool) -> bool
+    ensures { λ r. ⌜ r ≡ clearsNothing due shown change completed ⌝ }
 {
-    !(change | command) | (change & !shown) | (command & !due)
+    !(change | completed) | (change & !shown) | (completed & !due)
 }

@@ -31,21 +31,26 @@ pub record Says (cci connector length : ℕ) (notSupported cancelDone resetDone 
   pub bit-30 : cci / 2 ^ 30 % 2 ≡ flag error
   pub bit-31 : cci / 2 ^ 31 ≡ flag complete
 
-pub says : (cci connector length : ℕ) (notSupported cancelDone resetDone busy acknowledge error complete : Bool) → cci ≡ 2 * connector + 256 * length + 2 ^ 25 * flag notSupported + 2 ^ 26 * flag cancelDone + 2 ^ 27 * flag resetDone + 2 ^ 28 * flag busy + 2 ^ 29 * flag acknowledge + 2 ^ 30 * flag error + 2 ^ 31 * flag complete → connector < 128 → length < 256 → Says cci connector length notSupported cancelDone resetDone busy acknowledge error complete
-says cci connector length notSupported cancelDone resetDone busy acknowledge error complete e hc hl =
-    record {
-      bit-0 = omega (arith, flag-small notSupported, flag-small cancelDone, flag-small resetDone, flag-small busy, flag-small acknowledge, flag-small error, flag-small complete);
-      bits-1-to-7 = omega (arith, flag-small notSupported, flag-small cancelDone, flag-small resetDone, flag-small busy, flag-small acknowledge, flag-small error, flag-small complete);
-      bits-8-to-15 = omega (arith, flag-small notSupported, flag-small cancelDone, flag-small resetDone, flag-small busy, flag-small acknowledge, flag-small error, flag-small complete);
-      bits-16-to-24 = omega (arith, flag-small notSupported, flag-small cancelDone, flag-small resetDone, flag-small busy, flag-small acknowledge, flag-small error, flag-small complete);
-      bit-25 = omega (arith, flag-small notSupported, flag-small cancelDone, flag-small resetDone, flag-small busy, flag-small acknowledge, flag-small error, flag-small complete);
-      bit-26 = omega (arith, flag-small notSupported, flag-small cancelDone, flag-small resetDone, flag-small busy, flag-small acknowledge, flag-small error, flag-small complete);
-      bit-27 = omega (arith, flag-small notSupported, flag-small cancelDone, flag-small resetDone, flag-small busy, flag-small acknowledge, flag-small error, flag-small complete);
-      bit-28 = omega (arith, flag-small notSupported, flag-small cancelDone, flag-small resetDone, flag-small busy, flag-small acknowledge, flag-small error, flag-small complete);
-      bit-29 = omega (arith, flag-small notSupported, flag-small cancelDone, flag-small resetDone, flag-small busy, flag-small acknowledge, flag-small error, flag-small complete);
-      bit-30 = omega (arith, flag-small notSupported, flag-small cancelDone, flag-small resetDone, flag-small busy, flag-small acknowledge, flag-small error, flag-small complete);
-      bit-31 = omega (arith, flag-small notSupported, flag-small cancelDone, flag-small resetDone, flag-small busy, flag-small acknowledge, flag-small error, flag-small complete);
-    }
+module _ (cci connector length : ℕ) (notSupported cancelDone resetDone busy acknowledge error complete : Bool) where
+  said : cci ≡ 2 * connector + 256 * length + 2 ^ 25 * flag notSupported + 2 ^ 26 * flag cancelDone + 2 ^ 27 * flag resetDone + 2 ^ 28 * flag busy + 2 ^ 29 * flag acknowledge + 2 ^ 30 * flag error + 2 ^ 31 * flag complete → connector < 128 → length < 256 → flag notSupported ≤ 1 → flag cancelDone ≤ 1 → flag resetDone ≤ 1 → flag busy ≤ 1 → flag acknowledge ≤ 1 → flag error ≤ 1 → flag complete ≤ 1 → Says cci connector length notSupported cancelDone resetDone busy acknowledge error complete
+  said e hc hl h25 h26 h27 h28 h29 h30 h31 =
+      record {
+        bit-0 = omega arith;
+        bits-1-to-7 = omega arith;
+        bits-8-to-15 = omega arith;
+        bits-16-to-24 = omega arith;
+        bit-25 = omega arith;
+        bit-26 = omega arith;
+        bit-27 = omega arith;
+        bit-28 = omega arith;
+        bit-29 = omega arith;
+        bit-30 = omega arith;
+        bit-31 = omega arith;
+      }
+
+  pub says : cci ≡ 2 * connector + 256 * length + 2 ^ 25 * flag notSupported + 2 ^ 26 * flag cancelDone + 2 ^ 27 * flag resetDone + 2 ^ 28 * flag busy + 2 ^ 29 * flag acknowledge + 2 ^ 30 * flag error + 2 ^ 31 * flag complete → connector < 128 → length < 256 → Says cci connector length notSupported cancelDone resetDone busy acknowledge error complete
+  says e hc hl =
+      said e hc hl (flag-small notSupported) (flag-small cancelDone) (flag-small resetDone) (flag-small busy) (flag-small acknowledge) (flag-small error) (flag-small complete)
 
 -- Of what was told, the bits that are set: outside a run the connector shown too, and in a run bit 28 alone.
 module _ (shown : ℕ) where

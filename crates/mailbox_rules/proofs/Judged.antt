@@ -7,59 +7,59 @@ use Rattle.mailbox_state.specs.declared.answer.Answer.the-variants.{Taken, Noti
 use Rattle.mailbox_rules.specs.Refusal.{judgedOf}
 
 -- PPM_RESET: accepted always.
-pub reset-taken : (off runs due shown change command : Bool) → judgedOf Reset off runs due shown change command ≡ Taken
+pub reset-taken : (off runs due shown change completed : Bool) → judgedOf Reset off runs due shown change completed ≡ Taken
 unfolding judgedOf pick
-reset-taken off runs due shown change command = refl
+reset-taken off runs due shown change completed = refl
 
 -- 2: notifications off, not PPM_RESET or 0x05.
-pub record Off (runs due shown change command : Bool) : Type 0 where
-  pub cancel : judgedOf Cancel true runs due shown change command ≡ NotificationsOff
-  pub acknowledge : judgedOf Acknowledge true runs due shown change command ≡ NotificationsOff
-  pub run : judgedOf Run true runs due shown change command ≡ NotificationsOff
-  pub notSupported : judgedOf NotSupported true runs due shown change command ≡ NotificationsOff
+pub record Off (runs due shown change completed : Bool) : Type 0 where
+  pub cancel : judgedOf Cancel true runs due shown change completed ≡ NotificationsOff
+  pub acknowledge : judgedOf Acknowledge true runs due shown change completed ≡ NotificationsOff
+  pub run : judgedOf Run true runs due shown change completed ≡ NotificationsOff
+  pub notSupported : judgedOf NotSupported true runs due shown change completed ≡ NotificationsOff
 
-pub off-2 : (runs due shown change command : Bool) → Off runs due shown change command
+pub off-2 : (runs due shown change completed : Bool) → Off runs due shown change completed
 unfolding judgedOf pick
-off-2 true true shown change command = record { cancel = refl; acknowledge = refl; run = refl; notSupported = refl }
-off-2 true false shown change command = record { cancel = refl; acknowledge = refl; run = refl; notSupported = refl }
-off-2 false true shown change command = record { cancel = refl; acknowledge = refl; run = refl; notSupported = refl }
-off-2 false false shown change command = record { cancel = refl; acknowledge = refl; run = refl; notSupported = refl }
+off-2 true true shown change completed = record { cancel = refl; acknowledge = refl; run = refl; notSupported = refl }
+off-2 true false shown change completed = record { cancel = refl; acknowledge = refl; run = refl; notSupported = refl }
+off-2 false true shown change completed = record { cancel = refl; acknowledge = refl; run = refl; notSupported = refl }
+off-2 false false shown change completed = record { cancel = refl; acknowledge = refl; run = refl; notSupported = refl }
 
 -- 3: running, not CANCEL.
-pub record Running (due shown change command : Bool) : Type 0 where
-  pub acknowledge : judgedOf Acknowledge false true due shown change command ≡ CommandRuns
-  pub enable : (off : Bool) → judgedOf Enable off true due shown change command ≡ CommandRuns
-  pub run : judgedOf Run false true due shown change command ≡ CommandRuns
-  pub notSupported : judgedOf NotSupported false true due shown change command ≡ CommandRuns
-  pub cancel : judgedOf Cancel false true false shown change command ≡ Taken
+pub record Running (due shown change completed : Bool) : Type 0 where
+  pub acknowledge : judgedOf Acknowledge false true due shown change completed ≡ CommandRuns
+  pub enable : (off : Bool) → judgedOf Enable off true due shown change completed ≡ CommandRuns
+  pub run : judgedOf Run false true due shown change completed ≡ CommandRuns
+  pub notSupported : judgedOf NotSupported false true due shown change completed ≡ CommandRuns
+  pub cancel : judgedOf Cancel false true false shown change completed ≡ Taken
 
-enable-3 : (due shown change command off : Bool) → judgedOf Enable off true due shown change command ≡ CommandRuns
+enable-3 : (due shown change completed off : Bool) → judgedOf Enable off true due shown change completed ≡ CommandRuns
 unfolding judgedOf pick
-enable-3 due shown change command true = refl
-enable-3 due shown change command false = refl
+enable-3 due shown change completed true = refl
+enable-3 due shown change completed false = refl
 
-pub running-3 : (due shown change command : Bool) → Running due shown change command
+pub running-3 : (due shown change completed : Bool) → Running due shown change completed
 unfolding judgedOf pick
-running-3 due shown change command =
-    record { acknowledge = refl; enable = enable-3 due shown change command; run = refl; notSupported = refl; cancel = refl }
+running-3 due shown change completed =
+    record { acknowledge = refl; enable = enable-3 due shown change completed; run = refl; notSupported = refl; cancel = refl }
 
 -- 4: acknowledgement due, not ACK with bit 17.
 pub record Due (shown change : Bool) : Type 0 where
-  pub cancel : (command : Bool) → judgedOf Cancel false false true shown change command ≡ AcknowledgementDue
-  pub enable : (off command : Bool) → judgedOf Enable off false true shown change command ≡ AcknowledgementDue
-  pub run : (command : Bool) → judgedOf Run false false true shown change command ≡ AcknowledgementDue
-  pub notSupported : (command : Bool) → judgedOf NotSupported false false true shown change command ≡ AcknowledgementDue
+  pub cancel : (completed : Bool) → judgedOf Cancel false false true shown change completed ≡ AcknowledgementDue
+  pub enable : (off completed : Bool) → judgedOf Enable off false true shown change completed ≡ AcknowledgementDue
+  pub run : (completed : Bool) → judgedOf Run false false true shown change completed ≡ AcknowledgementDue
+  pub notSupported : (completed : Bool) → judgedOf NotSupported false false true shown change completed ≡ AcknowledgementDue
   pub acknowledge : judgedOf Acknowledge false false true shown change false ≡ AcknowledgementDue
 
-enable-4 : (shown change off command : Bool) → judgedOf Enable off false true shown change command ≡ AcknowledgementDue
+enable-4 : (shown change off completed : Bool) → judgedOf Enable off false true shown change completed ≡ AcknowledgementDue
 unfolding judgedOf pick
-enable-4 shown change true command = refl
-enable-4 shown change false command = refl
+enable-4 shown change true completed = refl
+enable-4 shown change false completed = refl
 
 pub due-4 : (shown change : Bool) → Due shown change
 unfolding judgedOf pick
 due-4 shown change =
-    record { cancel = λ command. refl; enable = enable-4 shown change; run = λ command. refl; notSupported = λ command. refl; acknowledge = refl }
+    record { cancel = λ completed. refl; enable = enable-4 shown change; run = λ completed. refl; notSupported = λ completed. refl; acknowledge = refl }
 
 -- 5: ACK with neither bit, or a bit with nothing to clear; else it is taken.
 pub record Acknowledged : Type 0 where
@@ -68,7 +68,7 @@ pub record Acknowledged : Type 0 where
   pub none-shown : judgedOf Acknowledge false false false false true false ≡ NothingToClear
   pub none-shown-due : judgedOf Acknowledge false false true false true true ≡ NothingToClear
   pub change : judgedOf Acknowledge false false false true true false ≡ Taken
-  pub command : (shown : Bool) → judgedOf Acknowledge false false true shown false true ≡ Taken
+  pub completed : (shown : Bool) → judgedOf Acknowledge false false true shown false true ≡ Taken
   pub both : judgedOf Acknowledge false false true true true true ≡ Taken
 
 nothing-due-5 : (shown change : Bool) → judgedOf Acknowledge false false false shown change true ≡ NothingToClear
@@ -87,22 +87,22 @@ acknowledged =
       none-shown = refl;
       none-shown-due = refl;
       change = refl;
-      command = λ shown. refl;
+      completed = λ shown. refl;
       both = refl;
     }
 
 -- 6: CANCEL, none running. Every other command is taken.
-pub record Free (shown change command : Bool) : Type 0 where
-  pub cancel : judgedOf Cancel false false false shown change command ≡ NothingToCancel
-  pub enable : (off : Bool) → judgedOf Enable off false false shown change command ≡ Taken
-  pub run : judgedOf Run false false false shown change command ≡ Taken
-  pub notSupported : judgedOf NotSupported false false false shown change command ≡ Taken
+pub record Free (shown change completed : Bool) : Type 0 where
+  pub cancel : judgedOf Cancel false false false shown change completed ≡ NothingToCancel
+  pub enable : (off : Bool) → judgedOf Enable off false false shown change completed ≡ Taken
+  pub run : judgedOf Run false false false shown change completed ≡ Taken
+  pub notSupported : judgedOf NotSupported false false false shown change completed ≡ Taken
 
-enable-taken : (shown change command off : Bool) → judgedOf Enable off false false shown change command ≡ Taken
+enable-taken : (shown change completed off : Bool) → judgedOf Enable off false false shown change completed ≡ Taken
 unfolding judgedOf pick
-enable-taken shown change command true = refl
-enable-taken shown change command false = refl
+enable-taken shown change completed true = refl
+enable-taken shown change completed false = refl
 
-pub free : (shown change command : Bool) → Free shown change command
+pub free : (shown change completed : Bool) → Free shown change completed
 unfolding judgedOf pick
-free shown change command = record { cancel = refl; enable = enable-taken shown change command; run = refl; notSupported = refl }
+free shown change completed = record { cancel = refl; enable = enable-taken shown change completed; run = refl; notSupported = refl }

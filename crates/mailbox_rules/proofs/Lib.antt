@@ -1,3 +1,4 @@
+pub mod Absent
 pub mod Bits
 pub mod Command
 pub mod Judged

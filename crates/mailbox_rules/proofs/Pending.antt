@@ -34,35 +34,35 @@ due-still Cancelled e = refl
 due-still Acknowledged e = refl
 
 -- What ends an acknowledgement that is due: PPM_RESET, or ACK with bit 17.
-pub data Ends (code : ℕ) (command : Bool) : Type 0 where
-  reset : code ≡ 0x01 → Ends code command
-  acknowledged : code ≡ 0x04 → command ≡ true → Ends code command
+pub data Ends (code : ℕ) (completed : Bool) : Type 0 where
+  reset : code ≡ 0x01 → Ends code completed
+  acknowledged : code ≡ 0x04 → completed ≡ true → Ends code completed
 
-ending : (class : Class) (off runs due shown change command : Bool) (code : ℕ) → runs ≡ false → due ≡ true → judgedOf class off runs due shown change command ≡ Taken → Named code class → Ends code command
+ending : (class : Class) (off runs due shown change completed : Bool) (code : ℕ) → runs ≡ false → due ≡ true → judgedOf class off runs due shown change completed ≡ Taken → Named code class → Ends code completed
 unfolding judgedOf pick
-ending class off true due shown change command code r d e h = absurd (true≢false r)
-ending class off false false shown change command code r d e h = absurd (true≢false (sym d))
-ending class.Reset off false true shown change command code r d e h = reset h
-ending class.Acknowledge true false true shown change command code r d e h = absurd (omega (arith, ap numberOf e))
+ending class off true due shown change completed code r d e h = absurd (true≢false r)
+ending class off false false shown change completed code r d e h = absurd (true≢false (sym d))
+ending class.Reset off false true shown change completed code r d e h = reset h
+ending class.Acknowledge true false true shown change completed code r d e h = absurd (omega (arith, ap numberOf e))
 ending class.Acknowledge false false true shown change true code r d e h = acknowledged h refl
 ending class.Acknowledge false false true shown change false code r d e h = absurd (omega (arith, ap numberOf e))
-ending class.Cancel true false true shown change command code r d e h = absurd (omega (arith, ap numberOf e))
-ending class.Cancel false false true shown change command code r d e h = absurd (omega (arith, ap numberOf e))
-ending class.Enable true false true shown change command code r d e h = absurd (omega (arith, ap numberOf e))
-ending class.Enable false false true shown change command code r d e h = absurd (omega (arith, ap numberOf e))
-ending class.Run true false true shown change command code r d e h = absurd (omega (arith, ap numberOf e))
-ending class.Run false false true shown change command code r d e h = absurd (omega (arith, ap numberOf e))
-ending class.NotSupported true false true shown change command code r d e h = absurd (omega (arith, ap numberOf e))
-ending class.NotSupported false false true shown change command code r d e h = absurd (omega (arith, ap numberOf e))
+ending class.Cancel true false true shown change completed code r d e h = absurd (omega (arith, ap numberOf e))
+ending class.Cancel false false true shown change completed code r d e h = absurd (omega (arith, ap numberOf e))
+ending class.Enable true false true shown change completed code r d e h = absurd (omega (arith, ap numberOf e))
+ending class.Enable false false true shown change completed code r d e h = absurd (omega (arith, ap numberOf e))
+ending class.Run true false true shown change completed code r d e h = absurd (omega (arith, ap numberOf e))
+ending class.Run false false true shown change completed code r d e h = absurd (omega (arith, ap numberOf e))
+ending class.NotSupported true false true shown change completed code r d e h = absurd (omega (arith, ap numberOf e))
+ending class.NotSupported false false true shown change completed code r d e h = absurd (omega (arith, ap numberOf e))
 
 abbrev IsDue : Step → Type 0
 IsDue step = dueOf (step .stand .told) ≡ true
 
 module _ (stand : Stand) (control : Control) where
-  pub due-stays : dueOf (stand .told) ≡ true → IsDue (writeOf stand control) ⊎ Ends (control .code) (control .command)
+  pub due-stays : dueOf (stand .told) ≡ true → IsDue (writeOf stand control) ⊎ Ends (control .code) (control .completed)
   unfolding heededOf
   due-stays h =
-      pick-all (λ (s : Step). IsDue s ⊎ Ends (control .code) (control .command)) _ _ _
+      pick-all (λ (s : Step). IsDue s ⊎ Ends (control .code) (control .completed)) _ _ _
       (λ y.
       inr
       (ending (entryOf (control .code) .class) _ _ _ _ _ _ (control .code) (due-still (stand .told) h) h

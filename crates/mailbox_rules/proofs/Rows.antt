@@ -2,8 +2,7 @@
 use Prim.Native.Nat.{ℕ, _≤_, _<_}
 use mathlib.Core.Bool.{Bool, true, false}
 use mathlib.Core.Path.{_≡_, _∙_, ap}
-use native.Mathlib.Omega.{arith}
-use borrow.Author.Tests.{le-leb, lt-leb}
+use borrow.Author.Tests.{eq-eqb, ne-eqb}
 use Rattle.basis.specs.Pick.{pick}
 use Rattle.commands.specs.Table.{entry, entryOf}
 use Rattle.commands.proofs.Rows.{rows}
@@ -11,36 +10,27 @@ use Rattle.commands.specs.declared.table.Class.{Class}
 use Rattle.commands.specs.declared.table.Class.the-variants as class
 use Rattle.commands.specs.declared.control.Control.{Control}
 use Rattle.mailbox_state.specs.Stand.{noChanges, stands, offOf}
-use Rattle.mailbox_state.specs.Step.{step}
+use Rattle.mailbox_state.specs.Step.{step, refused}
 use Rattle.mailbox_state.specs.Told.{runsOf, dueOf}
-use Rattle.mailbox_state.specs.declared.answer.Answer.the-variants.{Taken}
+use Rattle.mailbox_state.specs.declared.answer.Answer.the-variants.{Taken, NothingToClear}
 use Rattle.mailbox_state.specs.declared.told.Command.{Command}
 use Rattle.mailbox_state.specs.declared.told.Told.the-variants.{ResetDone, Busy, Completed, Failed, NotSupported, Cancelled, Acknowledged}
 use Rattle.mailbox_state.specs.declared.stand.Notifications.the-variants.{Off, On}
+use Rattle.mailbox_state.specs.declared.stand.Changes.{Changes}
 use Rattle.mailbox_state.specs.declared.stand.Stand.{Stand}
 use Rattle.mailbox_state.specs.declared.step.Clears.the-variants.{Nothing, Reset, Cancel, NoData}
 use Rattle.mailbox_state.specs.declared.step.Step.{Step}
 use Rattle.mailbox_rules.specs.Changes.{nextOf}
 use Rattle.mailbox_rules.specs.Refusal.{refusalOf}
-use Rattle.mailbox_rules.specs.Write.{thereOf, begins, takenOf, heededOf, writeOf}
+use Rattle.mailbox_rules.specs.Write.{thereOf, acknowledges, begins, takenOf, heededOf, writeOf}
 use Rattle.mailbox_rules.proofs.Running.{not-due}
+use Rattle.mailbox_rules.proofs.Absent.{zero-absent, above-absent, is-there}
 use Rattle.mailbox_rules.proofs.Judged.{reset-taken, running-3, free}
+use Rattle.mailbox_rules.proofs.Judged as judged
 use Rattle.mailbox_rules.proofs.Report.{telling}
 
 abbrev command : ℕ → ℕ → ℕ → Command
 command code connector type = record { code = code; connector = connector; «reset_type» = type }
-
-not-there-zero : (c count : ℕ) → c ≡ 0 → thereOf c count ≡ false
-unfolding thereOf
-not-there-zero c count e = rw (lt-leb 1 c (omega arith))
-
-not-there-above : (c count : ℕ) → count < c → thereOf c count ≡ false
-unfolding thereOf
-not-there-above c count h = rw (le-leb 1 c (omega arith), lt-leb c count h)
-
-is-in : (c count : ℕ) → 1 ≤ c → c ≤ count → thereOf c count ≡ true
-unfolding thereOf
-is-in c count low high = rw (le-leb 1 c low, le-leb c count high)
 
 -- Notifications on, nothing running, no acknowledgement due.
 pub record Ready (stand : Stand) : Type 0 where
@@ -91,14 +81,14 @@ module _ (stand : Stand) (control : Control) where
     absent e t = taken class.Run true e runs-taken ∙ rw t
 
     pub absent-zero : entryOf (control .code) ≡ entry class.Run true → control .connector ≡ 0 → after ≡ step (telling stand Failed) Taken NoData
-    absent-zero e z = absent e (not-there-zero (control .connector) (stand .connectors) z)
+    absent-zero e z = absent e (zero-absent (control .connector) (stand .connectors) z)
 
     pub absent-above : entryOf (control .code) ≡ entry class.Run true → stand .connectors < control .connector → after ≡ step (telling stand Failed) Taken NoData
-    absent-above e h = absent e (not-there-above (control .connector) (stand .connectors) h)
+    absent-above e h = absent e (above-absent (control .connector) (stand .connectors) h)
 
     module _ (low : 1 ≤ control .connector) (high : control .connector ≤ stand .connectors) where
       there : thereOf (control .connector) (stand .connectors) ≡ true
-      there = is-in (control .connector) (stand .connectors) low high
+      there = is-there (control .connector) (stand .connectors) low high
 
       pub connector-reset-row : control .code ≡ 0x03 → after ≡ step (telling stand (Busy (command 0x03 (control .connector) (control .«reset_type»)))) Taken Nothing
       unfolding takenOf begins pick
@@ -112,7 +102,34 @@ module _ (stand : Stand) (control : Control) where
       unfolding takenOf begins pick
       connector-status-row e = taken class.Run true (ap entryOf e ∙ rows .connectorStatus) runs-taken ∙ rw (there, e)
 
-  -- An accepted ACK: with bit 16 the lowest waiting connector is shown next.
-  pub acknowledge-row : control .code ≡ 0x04 → refusalOf stand class.Acknowledge control ≡ Taken → after ≡ step (stands (stand .connectors) (stand .notifications) Acknowledged (pick (control .change) (nextOf (stand .changes)) (stand .changes))) Taken Nothing
-  unfolding takenOf
-  acknowledge-row e t = taken class.Acknowledge false (ap entryOf e ∙ rows .acknowledge) t
+  -- ACK_CC_CI by its bits 16 and 17, by the connector shown and by what is due.
+  module _ (e : control .code ≡ 0x04) (on : offOf (stand .notifications) ≡ false) (still : runsOf (stand .told) ≡ false) where
+    abbrev acknowledged : Changes → Step
+    acknowledged changes = step (stands (stand .connectors) (stand .notifications) Acknowledged changes) Taken Nothing
+
+    acks : refusalOf stand class.Acknowledge control ≡ Taken → after ≡ acknowledges stand (control .change)
+    unfolding takenOf
+    acks t = taken class.Acknowledge false (ap entryOf e ∙ rows .acknowledge) t
+
+    not-acked : refusalOf stand class.Acknowledge control ≡ NothingToClear → after ≡ refused stand NothingToClear
+    unfolding heededOf pick
+    not-acked t = rw (ap entryOf e ∙ rows .acknowledge, t)
+
+    module _ (shown : stand .changes .shown ≡ 0 → ⊥) where
+      pub change-acked : dueOf (stand .told) ≡ false → control .change ≡ true → control .completed ≡ false → after ≡ acknowledged (nextOf (stand .changes))
+      unfolding pick
+      change-acked d b c = acks (rw (on, still, d, ne-eqb (stand .changes .shown) 0 shown, b, c) (judged.acknowledged .change)) ∙ rw b
+
+      pub both-acked : dueOf (stand .told) ≡ true → control .change ≡ true → control .completed ≡ true → after ≡ acknowledged (nextOf (stand .changes))
+      unfolding pick
+      both-acked d b c = acks (rw (on, still, d, ne-eqb (stand .changes .shown) 0 shown, b, c) (judged.acknowledged .both)) ∙ rw b
+
+    pub completed-acked : dueOf (stand .told) ≡ true → control .change ≡ false → control .completed ≡ true → after ≡ acknowledged (stand .changes)
+    unfolding pick
+    completed-acked d b c = acks (rw (on, still, d, b, c) (judged.acknowledged .completed _)) ∙ rw b
+
+    pub none-shown-5 : stand .changes .shown ≡ 0 → dueOf (stand .told) ≡ false → control .change ≡ true → control .completed ≡ false → after ≡ refused stand NothingToClear
+    none-shown-5 z d b c = not-acked (rw (on, still, d, eq-eqb (stand .changes .shown) 0 z, b, c) (judged.acknowledged .none-shown))
+
+    pub none-shown-due-5 : stand .changes .shown ≡ 0 → dueOf (stand .told) ≡ true → control .change ≡ true → control .completed ≡ true → after ≡ refused stand NothingToClear
+    none-shown-due-5 z d b c = not-acked (rw (on, still, d, eq-eqb (stand .changes .shown) 0 z, b, c) (judged.acknowledged .none-shown-due))

@@ -21,26 +21,26 @@ not-due Unsupported e = sym e
 not-due Cancelled e = sym e
 not-due Acknowledged e = refl
 
-pub in-run : (class : Class) (off shown change command : Bool) → judgedOf class off true false false false false ≡ judgedOf class off true false shown change command
+pub in-run : (class : Class) (off shown change completed : Bool) → judgedOf class off true false false false false ≡ judgedOf class off true false shown change completed
 unfolding judgedOf pick
-in-run Reset off shown change command = refl
-in-run Cancel true shown change command = refl
-in-run Cancel false shown change command = refl
-in-run Acknowledge true shown change command = refl
-in-run Acknowledge false shown change command = refl
-in-run Enable true shown change command = refl
-in-run Enable false shown change command = refl
-in-run Run true shown change command = refl
-in-run Run false shown change command = refl
-in-run NotSupported true shown change command = refl
-in-run NotSupported false shown change command = refl
+in-run Reset off shown change completed = refl
+in-run Cancel true shown change completed = refl
+in-run Cancel false shown change completed = refl
+in-run Acknowledge true shown change completed = refl
+in-run Acknowledge false shown change completed = refl
+in-run Enable true shown change completed = refl
+in-run Enable false shown change completed = refl
+in-run Run true shown change completed = refl
+in-run Run false shown change completed = refl
+in-run NotSupported true shown change completed = refl
+in-run NotSupported false shown change completed = refl
 
 -- A command that runs while notifications are off is judged by the same order.
-pub unheard : (class : Class) (due shown change command : Bool) → unheardOf class ≡ judgedOf class true true due shown change command
+pub unheard : (class : Class) (due shown change completed : Bool) → unheardOf class ≡ judgedOf class true true due shown change completed
 unfolding judgedOf pick
-unheard Reset due shown change command = refl
-unheard Cancel due shown change command = refl
-unheard Acknowledge due shown change command = refl
-unheard Enable due shown change command = refl
-unheard Run due shown change command = refl
-unheard NotSupported due shown change command = refl
+unheard Reset due shown change completed = refl
+unheard Cancel due shown change completed = refl
+unheard Acknowledge due shown change completed = refl
+unheard Enable due shown change completed = refl
+unheard Run due shown change completed = refl
+unheard NotSupported due shown change completed = refl

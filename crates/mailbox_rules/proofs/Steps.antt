@@ -1,5 +1,5 @@
 -- What every step keeps: how many connectors there are, and that those shown and waiting are among them (01, The mailbox).
-use Prim.Native.Nat.{ℕ, _≤_}
+use Prim.Native.Nat.{ℕ}
 use mathlib.Core.Logic.{_⊎_, inl, inr}
 use mathlib.Core.Path.{_≡_, refl, sym, ap, subst}
 use Rattle.basis.specs.Pick.{pick-all}
@@ -16,11 +16,8 @@ use Rattle.mailbox_rules.specs.Changes.{notedOf}
 use Rattle.mailbox_rules.specs.Report.{succeedOf, failOf}
 use Rattle.mailbox_rules.specs.Write.{heededOf, writeOf}
 use Rattle.mailbox_rules.proofs.Command.{ShownBy, stays, reset, acknowledged, Takes, taken-takes}
-use Rattle.mailbox_rules.proofs.Noted.{Alters, change-alters}
+use Rattle.mailbox_rules.proofs.Noted.{Recorded, Alters, change-alters}
 use Rattle.mailbox_rules.proofs.Places.{Within, none-within, noted-within, next-within}
-
-abbrev pub Inside : Stand → Type 0
-Inside stand = Within (stand .connectors) (stand .changes)
 
 pub record Steps (stand : Stand) (step : Step) : Type 0 where
   pub connectors : step .stand .connectors ≡ stand .connectors
@@ -55,13 +52,13 @@ pub failure-steps : (stand : Stand) → Steps stand (failOf stand)
 unfolding failOf
 failure-steps stand = pick-all (Steps stand) _ _ _ (λ y. still stand _ refl refl) (λ n. still stand _ refl refl)
 
-alters-steps : (stand : Stand) (c : ℕ) (step : Step) → Alters stand c step → Steps stand step
-alters-steps stand c step a = record { connectors = ap (λ (s : Stand). s .connectors) (a .stand-kept); inside = λ w. inside-by (a .noted) w }
+alters-steps : (stand : Stand) (c reason : ℕ) (step : Step) → Alters stand c reason step → Steps stand step
+alters-steps stand c reason step a = record { connectors = ap (λ (s : Stand). s .connectors) (a .stand-kept); inside = λ w. inside-by (a .noted) w }
   where
-    inside-by : (step .stand .changes ≡ stand .changes) ⊎ ((1 ≤ c) × (c ≤ stand .connectors) × (step .stand .changes ≡ notedOf (stand .changes) c))
+    inside-by : (step .stand .changes ≡ stand .changes) ⊎ (Recorded stand c reason × (step .stand .changes ≡ notedOf (stand .changes) c))
         → Within (stand .connectors) (stand .changes) → Within (stand .connectors) (step .stand .changes)
     inside-by (inl e) w = subst (Within (stand .connectors)) (sym e) w
-    inside-by (inr (low, high, e)) w = subst (Within (stand .connectors)) (sym e) (noted-within (stand .connectors) (stand .changes) w c low high)
+    inside-by (inr (r, e)) w = subst (Within (stand .connectors)) (sym e) (noted-within (stand .connectors) (stand .changes) w c (r .low) (r .high))
 
 pub change-steps : (stand : Stand) (c reason : ℕ) → Steps stand (changeOf stand c reason)
-change-steps stand c reason = alters-steps stand c (changeOf stand c reason) (change-alters stand c reason)
+change-steps stand c reason = alters-steps stand c reason (changeOf stand c reason) (change-alters stand c reason)

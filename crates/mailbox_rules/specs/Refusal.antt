@@ -26,16 +26,16 @@ is one class = eqb (place one) (place class)
 
 -- ACK with neither bit, or a bit with nothing to clear.
 abbrev pub clearsNothing : Bool → Bool → Bool → Bool → Bool
-clearsNothing due shown change command = not (change || command) || (change && not shown) || (command && not due)
+clearsNothing due shown change completed = not (change || completed) || (change && not shown) || (completed && not due)
 
 -- Of a class: notifications off, running, acknowledgement due, a connector shown; and ACK's bits 16 and 17.
 unfoldable pub judgedOf : Class → Bool → Bool → Bool → Bool → Bool → Bool → Answer
-judgedOf class off runs due shown change command =
+judgedOf class off runs due shown change completed =
     pick (is Reset class) Taken
     (pick (off && not (is Enable class)) NotificationsOff
     (pick (runs && not (is Cancel class)) CommandRuns
-    (pick (due && not (is Acknowledge class && command)) AcknowledgementDue
-    (pick (is Acknowledge class && clearsNothing due shown change command) NothingToClear
+    (pick (due && not (is Acknowledge class && completed)) AcknowledgementDue
+    (pick (is Acknowledge class && clearsNothing due shown change completed) NothingToClear
     (pick (is Cancel class && not runs) NothingToCancel
     Taken)))))
 
@@ -43,7 +43,7 @@ abbrev pub refusalOf : Stand → Class → Control → Answer
 refusalOf stand class control =
     judgedOf class (offOf (stand .notifications)) (runsOf (stand .told)) (dueOf (stand .told)) (not (eqb (stand .changes .shown) 0))
     (control .change)
-    (control .command)
+    (control .completed)
 
 -- A command that runs while notifications are off: 0x05 is 3, everything else but PPM_RESET is 2.
 abbrev pub unheardOf : Class → Answer

@@ -7,6 +7,7 @@ use Rattle.basis.specs.Pick.{pick}
 use Rattle.mailbox_state.specs.Answer.{numberOf}
 use Rattle.mailbox_state.specs.Connectors as connectors
 use Rattle.mailbox_state.specs.declared.answer.Answer.the-variants.{Taken, ControlLength, NotificationsOff, CommandRuns, AcknowledgementDue, NothingToClear, NothingToCancel, NothingRuns, DataTooLong, NoSuchConnector}
+use Rattle.mailbox_state.specs.declared.connectors.Connectors.{Connectors}
 use Rattle.mailbox_state.specs.declared.connectors.Counted.the-variants.{Made, Refused}
 
 pub record Numbers : Type 0 where
@@ -21,6 +22,7 @@ pub record Numbers : Type 0 where
   pub dataTooLong : numberOf DataTooLong ≡ 8
   pub noSuchConnector : numberOf NoSuchConnector ≡ 9
   pub refused : connectors.numberOf Refused ≡ 29
+  pub made : (count : Connectors) → connectors.numberOf (Made count) ≡ 0
 
 pub numbers : Numbers
 numbers =
@@ -36,6 +38,7 @@ numbers =
       dataTooLong = refl;
       noSuchConnector = refl;
       refused = refl;
+      made = λ count. refl;
     }
 
 module _ (count : ℕ) where

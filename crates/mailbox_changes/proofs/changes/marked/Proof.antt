@@ -13,5 +13,4 @@ marked-spec =
     (λ c. search tests)
     (λ c. search needs)
     (λ c. search needs)
-    (λ c. search needs)
     (λ c. search tests))
