@@ -20,7 +20,7 @@ use Rattle.mailbox_rules.specs.Refusal.{refusalOf}
 use Rattle.mailbox_rules.specs.Write as write
 use Rattle.mailbox_rules.proofs.Command.{Zeroes, write-takes}
 use Rattle.mailbox_rules.proofs.Report.{telling, success-completes, failure-completes}
-use Rattle.mailbox.specs.Mailbox.{zeros, filledOf, mailbox, outcome, clearedOf}
+use Rattle.mailbox.specs.Mailbox.{zeros, filledOf, messageOf, mailbox, outcome, clearedOf}
 use Rattle.mailbox.specs.Events.{reportedOf, writeOf, successOf, failureOf}
 use Rattle.mailbox.specs.declared.state.Mailbox.{Mailbox}
 use Rattle.mailbox.specs.declared.state.Outcome.{Outcome}
@@ -39,7 +39,7 @@ module _ (m : Mailbox) (bytes : List ℕ) (r : runsOf (m .stand .told) ≡ true)
       ∙ reported m bytes (step (telling (m .stand) (Completed (length bytes))) Taken clears.Nothing) refl
 
   -- After a success of k bytes: those bytes, and 256 - k zeros.
-  pub success-fills : successOf m bytes .state .message ≡ bytes ++ replicate (256 - length bytes) 0
+  pub success-fills : messageOf (successOf m bytes .state) ≡ bytes ++ replicate (256 - length bytes) 0
   unfolding filledOf zeros
   success-fills = ap (λ (o : Outcome). o .state .message) success-step ∙ ap (λ (l : List ℕ). bytes ++ l) (dropped (length bytes) 256)
 
@@ -72,11 +72,11 @@ module _ (m : Mailbox) (control : List ℕ) where
   abbrev step-of : Step
   step-of = write.writeOf (m .stand) (fieldsOf control)
 
-  pub write-message : length control ≡ 8 → refusalOf (m .stand) (entryOf (fieldsOf control .code) .class) (fieldsOf control) ≡ Taken → After (wrote .stand .told) (m .message) (wrote .message)
+  pub write-message : length control ≡ 8 → refusalOf (m .stand) (entryOf (fieldsOf control .code) .class) (fieldsOf control) ≡ Taken → After (wrote .stand .told) (messageOf m) (messageOf wrote)
   write-message e t =
       subst (λ (o : Outcome). After (o .state .stand .told) (m .message) (o .state .message)) (sym (write-step m control e))
       (after (step-of .stand .told) (step-of .clears) (m .message) (write-takes (m .stand) (fieldsOf control) t .zeroes))
 
-pub failure-zeroes : (m : Mailbox) → runsOf (m .stand .told) ≡ true → failureOf m .state .message ≡ zeros
+pub failure-zeroes : (m : Mailbox) → runsOf (m .stand .told) ≡ true → messageOf (failureOf m .state) ≡ zeros
 unfolding clearedOf
 failure-zeroes m e = rw (failure-completes (m .stand) e)
