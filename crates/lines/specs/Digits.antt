@@ -1,0 +1,36 @@
+-- Numbers as text, and text as numbers (01, Replay program).
+use Prim.Native.Nat.{ℕ, zero, suc, _+_, _*_, _-_, _/_, _%_, _^_}
+use mathlib.Core.List.{List, [], _∷_}
+use lib.Dec.{ltb}
+use Rattle.basis.specs.Pick.{pick}
+
+-- The characters 0 to 9
+abbrev pub figure : ℕ → ℕ
+figure n = 0x30 + n
+
+-- 0 to 9, then the capitals A to F
+unfoldable pub digitOf : ℕ → ℕ
+digitOf n = pick (ltb n 10) (figure n) (0x41 + (n - 10))
+
+-- The lowest digits of a number, so many, the highest first.
+abbrev pub hexOf : ℕ → ℕ → List ℕ
+hexOf zero x = []
+hexOf (suc k) x = digitOf (x / 16 ^ k % 16) ∷ hexOf k x
+
+-- A number below 1,000, with no zero in front.
+unfoldable pub decimalOf : ℕ → List ℕ
+decimalOf n =
+    pick (ltb n 10) (figure n ∷ [])
+    (pick (ltb n 100) (figure (n / 10) ∷ figure (n % 10) ∷ [])
+    (figure (n / 100) ∷ figure (n / 10 % 10) ∷ figure (n % 10) ∷ []))
+
+-- Read back: what a digit stands for, and what digits in a base come to, behind what was read before them.
+unfoldable pub digitIn : ℕ → ℕ
+digitIn c = pick (ltb c 0x41) (c - 0x30) (c - 0x41 + 10)
+
+abbrev pub behind : ℕ → ℕ → List ℕ → ℕ
+behind base read [] = read
+behind base read (c ∷ cs) = behind base (base * read + digitIn c) cs
+
+abbrev pub numberIn : ℕ → List ℕ → ℕ
+numberIn base text = behind base 0 text

@@ -1,0 +1,121 @@
+-- In the middle of a part: what was played so far, and then the rest played from there, is the whole part played.
+use Prim.Native.Nat.{ℕ, _+_, _-_, _<_, _≤_}
+use mathlib.Core.Path.{_≡_, refl, sym, _∙_, ap, subst}
+use mathlib.Core.List.{List, [], _∷_, _++_, append-assoc, append-nil}
+use native.Mathlib.Nat.{add-zero, zero-add, add-assoc, sub-zero}
+use native.Mathlib.Omega.{arith}
+use borrow.Author.Tests.{lt-ltb, le-ltb}
+use lib.ListN.{length, take, drop, length-append, take-append-drop}
+use lib.Seq.{length-take-le, take-append-seam, drop-drop}
+use Rattle.basis.specs.Pick.{pick, pick-yes, pick-no}
+use Rattle.basis.specs.Left.{Left, left}
+use Rattle.lent.specs.Put.{pasted}
+use Rattle.lent.proofs.Laws.{pasted-there, pasted-behind, pasted-length}
+use Rattle.lines.specs.Line.{longest, textOf, lineIn}
+use Rattle.lines.specs.declared.line.Line.{Line}
+use Rattle.lines.proofs.Texts.{line-sized}
+use Rattle.recording.specs.Reading.{nextOf}
+use Rattle.recording.specs.Writing.{bytesOf}
+use Rattle.recording.specs.Apart.{Apart, apart, onward, apartOf}
+use Rattle.recording.proofs.Reading.{Past, next-past}
+use Rattle.recording.proofs.Apart.{apart-at}
+use Rattle.recording.specs.declared.record.Record.{Record}
+use Rattle.recording.specs.declared.reader.Read.{Read}
+use Rattle.recording.specs.declared.reader.Read.the-variants.{Found, Ended}
+use Rattle.recording.specs.declared.reader.Ending.{Ending}
+use Rattle.mailbox_state.specs.Answer.{numberOf}
+use Rattle.mailbox.specs.Mailbox.{cciOf}
+use Rattle.mailbox.specs.declared.state.Mailbox.{Mailbox}
+use Rattle.playing.specs.Turn.{outcomeOf, printed, turnOf}
+use Rattle.playing.specs.Part.{Plays, plays, after, playsOf, partOf, leadsOf, playOf}
+use Rattle.playing.specs.declared.part.Stop.{Stop}
+use Rattle.playing.specs.declared.part.Stop.the-variants as Stop
+use Rattle.playing.specs.declared.part.Played.{Played}
+use Rattle.playing.specs.declared.turn.Turn.{Turn}
+
+pub record Mid (mailbox : Mailbox) (part before : List ℕ) (state : Mailbox) (taken written : ℕ) (out : List ℕ) : Type 0 where
+  pub run : partOf mailbox (length before) (apartOf part) ≡ after taken (take written out) (partOf state (length before - written) (apartOf (drop taken part)))
+  pub rest : drop written out ≡ drop written before
+  pub room : written ≤ length out
+  pub size : length out ≡ length before
+  pub place : taken ≤ length part
+
+-- So many bytes and these lines, and then more of them, are both together.
+regroup : (t k n : ℕ) (x y z : List ℕ) (q : Plays) → n ≡ t + k → z ≡ x ++ y → after t x (after k y q) ≡ after n z q
+regroup t k n x y z q e f = rw (e, f, add-assoc t k (q .taken), append-assoc x y (q .text))
+
+pub mid-begins : (mailbox : Mailbox) (part before : List ℕ) → Mid mailbox part before mailbox 0 0 before
+mid-begins mailbox part before =
+    record { run = rw (sub-zero (length before), zero-add (partOf mailbox (length before) (apartOf part) .taken)); rest = refl; room = omega arith; size = refl; place = omega arith }
+
+pub found-past : (part : List ℕ) (taken : ℕ) (r : Record) (next : ℕ) → nextOf part taken ≡ Found r next → Past part taken (Found r next)
+found-past part taken r next e = subst (Past part taken) e (next-past part taken)
+
+-- The line that a record prints, as the code has it.
+module _ (state : Mailbox) (r : Record) (turn : Turn) (e : turn ≡ turnOf state r) where
+  pub line-len : turn .line .len ≡ length (printed (outcomeOf state r))
+  unfolding turnOf lineIn
+  line-len = ap (λ (t : Turn). t .line .len) e
+
+  pub line-fits : turn .line .len ≤ longest
+  unfolding printed
+  line-fits = rw line-len (line-sized (cciOf (outcomeOf state r .state)) (numberOf (outcomeOf state r .answer)) .1)
+
+  pub line-bytes : take (turn .line .len) (turn .line .bytes) ≡ printed (outcomeOf state r)
+  unfolding turnOf lineIn
+  line-bytes = rw (line-len, ap (λ (t : Turn). t .line .bytes) e) (take-append-seam (printed (outcomeOf state r)) _)
+
+  pub turn-state : turn .state ≡ outcomeOf state r .state
+  unfolding turnOf
+  turn-state = ap (λ (t : Turn). t .state) e
+
+module _ (mailbox : Mailbox) (part before : List ℕ) (state : Mailbox) (taken written : ℕ) (out : List ℕ)
+    (mid : Mid mailbox part before state taken written out) where
+  -- Where nothing further is played, what was played is all.
+  rests : (stop : Stop) → partOf state (length before - written) (apartOf (drop taken part)) ≡ plays state 0 [] stop
+      → _≡_ {A = Left Played} (left (record { state = state; taken = taken; written = written; stop = stop }) out) (playOf mailbox part before)
+  unfolding leadsOf
+  rests stop e =
+      let l : length (take written out) ≡ written = length-take-le written out (mid .room) in
+      sym (ap (λ (p : Plays). leadsOf p before) (mid .run ∙ ap (after taken (take written out)) e)
+      ∙ rw (add-zero taken, append-nil (take written out), l, ← mid .rest, take-append-drop written out))
+
+  pub mid-ends : (ending : Ending) → nextOf part taken ≡ Ended ending
+      → _≡_ {A = Left Played} (left (record { state = state; taken = taken; written = written; stop = Stop.Ended ending }) out) (playOf mailbox part before)
+  unfolding playsOf
+  mid-ends ending e = rests (Stop.Ended ending) (ap (partOf state (length before - written)) (apart-at part taken ∙ ap (onward apartOf part) e))
+
+  pub mid-full : (r : Record) (next : ℕ) → nextOf part taken ≡ Found r next → length out - written < length (printed (outcomeOf state r))
+      → _≡_ {A = Left Played} (left (record { state = state; taken = taken; written = written; stop = Stop.Full }) out) (playOf mailbox part before)
+  unfolding playsOf
+  mid-full r next e h = rests Stop.Full (ap (partOf state (length before - written)) (apart-at part taken ∙ ap (onward apartOf part) e) ∙ pick-yes _ _ _ (lt-ltb (length before - written) (length (printed (outcomeOf state r))) (omega arith)))
+
+  pub mid-goes : (r : Record) (next : ℕ) (now : List ℕ) → nextOf part taken ≡ Found r next → length (printed (outcomeOf state r)) ≤ length out - written
+      → now ≡ pasted out written (printed (outcomeOf state r))
+      → Mid mailbox part before (outcomeOf state r .state) next (written + length (printed (outcomeOf state r))) now
+  unfolding playsOf
+  mid-goes r next now e h p =
+      let text = printed (outcomeOf state r) in
+      let past = found-past part taken r next e in
+      let same : length now ≡ length out = rw p (pasted-length out written text (omega arith)) in
+      let there : take (written + length text) now ≡ take written out ++ text = rw p (pasted-there out written text (mid .room)) in
+      let behind : drop (written + length text) now ≡ drop (written + length text) out = rw p (pasted-behind out written text (mid .room)) in
+      let left : length before - written - length text ≡ length before - (written + length text) = omega arith in
+      let q = partOf (outcomeOf state r .state) (length before - (written + length text)) (apartOf (drop next part)) in
+      let step : partOf state (length before - written) (apartOf (drop taken part)) ≡ after (length (bytesOf r)) text q =
+      ap (partOf state (length before - written)) (apart-at part taken ∙ ap (onward apartOf part) e)
+      ∙ pick-no _ _ _ (le-ltb (length before - written) (length text) (omega arith)) ∙ rw left in
+      record {
+        run = mid .run ∙ ap (after taken (take written out)) step ∙ regroup taken (length (bytesOf r)) next (take written out) text (take (written + length text) now) q (past .0) there;
+        rest = behind ∙ sym (drop-drop (length text) written out) ∙ rw (mid .rest) (drop-drop (length text) written before);
+        room = omega arith;
+        size = omega arith;
+        place = past .2;
+      }
+
+  pub mid-turn : (r : Record) (next : ℕ) (turn : Turn) (now : List ℕ) → nextOf part taken ≡ Found r next → turn ≡ turnOf state r
+      → turn .line .len ≤ length out - written → now ≡ pasted out written (take (turn .line .len) (turn .line .bytes))
+      → Mid mailbox part before (turn .state) next (written + turn .line .len) now
+  mid-turn r next turn now e f h p =
+      let len = line-len state r turn f in
+      rw (turn-state state r turn f, len) (mid-goes r next now e (omega arith) (p ∙ ap (pasted out written) (line-bytes state r turn f)))

@@ -1,0 +1,22 @@
+use Rattle.playing.specs.Turn.{eventIn}
+use borrow.Author.Needs.{needs}
+use Rattle.playing.proofs.turn.event.Statement.{statement}
+use Rattle.playing.proofs.turn.event.Tie as tie
+
+pub event-spec : {M : Type 1} → statement M
+unfolding eventIn
+event-spec =
+    tie.close
+    (tie.spec
+    (λ c. search needs)
+    (λ c κs. search needs)
+    (λ c. search needs)
+    (λ c κs. search needs)
+    (λ c. search needs)
+    (λ c κs. search needs)
+    (λ c. search needs)
+    (λ c κs. search needs)
+    (λ c. rw (c .before .before .«record» .given .1) (c .write .ensures))
+    (λ c. rw (c .before .before .record2 .given .1) (c .change .ensures))
+    (λ c. rw (c .before .before .record3 .given .1) (c .success .ensures))
+    (λ c. rw (c .before .enum-told .given .1) (c .report-failure .ensures)))

@@ -1,0 +1,3 @@
+pub mod Turn
+pub mod Replay
+pub mod Part

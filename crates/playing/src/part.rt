@@ -1,0 +1,95 @@
+// A part of a recording played into a lent output.
+use crate::turn::play_record;
+use lines::Line;
+use mailbox::Mailbox;
+use recording::Ending;
+use recording::Read;
+ghost use mathlib.Core.Path.{_≡_};
+ghost use Prim.Native.Nat.{_+_, _≤_};
+ghost use lib.ListN.{length, take};
+ghost use Rattle.basis.specs.Left.{left};
+ghost use Rattle.lent.specs.Put.{pasted};
+ghost use Rattle.lines.specs.Line.{longest, lineIn};
+ghost use Rattle.playing.specs.Replay.{closingText};
+ghost use Rattle.playing.specs.Part.{playOf, closingOf};
+
+// Why no further record was played: none is found at the place, or its line does not fit into the output.
+pub enum Stop {
+    Ended(Ending),
+    Full,
+}
+
+// The next record stands at `taken`, and the next line goes to `written`.
+pub struct Played {
+    pub state: Mailbox,
+    pub taken: usize,
+    pub written: usize,
+    pub stop: Stop,
+}
+
+pub fn play(mailbox: Mailbox, part: &[u8], out: &mut [u8]) -> Played
+    ensures { λ r. ⌜ left r (now (out .exit)) ≡ playOf mailbox (now (part .entry)) (now (out .entry)) ⌝ }
+{
+    let mut state = mailbox;
+    let mut taken = 0;
+    let mut written = 0;
+    loop {
+        let read = recording::next(part, taken);
+        match read {
+            Read::Ended(ending) => {
+                return Played {
+                    state,
+                    taken,
+                    written,
+                    stop: Stop::Ended(ending),
+                };
+            }
+            Read::Found { record, next } => {
+                let turn = play_record(state, record);
+                let line = turn.line;
+                if out.len() - written < line.len {
+                    return Played {
+                        state,
+                        taken,
+                        written,
+                        stop: Stop::Full,
+                    };
+                }
+                put(out, written, line);
+                state = turn.state;
+                taken = next;
+                written += line.len;
+            }
+        }
+    }
+}
+
+fn put(out: &mut [u8], at: usize, line: Line)
+    requires { ⌜ line .len ≤ longest ⌝ }
+    requires { ⌜ at + line .len ≤ length (now out) ⌝ }
+    ensures { λ _. ⌜ now (out .exit) ≡ pasted (now (out .entry)) at (take (line .len) (line .bytes)) ⌝ }
+{
+    let bytes = line.bytes;
+    let len = line.len;
+    lent::put(out, at, &bytes[..len]);
+}
+
+// The line that ends a recording which ends here: nothing behind a whole one.
+pub fn closing(stop: Stop) -> Line
+    ensures { λ r. ⌜ r ≡ closingOf stop ⌝ }
+{
+    match stop {
+        Stop::Ended(ending) => last(ending),
+        Stop::Full => lines::none(),
+    }
+}
+
+fn last(ending: Ending) -> Line
+    ensures { λ r. ⌜ r ≡ lineIn (closingText ending) ⌝ }
+{
+    match ending {
+        Ending::Whole => lines::none(),
+        Ending::Cut => lines::stop(),
+        Ending::UnknownKind => lines::stop(),
+    }
+}

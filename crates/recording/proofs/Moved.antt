@@ -1,0 +1,109 @@
+-- What stands before a place, and what stands behind a record, plays no part in what is read there.
+use Prim.Native.Nat.{ℕ, _+_, _-_, _<_, _≤_}
+use mathlib.Core.Bool.{Bool, true, false}
+use mathlib.Core.Path.{_≡_, refl, sym, _∙_, ap, subst}
+use mathlib.Core.List.{List, _++_}
+use native.Mathlib.Nat.{add-assoc, add-zero, sub-zero}
+use native.Mathlib.Omega.{arith}
+use borrow.Author.Tests.{le-leb, lt-leb, leb-true, leb-false}
+use lib.Dec.{eqb, ltb, leb}
+use lib.ListN.{length, getD, drop, length-drop, length-append, List·getD-append}
+use lib.Seq.{getD-drop}
+use Rattle.basis.specs.Pick.{pick}
+use Rattle.recording.specs.Reading.{byteAt, controlAt, changeAt, nextOf}
+use Rattle.recording.proofs.Reading.{next-all}
+use Rattle.recording.proofs.ByKind.{kind-1, kind-2, kind-3, kind-4}
+use Rattle.recording.specs.declared.record.Record.{Record}
+use Rattle.recording.specs.declared.record.Record.the-variants.{Control, Success, Failure}
+use Rattle.recording.specs.declared.reader.Read.{Read}
+use Rattle.recording.specs.declared.reader.Read.the-variants.{Found, Ended}
+use Rattle.recording.specs.declared.reader.Ending.the-variants.{Whole, Cut, UnknownKind}
+
+-- The same record, so much further on.
+abbrev pub moved : ℕ → Read → Read
+moved by (Found r next) = Found r (by + next)
+moved by (Ended e) = Ended e
+
+-- What is read, by its tests: at the end, of the four kinds, and cut with the first three of them.
+rows : Bool → Bool → Bool → Bool → Bool → Bool → Bool → Bool → ℕ → Record → Record → Record → Read
+rows end one two three four cut-one cut-two cut-three at x y z =
+    pick end (Ended Whole)
+    (pick one (pick cut-one (Ended Cut) (Found x (at + 9)))
+    (pick two (pick cut-two (Ended Cut) (Found y (at + 4)))
+    (pick three (pick cut-three (Ended Cut) (Found z (at + 2)))
+    (pick four (Found Failure (at + 1))
+    (Ended UnknownKind)))))
+
+moved-rows : (e a b c d f g h : Bool) (at : ℕ) (x y z : Record) → moved at (rows e a b c d f g h 0 x y z) ≡ rows e a b c d f g h at x y z
+unfolding rows pick
+moved-rows true a b c d f g h at x y z = refl
+moved-rows false true b c d true g h at x y z = refl
+moved-rows false true b c d false g h at x y z = refl
+moved-rows false false true c d f true h at x y z = refl
+moved-rows false false true c d f false h at x y z = refl
+moved-rows false false false true d f g true at x y z = refl
+moved-rows false false false true d f g false at x y z = refl
+moved-rows false false false false true f g h at x y z = refl
+moved-rows false false false false false f g h at x y z = refl
+
+module _ (s : List ℕ) (at : ℕ) where
+  byte-moved : (i : ℕ) → byteAt (drop at s) i ≡ byteAt s (at + i)
+  byte-moved i = getD-drop at s i 0
+
+  end-moved : leb (length (drop at s)) 0 ≡ leb (length s) at
+  end-moved = tested (leb (length s) at) refl
+    where
+      tested : (t : Bool) → leb (length s) at ≡ t → leb (length (drop at s)) 0 ≡ leb (length s) at
+      tested true e = let h = leb-true (length s) at e in le-leb (length (drop at s)) 0 (simp length-drop (omega arith)) ∙ sym e
+      tested false e = let h = leb-false (length s) at e in lt-leb (length (drop at s)) 0 (simp length-drop (omega arith)) ∙ sym e
+
+  further : (i j : ℕ) → byteAt (drop at s) (i + j) ≡ byteAt s (at + i + j)
+  further i j = byte-moved (i + j) ∙ ap (byteAt s) (sym (add-assoc at i j))
+
+  control-moved : controlAt (drop at s) 1 ≡ controlAt s (at + 1)
+  control-moved = rw (byte-moved 1, further 1 1, further 1 2, further 1 3, further 1 4, further 1 5, further 1 6, further 1 7)
+
+  change-moved : changeAt (drop at s) 1 ≡ changeAt s (at + 1)
+  change-moved = rw (byte-moved 1, further 1 1, further 1 2)
+
+  pub next-drop : nextOf s at ≡ moved at (nextOf (drop at s) 0)
+  unfolding nextOf rows
+  next-drop =
+      let first : byteAt (drop at s) 0 ≡ byteAt s at = byte-moved 0 ∙ ap (byteAt s) (add-zero at) in
+      let left : length (drop at s) - 0 ≡ length s - at = sub-zero (length (drop at s)) ∙ length-drop at s in
+      sym (rw (end-moved, first, left, control-moved, change-moved, byte-moved 1)
+      (moved-rows (leb (length s) at) (eqb (byteAt s at) 1) (eqb (byteAt s at) 2) (eqb (byteAt s at) 3) (eqb (byteAt s at) 4)
+      (ltb (length s - at) 9) (ltb (length s - at) 4) (ltb (length s - at) 2) at
+      (Control (controlAt s (at + 1))) (changeAt s (at + 1)) (Success (byteAt s (at + 1)))))
+
+-- A record that is found is found there whatever follows.
+module _ (s t : List ℕ) (at : ℕ) where
+  Stays : Read → Type 0
+  Stays (Found r next) = nextOf (s ++ t) at ≡ Found r next
+  Stays (Ended e) = Unit
+
+  same : (i : ℕ) → i < length s → byteAt (s ++ t) i ≡ byteAt s i
+  same i h = List·getD-append s t 0 i h
+
+  next-stays : Stays (nextOf s at)
+  unfolding Stays
+  next-stays = next-all Stays s at (λ _. tt) (λ _. tt) (λ _. tt)
+      (λ k h. kind-1 (s ++ t) at (same at (omega arith) ∙ k) (simp length-append (omega arith))
+      ∙ rw (
+        same (at + 1) (omega arith),
+        same (at + 1 + 1) (omega arith),
+        same (at + 1 + 2) (omega arith),
+        same (at + 1 + 3) (omega arith),
+        same (at + 1 + 4) (omega arith),
+        same (at + 1 + 5) (omega arith),
+        same (at + 1 + 6) (omega arith),
+        same (at + 1 + 7) (omega arith),
+      ))
+      (λ k h. kind-2 (s ++ t) at (same at (omega arith) ∙ k) (simp length-append (omega arith))
+      ∙ rw (same (at + 1) (omega arith), same (at + 1 + 1) (omega arith), same (at + 1 + 2) (omega arith)))
+      (λ k h. kind-3 (s ++ t) at (same at (omega arith) ∙ k) (simp length-append (omega arith)) ∙ rw (same (at + 1) (omega arith)))
+      (λ k h. kind-4 (s ++ t) at (same at (omega arith) ∙ k) (simp length-append (omega arith)))
+
+  pub found-stays : (r : Record) (next : ℕ) → nextOf s at ≡ Found r next → nextOf (s ++ t) at ≡ Found r next
+  unfolding Stays
+  found-stays r next e = subst Stays e next-stays

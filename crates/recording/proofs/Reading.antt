@@ -1,0 +1,58 @@
+-- What is read at a place: how far it reaches, and that nothing else plays a part in it (01, Replay program).
+use Prim.Native.Nat.{ℕ, _+_, _-_, _<_, _≤_}
+use mathlib.Core.Bool.{Bool, true, false}
+use mathlib.Core.Path.{_≡_, refl, sym, _∙_, ap}
+use mathlib.Core.List.{List, _++_}
+use native.Mathlib.Nat.{add-assoc}
+use native.Mathlib.Omega.{arith}
+use borrow.Author.Tests.{lt-ltb, le-ltb, le-leb, lt-leb, ltb-false, leb-true, leb-false, eqb-true}
+use lib.Dec.{eqb, ltb, leb}
+use lib.ListN.{length, getD, drop, length-drop, length-append, List·getD-append}
+use lib.Seq.{getD-drop}
+use Rattle.basis.specs.Pick.{pick, pick-all, pick-no, tests}
+use Rattle.recording.specs.Reading.{byteAt, controlAt, changeAt, whole, nextOf}
+use Rattle.recording.specs.Writing.{bytesOf}
+use Rattle.recording.specs.declared.record.Record.{Record}
+use Rattle.recording.specs.declared.record.Record.the-variants.{Control, Success, Failure}
+use Rattle.recording.specs.declared.reader.Read.{Read}
+use Rattle.recording.specs.declared.reader.Read.the-variants.{Found, Ended}
+use Rattle.recording.specs.declared.reader.Ending.the-variants.{Whole, Cut, UnknownKind}
+
+-- What holds at the end, at a known kind whose bytes are there, at one that is cut and at an unknown kind holds of what is read.
+pub next-all : (P : Read → Type 0) (s : List ℕ) (at : ℕ)
+    → (length s ≤ at → P (Ended Whole))
+    → (at < length s → P (Ended Cut))
+    → (at < length s → P (Ended UnknownKind))
+    → (byteAt s at ≡ 1 → at + 9 ≤ length s → P (Found (Control (controlAt s (at + 1))) (at + 9)))
+    → (byteAt s at ≡ 2 → at + 4 ≤ length s → P (Found (changeAt s (at + 1)) (at + 4)))
+    → (byteAt s at ≡ 3 → at + 2 ≤ length s → P (Found (Success (byteAt s (at + 1))) (at + 2)))
+    → (byteAt s at ≡ 4 → at + 1 ≤ length s → P (Found Failure (at + 1)))
+    → P (nextOf s at)
+unfolding nextOf
+next-all P s at end cut unknown control change success failure =
+    pick-all P (leb (length s) at) _ _ (λ t. end (leb-true (length s) at t))
+    (λ t. let h = leb-false (length s) at t in
+    pick-all P (eqb (byteAt s at) 1) _ _
+    (λ k. sized 9 (Control (controlAt s (at + 1))) (control (eqb-true (byteAt s at) 1 k)) h)
+    (λ _. pick-all P (eqb (byteAt s at) 2) _ _
+    (λ k. sized 4 (changeAt s (at + 1)) (change (eqb-true (byteAt s at) 2 k)) h)
+    (λ _. pick-all P (eqb (byteAt s at) 3) _ _
+    (λ k. sized 2 (Success (byteAt s (at + 1))) (success (eqb-true (byteAt s at) 3 k)) h)
+    (λ _. pick-all P (eqb (byteAt s at) 4) _ _
+    (λ k. failure (eqb-true (byteAt s at) 4 k) (omega arith))
+    (λ _. unknown h)))))
+  where
+    sized : (size : ℕ) (r : Record) → (at + size ≤ length s → P (Found r (at + size))) → at < length s → P (whole s at size r)
+    sized size r found h = pick-all P (ltb (length s - at) size) _ _ (λ _. cut h)
+        (λ u. let k = ltb-false (length s - at) size u in found (omega arith))
+
+-- A record that is found is one byte long at least, ends within the recording, and the place behind it is past its own bytes.
+abbrev pub Past : List ℕ → ℕ → Read → Type 0
+Past s at (Found r next) = (next ≡ at + length (bytesOf r)) × (at < next) × (next ≤ length s)
+Past s at (Ended e) = Unit
+
+pub next-past : (s : List ℕ) (at : ℕ) → Past s at (nextOf s at)
+unfolding bytesOf
+next-past s at =
+    next-all (Past s at) s at (λ _. tt) (λ _. tt) (λ _. tt)
+    (λ _ h. (refl, omega arith, h)) (λ _ h. (refl, omega arith, h)) (λ _ h. (refl, omega arith, h)) (λ _ h. (refl, omega arith, h))

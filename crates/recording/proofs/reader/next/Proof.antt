@@ -1,0 +1,32 @@
+use Rattle.recording.specs.Reading.{nextOf}
+use Rattle.basis.specs.Pick.{tests}
+use borrow.Author.Needs.{needs}
+use Rattle.recording.proofs.reader.next.Statement.{statement}
+use Rattle.recording.proofs.reader.next.Tie as tie
+
+pub next-spec : {M : Type 1} → statement M
+unfolding nextOf
+next-spec =
+    tie.close
+    (tie.spec
+    (λ c. search tests)
+    (λ c. search needs)
+    (λ c. search needs)
+    (λ c. search tests)
+    (λ c. search needs)
+    (λ c κs. search needs)
+    (λ c. search needs)
+    (λ c. rw (c .control-at .ensures) (search tests))
+    (λ c. search tests)
+    (λ c. search needs)
+    (λ c κs. search needs)
+    (λ c. search needs)
+    (λ c. rw (c .change-at .ensures) (search tests))
+    (λ c. search tests)
+    (λ c. search needs)
+    (λ c. search needs)
+    (λ c. search needs)
+    (λ c. search tests)
+    (λ c. search needs)
+    (λ c. search tests)
+    (λ c. search tests))

@@ -1,0 +1,36 @@
+-- A whole recording taken apart into its records and why there is none behind the last of them (01, Replay program).
+use Prim.Native.Nat.{ℕ, zero, suc}
+use mathlib.Core.List.{List, [], _∷_, _++_}
+use lib.ListN.{length, drop}
+use Rattle.recording.specs.Reading.{nextOf}
+use Rattle.recording.specs.Writing.{bytesOf}
+use Rattle.recording.specs.declared.record.Record.{Record}
+use Rattle.recording.specs.declared.reader.Read.{Read}
+use Rattle.recording.specs.declared.reader.Read.the-variants.{Found, Ended}
+use Rattle.recording.specs.declared.reader.Ending.{Ending}
+use Rattle.recording.specs.declared.reader.Ending.the-variants.{Whole}
+
+pub record Apart : Type 0 where
+  pub records : List Record
+  pub ending : Ending
+
+abbrev pub apart : List Record → Ending → Apart
+apart records ending = record { records = records; ending = ending }
+
+-- What was read at the start, and then what becomes of the rest.
+abbrev pub onward : (List ℕ → Apart) → List ℕ → Read → Apart
+onward rest s (Found r next) = apart (r ∷ rest (drop next s) .records) (rest (drop next s) .ending)
+onward rest s (Ended ending) = apart [] ending
+
+-- A record has at least one byte, so that as many turns as there are bytes are enough.
+unfoldable pub turns : ℕ → List ℕ → Apart
+turns zero s = apart [] Whole
+turns (suc left) s = onward (turns left) s (nextOf s 0)
+
+unfoldable pub apartOf : List ℕ → Apart
+apartOf s = turns (length s) s
+
+-- Records written one behind the other.
+abbrev pub writtenOf : List Record → List ℕ
+writtenOf [] = []
+writtenOf (r ∷ rs) = bytesOf r ++ writtenOf rs

@@ -1,0 +1,4 @@
+pub mod Record
+pub mod Reading
+pub mod Writing
+pub mod Apart

@@ -1,0 +1,49 @@
+-- The record at a place: one byte of kind, then the body (01, Replay program).
+use Prim.Native.Nat.{ℕ, _+_, _*_, _-_}
+use mathlib.Core.List.{List}
+use lib.ListN.{length, getD}
+use lib.Dec.{eqb, ltb, leb}
+use Rattle.basis.specs.Pick.{pick}
+use Rattle.recording.specs.declared.record.ControlBytes.{ControlBytes}
+use Rattle.recording.specs.declared.record.Record.{Record}
+use Rattle.recording.specs.declared.record.Record.the-variants.{Control, Change, Success, Failure}
+use Rattle.recording.specs.declared.reader.Read.{Read}
+use Rattle.recording.specs.declared.reader.Read.the-variants.{Found, Ended}
+use Rattle.recording.specs.declared.reader.Ending.the-variants.{Whole, Cut, UnknownKind}
+
+abbrev pub byteAt : List ℕ → ℕ → ℕ
+byteAt s i = getD s i 0
+
+abbrev pub controlAt : List ℕ → ℕ → ControlBytes
+controlAt s i =
+    record {
+      first = byteAt s i;
+      second = byteAt s (i + 1);
+      third = byteAt s (i + 2);
+      fourth = byteAt s (i + 3);
+      fifth = byteAt s (i + 4);
+      sixth = byteAt s (i + 5);
+      seventh = byteAt s (i + 6);
+      eighth = byteAt s (i + 7);
+    }
+
+-- Low byte first (01, Sizes and numbers).
+abbrev pub pairOf : ℕ → ℕ → ℕ
+pairOf low high = low + 256 * high
+
+abbrev pub changeAt : List ℕ → ℕ → Record
+changeAt s i = Change (byteAt s i) (pairOf (byteAt s (i + 1)) (byteAt s (i + 2)))
+
+-- A record of so many bytes, its kind among them, if they are there.
+abbrev pub whole : List ℕ → ℕ → ℕ → Record → Read
+whole s at size r = pick (ltb (length s - at) size) (Ended Cut) (Found r (at + size))
+
+-- Kind 1: CONTROL, 8 bytes. 2: connector, reason, 1 + 2 bytes. 3: port success, 1 byte. 4: port failure, 0 bytes.
+unfoldable pub nextOf : List ℕ → ℕ → Read
+nextOf s at =
+    pick (leb (length s) at) (Ended Whole)
+    (pick (eqb (byteAt s at) 1) (whole s at 9 (Control (controlAt s (at + 1))))
+    (pick (eqb (byteAt s at) 2) (whole s at 4 (changeAt s (at + 1)))
+    (pick (eqb (byteAt s at) 3) (whole s at 2 (Success (byteAt s (at + 1))))
+    (pick (eqb (byteAt s at) 4) (Found Failure (at + 1))
+    (Ended UnknownKind)))))

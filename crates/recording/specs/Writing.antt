@@ -1,0 +1,42 @@
+-- A record as bytes, and what its writer leaves (01, Replay program; 01, Numbers we answer).
+use Prim.Native.Nat.{ℕ, _-_, _/_, _%_}
+use mathlib.Core.List.{List, [], _∷_, _++_}
+use lib.ListN.{length, replicate}
+use lib.Dec.{ltb}
+use Rattle.basis.specs.Pick.{pick}
+use Rattle.basis.specs.Left.{Left, left}
+use Rattle.lent.specs.Led.{led}
+use Rattle.recording.specs.Record.{controlBytes}
+use Rattle.recording.specs.declared.record.ControlBytes.{ControlBytes}
+use Rattle.recording.specs.declared.record.Record.{Record}
+use Rattle.recording.specs.declared.record.Record.the-variants.{Control, Change, Success, Failure}
+use Rattle.recording.specs.declared.writer.Written.{Written}
+use Rattle.recording.specs.declared.writer.Written.the-variants.{Whole, TooShort}
+use Rattle.recording.specs.declared.writer.Nine.{Nine}
+
+abbrev pub controlRecord : ControlBytes → List ℕ
+controlRecord c = 1 ∷ controlBytes c
+
+unfoldable pub bytesOf : Record → List ℕ
+bytesOf (Control c) = controlRecord c
+bytesOf (Change connector reason) = 2 ∷ connector ∷ reason % 256 ∷ reason / 256 ∷ []
+bytesOf (Success length) = 3 ∷ length ∷ []
+bytesOf Failure = 4 ∷ []
+
+-- The longest record.
+abbrev pub roomLeast : ℕ
+roomLeast = 9
+
+-- The record's bytes in an array of nine, zeros behind them.
+unfoldable pub inNine : List ℕ → Nine
+inNine bytes = record { bytes = bytes ++ replicate (roomLeast - length bytes) 0; len = length bytes }
+
+-- 27 under 9 bytes, whatever the record, and the buffer is kept; else the record's own bytes, and nothing else, are written.
+unfoldable pub writeOf : Record → List ℕ → Left Written
+writeOf r out =
+    pick (ltb (length out) roomLeast) (left TooShort out)
+    (left (Whole (length (bytesOf r))) (led (bytesOf r) out))
+
+abbrev pub numberOf : Written → ℕ
+numberOf (Whole n) = 0
+numberOf TooShort = 27

@@ -1,0 +1,101 @@
+// The record that stands at a place of a recording.
+use crate::kinds;
+use crate::record::ControlBytes;
+use crate::record::Record;
+ghost use mathlib.Core.Path.{_≡_};
+ghost use Prim.Native.Nat.{_+_, _≤_};
+ghost use lib.ListN.{length};
+ghost use Rattle.recording.specs.Reading.{nextOf, controlAt, changeAt, pairOf};
+
+pub enum Read {
+    // The record after it stands at `next`.
+    Found { record: Record, next: usize },
+    Ended(Ending),
+}
+
+// Why no record is found.
+pub enum Ending {
+    // Nothing stands there: the recording is whole.
+    Whole,
+    // The kind is known, and the recording ends within the record.
+    Cut,
+    UnknownKind,
+}
+
+pub fn next(recording: &[u8], at: usize) -> Read
+    ensures { λ r. ⌜ r ≡ nextOf (now (recording .entry)) at ⌝ }
+{
+    if recording.len() <= at {
+        return Read::Ended(Ending::Whole);
+    }
+    let left = recording.len() - at;
+    let kind = recording[at];
+    if kind == kinds::CONTROL {
+        if left < kinds::CONTROL_SIZE {
+            return Read::Ended(Ending::Cut);
+        }
+        return Read::Found {
+            record: Record::Control(control_at(recording, at + 1)),
+            next: at + kinds::CONTROL_SIZE,
+        };
+    }
+    if kind == kinds::CHANGE {
+        if left < kinds::CHANGE_SIZE {
+            return Read::Ended(Ending::Cut);
+        }
+        return Read::Found {
+            record: change_at(recording, at + 1),
+            next: at + kinds::CHANGE_SIZE,
+        };
+    }
+    if kind == kinds::SUCCESS {
+        if left < kinds::SUCCESS_SIZE {
+            return Read::Ended(Ending::Cut);
+        }
+        return Read::Found {
+            record: Record::Success {
+                length: recording[at + 1],
+            },
+            next: at + kinds::SUCCESS_SIZE,
+        };
+    }
+    if kind == kinds::FAILURE {
+        return Read::Found {
+            record: Record::Failure,
+            next: at + kinds::FAILURE_SIZE,
+        };
+    }
+    Read::Ended(Ending::UnknownKind)
+}
+
+fn change_at(recording: &[u8], at: usize) -> Record
+    requires { ⌜ at + 3 ≤ length (now recording) ⌝ }
+    ensures { λ r. ⌜ r ≡ changeAt (now (recording .entry)) at ⌝ }
+{
+    let connector = recording[at];
+    let reason = pair(recording[at + 1], recording[at + 2]);
+    Record::Change { connector, reason }
+}
+
+// Low byte first (01, Sizes and numbers).
+fn pair(low: u8, high: u8) -> u16
+    ensures { λ r. ⌜ r ≡ pairOf low high ⌝ }
+{
+    low as u16 + 256 * (high as u16)
+}
+
+fn control_at(recording: &[u8], at: usize) -> ControlBytes
+    requires { ⌜ at + 8 ≤ length (now recording) ⌝ }
+    ensures { λ r. ⌜ r ≡ controlAt (now (recording .entry)) at ⌝ }
+{
+    ControlBytes {
+        first: recording[at],
+        second: recording[at + 1],
+        third: recording[at + 2],
+        fourth: recording[at + 3],
+        fifth: recording[at + 4],
+        sixth: recording[at + 5],
+        seventh: recording[at + 6],
+        eighth: recording[at + 7],
+    }
+}
