@@ -1,2 +1,4 @@
 pub mod Zeros
 pub mod Mid
+pub mod Parts
+pub mod Laws

@@ -17,7 +17,7 @@ use Rattle.lines.proofs.Texts.{line-sized}
 use Rattle.recording.specs.Reading.{nextOf}
 use Rattle.recording.specs.Writing.{bytesOf}
 use Rattle.recording.specs.Apart.{Apart, apart, onward, apartOf}
-use Rattle.recording.proofs.Reading.{Past, next-past}
+use Rattle.recording.proofs.Reading.{found-past}
 use Rattle.recording.proofs.Apart.{apart-at}
 use Rattle.recording.specs.declared.record.Record.{Record}
 use Rattle.recording.specs.declared.reader.Read.{Read}
@@ -47,9 +47,6 @@ regroup t k n x y z q e f = rw (e, f, add-assoc t k (q .taken), append-assoc x y
 pub mid-begins : (mailbox : Mailbox) (part before : List ℕ) → Mid mailbox part before mailbox 0 0 before
 mid-begins mailbox part before =
     record { run = rw (sub-zero (length before), zero-add (partOf mailbox (length before) (apartOf part) .taken)); rest = refl; room = omega arith; size = refl; place = omega arith }
-
-pub found-past : (part : List ℕ) (taken : ℕ) (r : Record) (next : ℕ) → nextOf part taken ≡ Found r next → Past part taken (Found r next)
-found-past part taken r next e = subst (Past part taken) e (next-past part taken)
 
 -- The line that a record prints, as the code has it.
 module _ (state : Mailbox) (r : Record) (turn : Turn) (e : turn ≡ turnOf state r) where

@@ -6,8 +6,13 @@ use Rattle.recording.specs.Apart.{Apart, apartOf}
 use Rattle.recording.specs.declared.record.Record.{Record}
 use Rattle.recording.specs.declared.reader.Ending.{Ending}
 use Rattle.recording.specs.declared.reader.Ending.the-variants.{Whole, Cut, UnknownKind}
+use Rattle.mailbox.specs.Mailbox.{freshOf}
 use Rattle.mailbox.specs.declared.state.Mailbox.{Mailbox}
 use Rattle.playing.specs.Turn.{outcomeOf, printed}
+
+-- Two connectors.
+abbrev pub begun : Mailbox
+begun = freshOf (record { count = 2 })
 
 -- Each record gives one line.
 abbrev pub linesOf : Mailbox → List Record → List ℕ
@@ -25,3 +30,7 @@ shownOf m a = linesOf m (a .records) ++ closingText (a .ending)
 
 abbrev pub replayOf : Mailbox → List ℕ → List ℕ
 replayOf m recording = shownOf m (apartOf recording)
+
+-- What the replay program prints of a recording.
+abbrev pub printedOf : List ℕ → List ℕ
+printedOf recording = replayOf begun recording

@@ -4,6 +4,7 @@ mod turn;
 
 pub use part::Played;
 pub use part::Stop;
+pub use part::begin;
 pub use part::closing;
 pub use part::play;
 pub use turn::Turn;

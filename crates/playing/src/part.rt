@@ -2,6 +2,7 @@
 use crate::turn::play_record;
 use lines::Line;
 use mailbox::Mailbox;
+use mailbox_state::connectors::Connectors;
 use recording::Ending;
 use recording::Read;
 ghost use mathlib.Core.Path.{_≡_};
@@ -10,8 +11,18 @@ ghost use lib.ListN.{length, take};
 ghost use Rattle.basis.specs.Left.{left};
 ghost use Rattle.lent.specs.Put.{pasted};
 ghost use Rattle.lines.specs.Line.{longest, lineIn};
-ghost use Rattle.playing.specs.Replay.{closingText};
+ghost use Rattle.playing.specs.Replay.{begun, closingText};
 ghost use Rattle.playing.specs.Part.{playOf, closingOf};
+
+// Two connectors (01, Replay program).
+const CONNECTORS: u8 = 2;
+
+// The mailbox on which a recording is played from its start.
+pub fn begin() -> Mailbox
+    ensures { λ r. ⌜ r ≡ begun ⌝ }
+{
+    Mailbox::fresh(Connectors { count: CONNECTORS })
+}
 
 // Why no further record was played: none is found at the place, or its line does not fit into the output.
 pub enum Stop {

@@ -1,7 +1,7 @@
 -- What is read at a place: how far it reaches, and that nothing else plays a part in it (01, Replay program).
 use Prim.Native.Nat.{ℕ, _+_, _-_, _<_, _≤_}
 use mathlib.Core.Bool.{Bool, true, false}
-use mathlib.Core.Path.{_≡_, refl, sym, _∙_, ap}
+use mathlib.Core.Path.{_≡_, refl, subst}
 use mathlib.Core.List.{List, _++_}
 use native.Mathlib.Nat.{add-assoc}
 use native.Mathlib.Omega.{arith}
@@ -56,3 +56,6 @@ unfolding bytesOf
 next-past s at =
     next-all (Past s at) s at (λ _. tt) (λ _. tt) (λ _. tt)
     (λ _ h. (refl, omega arith, h)) (λ _ h. (refl, omega arith, h)) (λ _ h. (refl, omega arith, h)) (λ _ h. (refl, omega arith, h))
+
+pub found-past : (s : List ℕ) (at : ℕ) (r : Record) (next : ℕ) → nextOf s at ≡ Found r next → Past s at (Found r next)
+found-past s at r next e = subst (Past s at) e (next-past s at)

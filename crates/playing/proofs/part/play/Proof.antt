@@ -5,7 +5,8 @@ use lib.ListN.{length}
 use native.Mathlib.Omega.{arith}
 use denote.Ref.{now}
 use mathlib.Core.Path.{_≡_, sym, _∙_}
-use Rattle.playing.proofs.Mid.{Mid, mid-begins, mid-ends, mid-full, mid-turn, line-len, line-fits, found-past}
+use Rattle.playing.proofs.Mid.{Mid, mid-begins, mid-ends, mid-full, mid-turn, line-len, line-fits}
+use Rattle.recording.proofs.Reading.{found-past}
 use Rattle.playing.proofs.part.play.Statement.{statement}
 use Rattle.playing.proofs.part.play.Tie as tie
 use Rattle.playing.proofs.part.play.Reads as reads

@@ -1,0 +1,135 @@
+-- A part of a recording: how far it comes, why it stops, and that playing on from there joins up to the whole (01, Replay program).
+use Prim.Native.Nat.{ℕ, _+_, _*_, _-_, _<_, _≤_}
+use mathlib.Core.Path.{_≡_, refl, sym, _∙_, ap, subst}
+use mathlib.Core.List.{List, [], _∷_, _++_, append-assoc}
+use native.Mathlib.Omega.{arith}
+use lib.ListN.{length, take, drop, length-drop, length-append}
+use lib.Seq.{drop-drop, drop-append-le, take-append-seam}
+use Rattle.basis.specs.Left.{Left, left}
+use Rattle.lines.specs.Line.{longest, stopText, lineIn}
+use Rattle.lines.proofs.Texts.{line-sized}
+use Rattle.recording.specs.Reading.{nextOf}
+use Rattle.recording.specs.Writing.{bytesOf}
+use Rattle.recording.specs.Apart.{Apart, apart, onward, apartOf}
+use Rattle.recording.proofs.Reading.{Past, next-past, found-past}
+use Rattle.recording.proofs.Apart.{apart-step}
+use Rattle.recording.proofs.Moved.{found-stays}
+use Rattle.recording.specs.declared.record.Record.{Record}
+use Rattle.recording.specs.declared.reader.Read.{Read}
+use Rattle.recording.specs.declared.reader.Read.the-variants.{Found, Ended}
+use Rattle.recording.specs.declared.reader.Ending.{Ending}
+use Rattle.recording.specs.declared.reader.Ending.the-variants.{Whole, Cut, UnknownKind}
+use Rattle.mailbox_state.specs.Answer.{numberOf}
+use Rattle.mailbox.specs.Mailbox.{cciOf}
+use Rattle.mailbox.specs.declared.state.Mailbox.{Mailbox}
+use Rattle.playing.specs.Turn.{outcomeOf, printed}
+use Rattle.playing.specs.Replay.{linesOf, closingText, shownOf, replayOf}
+use Rattle.playing.specs.Part.{Plays, plays, after, partOf, leadsOf, playOf, closingOf}
+use Rattle.playing.proofs.Parts.{part-all}
+use Rattle.playing.specs.declared.part.Played.{Played}
+use Rattle.playing.specs.declared.part.Stop.{Stop}
+use Rattle.playing.specs.declared.part.Stop.the-variants as Stop
+
+-- A printed line has 11 to 13 bytes.
+pub printed-sized : (m : Mailbox) (r : Record) → (11 ≤ length (printed (outcomeOf m r))) × (length (printed (outcomeOf m r)) ≤ longest)
+unfolding printed
+printed-sized m r = line-sized (cciOf (outcomeOf m r .state)) (numberOf (outcomeOf m r .answer))
+
+-- No more is taken than there is, and no more is written than there is room.
+pub part-within : (m : Mailbox) (room : ℕ) (part : List ℕ) → (partOf m room (apartOf part) .taken ≤ length part) × (length (partOf m room (apartOf part) .text) ≤ room)
+part-within =
+    part-all (λ m room part q. (q .taken ≤ length part) × (length (q .text) ≤ room))
+    (λ m room part ending e. (omega arith, omega arith))
+    (λ m room part r next e h. (omega arith, omega arith))
+    (λ m room part r next rest e h ih.
+    let past = found-past part 0 r next e in
+    let l = length-drop next part in
+    (omega (arith, past, ih), simp length-append (omega (arith, ih))))
+
+pub play-within : (m : Mailbox) (part out : List ℕ) (r : Played) (now : List ℕ) → left r now ≡ playOf m part out → (r .taken ≤ length part) × (r .written ≤ length out)
+unfolding leadsOf
+play-within m part out r now e =
+    let w = part-within m (length out) part in
+    (rw (ap (λ (x : Left Played). x .answer .taken) e) (w .0), rw (ap (λ (x : Left Played). x .answer .written) e) (w .1))
+
+-- No record waits for room.
+abbrev pub Played-all : Stop → Type 0
+Played-all (Stop.Ended ending) = Unit
+Played-all Stop.Full = ⊥
+
+-- Where there is room for the longest line to every byte of the part, none does: a record has one byte at least.
+pub never-full : (m : Mailbox) (room : ℕ) (part : List ℕ) → longest * length part ≤ room → Played-all (partOf m room (apartOf part) .stop)
+never-full =
+    part-all (λ m room part q. longest * length part ≤ room → Played-all (q .stop))
+    (λ m room part ending e h. tt)
+    (λ m room part r next e h k.
+    let past = found-past part 0 r next e in
+    let sized = printed-sized m r in
+    absurd (omega (arith, past, sized)))
+    (λ m room part r next rest e h ih k.
+    let past = found-past part 0 r next e in
+    let sized = printed-sized m r in
+    let l = length-drop next part in
+    ih (omega (arith, past, sized, l)))
+
+-- The lines of a recording from its first record on.
+replay-found : (m : Mailbox) (s : List ℕ) (r : Record) (next : ℕ) → nextOf s 0 ≡ Found r next → replayOf m s ≡ printed (outcomeOf m r) ++ replayOf (outcomeOf m r .state) (drop next s)
+unfolding shownOf
+replay-found m s r next e =
+    ap (shownOf m) (apart-step s ∙ ap (onward apartOf s) e) ∙ append-assoc (printed (outcomeOf m r)) (linesOf (outcomeOf m r .state) (apartOf (drop next s) .records)) _
+
+-- Whatever follows the part.
+pub part-joins : (m : Mailbox) (room : ℕ) (part more : List ℕ)
+    → replayOf m (part ++ more) ≡ partOf m room (apartOf part) .text ++ replayOf (partOf m room (apartOf part) .state) (drop (partOf m room (apartOf part) .taken) part ++ more)
+part-joins m room part more =
+    part-all (λ m room part q. replayOf m (part ++ more) ≡ q .text ++ replayOf (q .state) (drop (q .taken) part ++ more))
+    (λ m room part ending e. refl)
+    (λ m room part r next e h. refl)
+    (λ m room part r next rest e h ih.
+    let past = found-past part 0 r next e in
+    let size : next ≡ length (bytesOf r) = omega (arith, past) in
+    replay-found m (part ++ more) r next (found-stays part more 0 r next e)
+    ∙ ap (λ (s : List ℕ). printed (outcomeOf m r) ++ replayOf (outcomeOf m r .state) s) (drop-append-le next part more (past .2))
+    ∙ ap (λ (t : List ℕ). printed (outcomeOf m r) ++ t)
+    (ih ∙ ap (λ (s : List ℕ). rest .text ++ replayOf (rest .state) (s ++ more)) (drop-drop (rest .taken) next part ∙ ap (λ (k : ℕ). drop (k + rest .taken) part) size))
+    ∙ sym (append-assoc (printed (outcomeOf m r)) (rest .text) _))
+    m room part
+
+-- Where it stops: with the part's end behind the last record, within a record, before an unknown kind, or before a record whose line is longer
+-- than the room that is left.
+pub record Waits (m : Mailbox) (room : ℕ) (rest : List ℕ) : Type 0 where
+  pub waiting : Record
+  pub next : ℕ
+  pub found : nextOf rest 0 ≡ Found waiting next
+  pub long : room < length (printed (outcomeOf m waiting))
+
+abbrev pub Because : Mailbox → ℕ → List ℕ → Stop → Type 0
+Because m room rest (Stop.Ended ending) = nextOf rest 0 ≡ Ended ending
+Because m room rest Stop.Full = Waits m room rest
+
+pub part-stops : (m : Mailbox) (room : ℕ) (part : List ℕ)
+    → Because (partOf m room (apartOf part) .state) (room - length (partOf m room (apartOf part) .text)) (drop (partOf m room (apartOf part) .taken) part) (partOf m room (apartOf part) .stop)
+part-stops =
+    part-all (λ m room part q. Because (q .state) (room - length (q .text)) (drop (q .taken) part) (q .stop))
+    (λ m room part ending e. e)
+    (λ m room part r next e h. record { waiting = r; next = next; found = e; long = omega arith })
+    (λ m room part r next rest e h ih.
+    let past = found-past part 0 r next e in
+    let size : next ≡ length (bytesOf r) = omega (arith, past) in
+    let left : room - length (printed (outcomeOf m r)) - length (rest .text) ≡ room - length (printed (outcomeOf m r) ++ rest .text) = simp length-append (omega arith) in
+    let place : drop (rest .taken) (drop next part) ≡ drop (length (bytesOf r) + rest .taken) part = drop-drop (rest .taken) next part ∙ ap (λ (k : ℕ). drop (k + rest .taken) part) size in
+    subst (λ (k : ℕ). Because (rest .state) k (drop (length (bytesOf r) + rest .taken) part) (rest .stop)) left
+    (subst (λ (s : List ℕ). Because (rest .state) (room - length (printed (outcomeOf m r)) - length (rest .text)) s (rest .stop)) place ih))
+
+-- What is behind the last record played gives no line, or the line `stop` and nothing after it.
+pub replay-ended : (m : Mailbox) (s : List ℕ) (ending : Ending) → nextOf s 0 ≡ Ended ending → replayOf m s ≡ closingText ending
+unfolding shownOf
+replay-ended m s ending e = ap (shownOf m) (apart-step s ∙ ap (onward apartOf s) e)
+
+-- The line that ends a recording fits into its array.
+pub closing-fits : (stop : Stop) → closingOf stop .len ≤ longest
+unfolding closingOf lineIn
+closing-fits (Stop.Ended Whole) = omega arith
+closing-fits (Stop.Ended Cut) = omega arith
+closing-fits (Stop.Ended UnknownKind) = omega arith
+closing-fits Stop.Full = omega arith

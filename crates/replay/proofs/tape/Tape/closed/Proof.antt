@@ -1,0 +1,13 @@
+use Rattle.playing.proofs.Laws.{closing-fits}
+use borrow.Author.Needs.{needs}
+use Rattle.replay.proofs.tape.Tape.closed.Statement.{statement}
+use Rattle.replay.proofs.tape.Tape.closed.Tie as tie
+
+pub closed-spec : {M : Type 1} → statement M
+closed-spec =
+    tie.close
+    (tie.spec
+    (λ c κs. search needs)
+    (λ c κs. rw (c .closing .ensures) (closing-fits _))
+    (λ c κs. search needs)
+    (λ c. search needs))

@@ -1,0 +1,34 @@
+use lib.Seq.{length-take-le}
+use lib.ListN.{length, take}
+use native.Mathlib.Omega.{arith}
+use denote.Ref.{now}
+use mathlib.Core.Path.{_≡_, sym}
+use Rattle.playing.proofs.Laws.{play-within}
+use borrow.Author.Needs.{needs}
+use Rattle.replay.proofs.tape.Tape.played.Statement.{statement}
+use Rattle.replay.proofs.tape.Tape.played.Tie as tie
+
+pub played-spec : {M : Type 1} → statement M
+played-spec =
+    tie.close
+    (tie.spec
+    (λ c. search needs)
+    (λ c. sym (length-take-le _ _ (c .before .before .before .before .pre)))
+    (λ c κs. search needs)
+    (λ c. let g = c .before .before .before .before .before .before .before .before .before .args in let p = c .before .before .before .play in let w = play-within (g .self .state) (take (g .filled) (now (g .buffer))) (now (g .out)) (p .result) _ (p .ensures) in omega (arith, w))
+    (λ c. let g = c .before .before .before .before .before .before .before .before .before .before .args in let p = c .before .before .before .before .play in let w = play-within (g .self .state) (take (g .filled) (now (g .buffer))) (now (g .out)) (p .result) _ (p .ensures) in sym (length-take-le _ _ (omega (arith, w))))
+    (λ c κs. search needs)
+    (λ c κs. search needs)
+    (λ c. search needs)
+    (λ c. search needs)
+    (λ c. search needs)
+    (λ c κs. let g = c .before .before .before .before .before .before .before .before .before .before .before .before .before .args in let p = c .before .before .before .before .before .before .before .play in let w = play-within (g .self .state) (take (g .filled) (now (g .buffer))) (now (g .out)) (p .result) _ (p .ensures) in let l : length (take (g .filled) (now (g .buffer))) ≡ g .filled = length-take-le _ _ (c .before .before .before .before .before .before .before .before .before .before .before .before .before .pre) in (omega (arith, w, l), c .before .before .before .before .before .before .before .before .before .before .before .before .before .pre))
+    (λ c. let g = c .before .before .before .before .before .before .before .before .before .before .before .before .before .before .before .before .args in let p = c .before .before .before .before .before .before .before .before .before .before .play in let w = play-within (g .self .state) (take (g .filled) (now (g .buffer))) (now (g .out)) (p .result) _ (p .ensures) in let l : length (take (g .filled) (now (g .buffer))) ≡ g .filled = length-take-le _ _ (c .before .before .before .before .before .before .before .before .before .before .before .before .before .before .before .before .pre) in omega (arith, w, l))
+    (λ c κs. search needs)
+    (λ c κs. search needs)
+    (λ c. search needs)
+    (λ c. search needs)
+    (λ c. search needs)
+    (λ c. search needs)
+    (λ c. search needs)
+    (λ c. search needs))

@@ -1,0 +1,38 @@
+// Plays the recording on standard input on a mailbox with two connectors, and prints a line for each record (01, Replay program).
+mod buffer;
+mod say;
+mod tape;
+
+use tape::Tape;
+ghost use mathlib.Core.Path.{_≡_};
+ghost use lib.ListN.{length};
+
+// As much as is read at once.
+const ROOM: usize = 65536;
+
+// Room for the line of every record in the buffer, also where each has one byte: 13 bytes to a line (playing's `never-full`).
+const LINES: usize = 851968;
+
+fn main() {
+    let mut buffer = [0u8; ROOM];
+    let mut out = [0u8; LINES];
+    over(&mut buffer, &mut out);
+}
+
+// Here the arrays become slices: their lengths are known from their types, and no proof counts their bytes.
+fn over(buffer: &mut [u8; ROOM], out: &mut [u8; LINES]) {
+    replay(buffer, out);
+}
+
+// A proved loop has to end, and nothing says that a recording does: the turns are counted down from a number that no run uses up.
+fn replay(buffer: &mut [u8], out: &mut [u8]) {
+    let mut tape = Tape::begin();
+    let mut turns = u64::MAX;
+    while turns > 0 {
+        if !tape.runs {
+            break;
+        }
+        tape = tape.turn(buffer, out);
+        turns -= 1;
+    }
+}

@@ -1,0 +1,21 @@
+// What goes to standard output. A write that fails is told on standard error.
+use libc::STDOUT_FILENO;
+use lines::Line;
+ghost use Prim.Native.Nat.{_≤_};
+ghost use Rattle.lines.specs.Line.{longest};
+
+pub(crate) fn text(text: &[u8]) -> bool {
+    let is_written = io::write_all(STDOUT_FILENO, text);
+    if !is_written {
+        os::fail(b"write");
+    }
+    is_written
+}
+
+pub(crate) fn line(line: Line) -> bool
+    requires { ⌜ line .len ≤ longest ⌝ }
+{
+    let bytes = line.bytes;
+    let len = line.len;
+    text(&bytes[..len])
+}

@@ -1,0 +1,108 @@
+// One read after the other: the records that have come are played, their lines written, and what has come of a further one waits.
+use crate::buffer;
+use crate::say;
+use libc::STDIN_FILENO;
+use mailbox::Mailbox;
+use playing::Stop;
+use recording::Ending;
+ghost use Prim.Native.Nat.{_≤_};
+ghost use lib.ListN.{length};
+
+// The first `held` bytes of the buffer are not played yet, and `stop` says why.
+pub(crate) struct Tape {
+    pub state: Mailbox,
+    pub held: usize,
+    pub stop: Stop,
+    pub runs: bool,
+}
+
+impl Tape {
+    pub(crate) fn begin() -> Tape
+        ensures { λ r. ⌜ r .held ≤ 0 ⌝ }
+    {
+        let state = playing::begin();
+        Tape {
+            state,
+            held: 0,
+            stop: Stop::Ended(Ending::Whole),
+            runs: true,
+        }
+    }
+
+    // One read. Where nothing has come the recording is at its end.
+    pub(crate) fn turn(self, buffer: &mut [u8], out: &mut [u8]) -> Tape
+        requires { ⌜ self .held ≤ length (now buffer) ⌝ }
+        ensures { λ r. ⌜ r .held ≤ length (now (buffer .exit)) ⌝ }
+    {
+        let held = self.held;
+        let got = libc::read(STDIN_FILENO, &mut buffer[held..]);
+        if got < 0 {
+            os::fail(b"read");
+            return self.ended();
+        }
+        if got == 0 {
+            return self.closed();
+        }
+        let fresh = io::count(got, &buffer[held..]);
+        self.played(buffer, held + fresh, out)
+    }
+
+    // The first `filled` bytes are played and their lines written at once. An unknown kind ends the replay, whatever follows it.
+    fn played(self, buffer: &mut [u8], filled: usize, out: &mut [u8]) -> Tape
+        requires { ⌜ filled ≤ length (now buffer) ⌝ }
+        ensures { λ r. ⌜ r .held ≤ length (now (buffer .exit)) ⌝ }
+    {
+        let state = self.state;
+        let played = playing::play(state, &buffer[..filled], out);
+        let written = played.written;
+        let taken = played.taken;
+        let stop = played.stop;
+        let state = played.state;
+        if !say::text(&out[..written]) {
+            return self.ended();
+        }
+        buffer::to_front(buffer, taken, filled);
+        let next = Tape {
+            state,
+            held: filled - taken,
+            stop,
+            runs: true,
+        };
+        if is_unknown(stop) {
+            return next.closed();
+        }
+        next
+    }
+
+    // The last line, if there is one, and no further turn.
+    fn closed(self) -> Tape
+        ensures { λ r. ⌜ r .held ≤ 0 ⌝ }
+    {
+        let stop = self.stop;
+        say::line(playing::closing(stop));
+        self.ended()
+    }
+
+    fn ended(mut self) -> Tape
+        ensures { λ r. ⌜ r .held ≤ 0 ⌝ }
+    {
+        self.held = 0;
+        self.runs = false;
+        self
+    }
+}
+
+fn is_unknown(stop: Stop) -> bool {
+    match stop {
+        Stop::Ended(ending) => is_unknown_kind(ending),
+        Stop::Full => false,
+    }
+}
+
+fn is_unknown_kind(ending: Ending) -> bool {
+    match ending {
+        Ending::Whole => false,
+        Ending::Cut => false,
+        Ending::UnknownKind => true,
+    }
+}
