@@ -11,7 +11,7 @@ use Rattle.basis.specs.Pick.{pick-all}
 use Rattle.lines.specs.Digits.{figure, hexOf, decimalOf}
 use Rattle.lines.specs.Line.{space, newline, longest, tailOf, tailled, textOf, lineIn, lineOf, cciIn, answerIn}
 use Rattle.lines.proofs.Digits.{hex-read, decimal-read}
-use Rattle.lines.specs.declared.line.Line.{Line}
+use Rattle.lines.specs.declared.text.Line.{Line}
 
 pub decimal-short : (n : ℕ) → (1 ≤ length (decimalOf n)) × (length (decimalOf n) ≤ 3)
 unfolding decimalOf

@@ -3,7 +3,7 @@ use Prim.Native.Nat.{ℕ, _-_}
 use mathlib.Core.List.{List, [], _∷_, _++_}
 use lib.ListN.{length, take, drop, replicate}
 use Rattle.lines.specs.Digits.{hexOf, decimalOf, numberIn}
-use Rattle.lines.specs.declared.line.Line.{Line}
+use Rattle.lines.specs.declared.text.Line.{Line}
 use Rattle.lines.specs.declared.tail.Tail.{Tail}
 
 abbrev pub space : ℕ

@@ -12,7 +12,7 @@ use Rattle.basis.specs.Left.{Left, left}
 use Rattle.lent.specs.Put.{pasted}
 use Rattle.lent.proofs.Laws.{pasted-there, pasted-behind, pasted-length}
 use Rattle.lines.specs.Line.{longest, textOf, lineIn}
-use Rattle.lines.specs.declared.line.Line.{Line}
+use Rattle.lines.specs.declared.text.Line.{Line}
 use Rattle.lines.proofs.Texts.{line-sized}
 use Rattle.recording.specs.Reading.{nextOf}
 use Rattle.recording.specs.Writing.{bytesOf}

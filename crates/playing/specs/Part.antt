@@ -7,7 +7,7 @@ use Rattle.basis.specs.Pick.{pick}
 use Rattle.basis.specs.Left.{Left, left}
 use Rattle.lent.specs.Led.{led}
 use Rattle.lines.specs.Line.{lineIn}
-use Rattle.lines.specs.declared.line.Line.{Line}
+use Rattle.lines.specs.declared.text.Line.{Line}
 use Rattle.recording.specs.Apart.{Apart, apartOf}
 use Rattle.recording.specs.Writing.{bytesOf}
 use Rattle.recording.specs.declared.record.Record.{Record}

@@ -1,8 +1,9 @@
-// Reads a script of messages, sessions and mailboxes, and prints behind each line what came of it
-// (001 chapter 5; 01, The receiver's phases; 01, The indoor end's phases; 01, The mailbox).
+// Reads a script of messages, sessions, mailboxes and recordings, and prints behind each line what came of it
+// (001 chapter 5; 01, The receiver's phases; 01, The indoor end's phases; 01, The mailbox; 01, Replay program).
 mod bench;
 mod call;
 mod clean_line;
+mod ending;
 mod file;
 mod hex;
 mod indoor_call;
@@ -21,6 +22,9 @@ mod message;
 mod number;
 mod outcome;
 mod phase;
+mod record;
+mod recording_line;
+mod replay;
 mod requests;
 mod responses;
 mod say;
@@ -121,6 +125,8 @@ fn answer(line: &[u8], bench: Bench, file: &[u8], image: &mut [u8], buffer: &mut
         Word::Indoor => indoors(rest, bench, file, buffer),
         Word::Mailbox => mailboxes(rest, bench),
         Word::Clean => bench.heard(clean_line::answer(rest, file, image)),
+        Word::Record => bench.heard(recording_line::record(rest)),
+        Word::Replay => bench.heard(recording_line::replay(rest)),
         Word::Other => bench.heard(false),
     }
 }

@@ -26,6 +26,25 @@ pub(crate) fn heard(understood: bool) {
     }
 }
 
+// Lines of text within the answer: `/` for each newline, and `-` for no text.
+pub(crate) fn lines(s: &[u8]) {
+    text(b" ");
+    if s.len() == 0 {
+        text(b"-");
+    }
+    for i in 0..s.len() {
+        character(s[i]);
+    }
+}
+
+fn character(c: u8) {
+    if c == b'\n' {
+        text(b"/");
+        return;
+    }
+    text(&[c]);
+}
+
 // FWVersion1 to FWVersion4 (001 T5-6, T5-18).
 pub(crate) fn versions(v: Versions) {
     number(v.first as u64);

@@ -15,6 +15,8 @@ pub(crate) enum Word {
     Indoor,
     Mailbox,
     Clean,
+    Record,
+    Replay,
     Other,
 }
 
@@ -104,6 +106,17 @@ fn memory_of(s: &[u8]) -> Word {
     }
     if check::same(s, b"buffer") {
         return Word::Session(Act::Buffer);
+    }
+    recording_of(s)
+}
+
+// A recording, of which one record is read, or which is played (01, Replay program).
+fn recording_of(s: &[u8]) -> Word {
+    if check::same(s, b"record") {
+        return Word::Record;
+    }
+    if check::same(s, b"replay") {
+        return Word::Replay;
     }
     Word::Other
 }

@@ -1,7 +1,7 @@
 use mathlib.Core.Path.{refl}
 use Rattle.lines.specs.Line.{lineIn}
-use Rattle.lines.proofs.line.none.Statement.{statement}
-use Rattle.lines.proofs.line.none.Tie as tie
+use Rattle.lines.proofs.text.none.Statement.{statement}
+use Rattle.lines.proofs.text.none.Tie as tie
 
 pub none-spec : {M : Type 1} → statement M
 unfolding lineIn

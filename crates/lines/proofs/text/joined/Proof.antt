@@ -3,8 +3,8 @@ use mathlib.Core.List.{List, [], _++_}
 use mathlib.Core.Path.{sym, ap, _∙_}
 use Rattle.basis.specs.Lists.{spell, spelled-all}
 use borrow.Author.Needs.{needs}
-use Rattle.lines.proofs.line.joined.Statement.{statement}
-use Rattle.lines.proofs.line.joined.Tie as tie
+use Rattle.lines.proofs.text.joined.Statement.{statement}
+use Rattle.lines.proofs.text.joined.Tie as tie
 
 pub joined-spec : {M : Type 1} → statement M
 unfolding spell

@@ -5,8 +5,8 @@ use lib.ListN.{length}
 use Rattle.lines.specs.Line.{tailOf, tailled}
 use Rattle.lines.proofs.Texts.{line-joined, tail-short}
 use borrow.Author.Needs.{needs}
-use Rattle.lines.proofs.line.line_of.Statement.{statement}
-use Rattle.lines.proofs.line.line_of.Tie as tie
+use Rattle.lines.proofs.text.line_of.Statement.{statement}
+use Rattle.lines.proofs.text.line_of.Tie as tie
 
 pub line-of-spec : {M : Type 1} → statement M
 unfolding tailled

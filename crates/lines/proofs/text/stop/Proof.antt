@@ -1,7 +1,7 @@
 use mathlib.Core.Path.{refl}
 use Rattle.lines.specs.Line.{lineIn}
-use Rattle.lines.proofs.line.stop.Statement.{statement}
-use Rattle.lines.proofs.line.stop.Tie as tie
+use Rattle.lines.proofs.text.stop.Statement.{statement}
+use Rattle.lines.proofs.text.stop.Tie as tie
 
 pub stop-spec : {M : Type 1} → statement M
 unfolding lineIn
