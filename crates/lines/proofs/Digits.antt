@@ -2,12 +2,11 @@
 use Prim.Native.Nat.{ℕ, zero, suc, _+_, _*_, _-_, _/_, _%_, _^_, _<_, _≤_}
 use mathlib.Core.Logic.{_⊎_, inl, inr}
 use mathlib.Core.List.{List, [], _∷_}
-use mathlib.Core.Path.{_≡_, refl, sym, _∙_, ap}
-use native.Mathlib.Nat.{div-one, div-div-eq-div-mul, div-eq-of-lt, pow-suc, pow-succ', mul-comm}
+use mathlib.Core.Path.{_≡_, sym, _∙_, ap}
+use native.Mathlib.Nat.{div-one, div-div-eq-div-mul, div-eq-of-lt, pow-suc}
 use native.Mathlib.Omega.{arith}
 use borrow.Author.Tests.{lt-ltb, le-ltb, ltb-true, ltb-false}
 use lib.Dec.{ltb}
-use lib.ListN.{length, getD}
 use Rattle.basis.specs.Pick.{pick-yes, pick-no, pick-all}
 use Rattle.lines.specs.Digits.{figure, digitOf, hexOf, decimalOf, digitIn, behind, numberIn}
 

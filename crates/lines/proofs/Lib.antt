@@ -1,2 +1,4 @@
+pub mod Bench
 pub mod Digits
 pub mod Texts
+pub mod Unique

@@ -1,4 +1,7 @@
-pub mod Zeros
+pub mod Bench
+pub mod Endings
 pub mod Mid
-pub mod Parts
-pub mod Laws
+pub mod PartAll
+pub mod PartLaws
+pub mod Unique
+pub mod Zeros

@@ -1,26 +1,24 @@
 -- In the middle of a part: what was played so far, and then the rest played from there, is the whole part played.
 use Prim.Native.Nat.{ℕ, _+_, _-_, _<_, _≤_}
-use mathlib.Core.Path.{_≡_, refl, sym, _∙_, ap, subst}
-use mathlib.Core.List.{List, [], _∷_, _++_, append-assoc, append-nil}
+use mathlib.Core.Path.{_≡_, refl, sym, _∙_, ap}
+use mathlib.Core.List.{List, [], _++_, append-assoc, append-nil}
 use native.Mathlib.Nat.{add-zero, zero-add, add-assoc, sub-zero}
 use native.Mathlib.Omega.{arith}
 use borrow.Author.Tests.{lt-ltb, le-ltb}
-use lib.ListN.{length, take, drop, length-append, take-append-drop}
+use lib.ListN.{length, take, drop, take-append-drop}
 use lib.Seq.{length-take-le, take-append-seam, drop-drop}
-use Rattle.basis.specs.Pick.{pick, pick-yes, pick-no}
+use Rattle.basis.specs.Pick.{pick-yes, pick-no}
 use Rattle.basis.specs.Left.{Left, left}
 use Rattle.lent.specs.Put.{pasted}
 use Rattle.lent.proofs.Laws.{pasted-there, pasted-behind, pasted-length}
-use Rattle.lines.specs.Line.{longest, textOf, lineIn}
-use Rattle.lines.specs.declared.text.Line.{Line}
+use Rattle.lines.specs.Line.{longest, lineIn}
 use Rattle.lines.proofs.Texts.{line-sized}
 use Rattle.recording.specs.Reading.{nextOf}
 use Rattle.recording.specs.Writing.{bytesOf}
-use Rattle.recording.specs.Apart.{Apart, apart, onward, apartOf}
-use Rattle.recording.proofs.Reading.{found-past}
-use Rattle.recording.proofs.Apart.{apart-at}
+use Rattle.recording.specs.Apart.{onward, apartOf}
+use Rattle.recording.proofs.Cases.{found-past}
+use Rattle.recording.proofs.TakenApart.{apart-at}
 use Rattle.recording.specs.declared.record.Record.{Record}
-use Rattle.recording.specs.declared.reader.Read.{Read}
 use Rattle.recording.specs.declared.reader.Read.the-variants.{Found, Ended}
 use Rattle.recording.specs.declared.reader.Ending.{Ending}
 use Rattle.mailbox_state.specs.Answer.{numberOf}

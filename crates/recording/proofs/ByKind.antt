@@ -1,21 +1,31 @@
 -- The kinds, one by one, in the paper's numbers (01, Replay program).
 use Prim.Native.Nat.{ℕ, _+_, _-_, _<_, _≤_}
-use mathlib.Core.Bool.{true, false}
-use mathlib.Core.Logic.{_⊎_, inl, inr, ⊎-elim}
-use mathlib.Core.Path.{_≡_, refl, sym, _∙_, ap}
+use mathlib.Core.Logic.{_⊎_, inl, inr}
+use mathlib.Core.Path.{_≡_}
 use mathlib.Core.List.{List}
 use native.Mathlib.Omega.{arith}
 use borrow.Author.Tests.{lt-ltb, le-ltb, le-leb, lt-leb, ne-eqb}
-use lib.Dec.{eqb, ltb, leb}
 use lib.ListN.{length}
 use Rattle.basis.specs.Pick.{pick}
 use Rattle.recording.specs.Reading.{byteAt, controlAt, changeAt, nextOf}
 use Rattle.recording.specs.declared.record.Record.the-variants.{Control, Success, Failure}
-use Rattle.recording.specs.declared.reader.Read.{Read}
 use Rattle.recording.specs.declared.reader.Read.the-variants.{Found, Ended}
 use Rattle.recording.specs.declared.reader.Ending.the-variants.{Whole, Cut, UnknownKind}
 
 module _ (s : List ℕ) (at : ℕ) where
+  -- With the kind there and one byte less than the record has, it is cut.
+  pub cut-1 : byteAt s at ≡ 1 → at < length s → length s < at + 9 → nextOf s at ≡ Ended Cut
+  unfolding nextOf pick
+  cut-1 k h c = rw (k, lt-leb (length s) at h, lt-ltb (length s - at) 9 (omega arith))
+
+  pub cut-2 : byteAt s at ≡ 2 → at < length s → length s < at + 4 → nextOf s at ≡ Ended Cut
+  unfolding nextOf pick
+  cut-2 k h c = rw (k, lt-leb (length s) at h, lt-ltb (length s - at) 4 (omega arith))
+
+  pub cut-3 : byteAt s at ≡ 3 → at < length s → length s < at + 2 → nextOf s at ≡ Ended Cut
+  unfolding nextOf pick
+  cut-3 k h c = rw (k, lt-leb (length s) at h, lt-ltb (length s - at) 2 (omega arith))
+
   -- Kind 1 has 8 bytes behind it, kind 2 three, kind 3 one, kind 4 none.
   pub kind-1 : byteAt s at ≡ 1 → at + 9 ≤ length s → nextOf s at ≡ Found (Control (controlAt s (at + 1))) (at + 9)
   unfolding nextOf pick
@@ -32,19 +42,6 @@ module _ (s : List ℕ) (at : ℕ) where
   pub kind-4 : byteAt s at ≡ 4 → at + 1 ≤ length s → nextOf s at ≡ Found Failure (at + 1)
   unfolding nextOf pick
   kind-4 k h = rw (k, lt-leb (length s) at (omega arith))
-
-  -- One byte less, and the record is cut.
-  pub cut-1 : byteAt s at ≡ 1 → at < length s → length s < at + 9 → nextOf s at ≡ Ended Cut
-  unfolding nextOf pick
-  cut-1 k h c = rw (k, lt-leb (length s) at h, lt-ltb (length s - at) 9 (omega arith))
-
-  pub cut-2 : byteAt s at ≡ 2 → at < length s → length s < at + 4 → nextOf s at ≡ Ended Cut
-  unfolding nextOf pick
-  cut-2 k h c = rw (k, lt-leb (length s) at h, lt-ltb (length s - at) 4 (omega arith))
-
-  pub cut-3 : byteAt s at ≡ 3 → at < length s → length s < at + 2 → nextOf s at ≡ Ended Cut
-  unfolding nextOf pick
-  cut-3 k h c = rw (k, lt-leb (length s) at h, lt-ltb (length s - at) 2 (omega arith))
 
   pub kind-unknown : at < length s → (byteAt s at ≡ 0) ⊎ (4 < byteAt s at) → nextOf s at ≡ Ended UnknownKind
   unfolding nextOf pick

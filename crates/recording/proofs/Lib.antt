@@ -1,7 +1,9 @@
-pub mod Sizes
-pub mod Wrote
-pub mod Reading
 pub mod ByKind
+pub mod Cases
 pub mod Moved
 pub mod RoundTrip
-pub mod Apart
+pub mod Sizes
+pub mod Spelled
+pub mod TakenApart
+pub mod Unique
+pub mod Wrote

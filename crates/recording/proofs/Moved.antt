@@ -1,5 +1,5 @@
 -- What stands before a place, and what stands behind a record, plays no part in what is read there.
-use Prim.Native.Nat.{ℕ, _+_, _-_, _<_, _≤_}
+use Prim.Native.Nat.{ℕ, _+_, _-_, _<_}
 use mathlib.Core.Bool.{Bool, true, false}
 use mathlib.Core.Path.{_≡_, refl, sym, _∙_, ap, subst}
 use mathlib.Core.List.{List, _++_}
@@ -7,11 +7,11 @@ use native.Mathlib.Nat.{add-assoc, add-zero, sub-zero}
 use native.Mathlib.Omega.{arith}
 use borrow.Author.Tests.{le-leb, lt-leb, leb-true, leb-false}
 use lib.Dec.{eqb, ltb, leb}
-use lib.ListN.{length, getD, drop, length-drop, length-append, List·getD-append}
+use lib.ListN.{length, drop, length-drop, length-append, List·getD-append}
 use lib.Seq.{getD-drop}
 use Rattle.basis.specs.Pick.{pick}
 use Rattle.recording.specs.Reading.{byteAt, controlAt, changeAt, nextOf}
-use Rattle.recording.proofs.Reading.{next-all}
+use Rattle.recording.proofs.Cases.{next-all}
 use Rattle.recording.proofs.ByKind.{kind-1, kind-2, kind-3, kind-4}
 use Rattle.recording.specs.declared.record.Record.{Record}
 use Rattle.recording.specs.declared.record.Record.the-variants.{Control, Success, Failure}

@@ -1,16 +1,16 @@
 -- What is written reads back, and what is read was written so (01, Replay program).
-use Prim.Native.Nat.{ℕ, _+_, _*_, _/_, _%_, _<_, _≤_}
+use Prim.Native.Nat.{ℕ, _+_, _/_, _%_, _<_}
 use mathlib.Core.Path.{_≡_, refl, sym, _∙_, ap, subst}
-use mathlib.Core.List.{List, [], _∷_, _++_}
+use mathlib.Core.List.{List, _++_}
 use native.Mathlib.Omega.{arith}
-use lib.ListN.{length, drop, length-append}
+use lib.ListN.{length, drop}
 use lib.Seq.{drop-append-seam, drop-drop, getD-drop}
 use Rattle.basis.specs.Lists.{spell, spelled}
 use Rattle.recording.specs.Reading.{byteAt, nextOf, pairOf}
 use Rattle.recording.specs.Writing.{bytesOf}
 use Rattle.recording.proofs.ByKind.{kind-1, kind-2, kind-3, kind-4}
 use Rattle.recording.proofs.Moved.{moved, next-drop}
-use Rattle.recording.proofs.Reading.{next-all}
+use Rattle.recording.proofs.Cases.{next-all}
 use Rattle.recording.specs.declared.record.Record.{Record}
 use Rattle.recording.specs.declared.record.Record.the-variants.{Control, Change, Success, Failure}
 use Rattle.recording.specs.declared.reader.Read.{Read}

@@ -1,5 +1,5 @@
 -- How many bytes a record has (01, Replay program).
-use Prim.Native.Nat.{ℕ, _≤_}
+use Prim.Native.Nat.{_≤_}
 use native.Mathlib.Omega.{arith}
 use lib.ListN.{length}
 use Rattle.recording.specs.Writing.{bytesOf, roomLeast}

@@ -14,7 +14,6 @@ use Rattle.lent.specs.declared.Placed.{Placed}
 use Rattle.recording.specs.Writing.{bytesOf, roomLeast, inNine, writeOf}
 use Rattle.recording.proofs.Sizes.{record-sized}
 use Rattle.recording.specs.declared.record.Record.{Record}
-use Rattle.recording.specs.declared.writer.Written.{Written}
 use Rattle.recording.specs.declared.writer.Written.the-variants.{Whole}
 use Rattle.recording.specs.declared.writer.Nine.{Nine}
 

@@ -4,8 +4,6 @@ mod say;
 mod tape;
 
 use tape::Tape;
-ghost use mathlib.Core.Path.{_≡_};
-ghost use lib.ListN.{length};
 
 // As much as is read at once.
 const ROOM: usize = 65536;

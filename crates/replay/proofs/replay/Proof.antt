@@ -4,10 +4,6 @@ use borrow.Author.Needs.{needs}
 use Prim.Native.Nat.{_≤_}
 use Rattle.replay.proofs.replay.Statement.{statement}
 use Rattle.replay.proofs.replay.Tie as tie
-use Rattle.replay.proofs.replay.Reads as reads
-use Rattle.replay.proofs.replay.Lts as lts
-use Rattle.replay.proofs.tape.Tape.begin.Reads as begin-reads
-use Rattle.replay.proofs.tape.Tape.turn.Reads as turn-reads
 
 abbrev Inv-loop : tie.InvT-loop
 Inv-loop buffer₀ out₀ tape₀ turns₀ buffer out tape turns = (tape .held ≤ length buffer) × (length buffer ≡ length buffer₀) × (length out ≡ length out₀)

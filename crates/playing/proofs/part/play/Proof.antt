@@ -1,19 +1,13 @@
-use Prim.Native.Nat.{_+_, _≤_}
 use borrow.Author.Needs.{needs}
 use Prim.Native.Nat.{_-_}
 use lib.ListN.{length}
 use native.Mathlib.Omega.{arith}
 use denote.Ref.{now}
-use mathlib.Core.Path.{_≡_, sym, _∙_}
+use mathlib.Core.Path.{sym, _∙_}
 use Rattle.playing.proofs.Mid.{Mid, mid-begins, mid-ends, mid-full, mid-turn, line-len, line-fits}
-use Rattle.recording.proofs.Reading.{found-past}
+use Rattle.recording.proofs.Cases.{found-past}
 use Rattle.playing.proofs.part.play.Statement.{statement}
 use Rattle.playing.proofs.part.play.Tie as tie
-use Rattle.playing.proofs.part.play.Reads as reads
-use Rattle.playing.proofs.part.play.Lts as lts
-use Rattle.playing.proofs.part.put.Reads as put-reads
-use Rattle.playing.proofs.turn.play_record.Reads as play-record-reads
-use Rattle.recording.proofs.next.Reads as next-reads
 
 abbrev Inv-loop : tie.InvT-loop
 Inv-loop part out₀ state₀ taken₀ written₀ out state taken written = Mid state₀ part out₀ state taken written out

@@ -1,12 +1,9 @@
 use denote.Ref.{now}
-use native.Mathlib.Omega.{arith}
 use Prim.Native.Nat.{_-_}
 use borrow.Author.Needs.{needs}
 use Rattle.replay.proofs.Front.{Front, front-begins, front-more, front-ends}
 use Rattle.replay.proofs.buffer.to_front.Statement.{statement}
 use Rattle.replay.proofs.buffer.to_front.Tie as tie
-use Rattle.replay.proofs.buffer.to_front.Reads as reads
-use Rattle.replay.proofs.buffer.to_front.Lts as lts
 
 abbrev Inv-loop : tie.InvT-loop
 Inv-loop buffer₀ from to i₀ buffer i = Front buffer₀ from to buffer i

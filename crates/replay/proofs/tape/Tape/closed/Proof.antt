@@ -1,4 +1,4 @@
-use Rattle.playing.proofs.Laws.{closing-fits}
+use Rattle.playing.proofs.Endings.{closing-fits}
 use borrow.Author.Needs.{needs}
 use Rattle.replay.proofs.tape.Tape.closed.Statement.{statement}
 use Rattle.replay.proofs.tape.Tape.closed.Tie as tie

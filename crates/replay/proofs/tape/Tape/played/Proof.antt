@@ -3,7 +3,7 @@ use lib.ListN.{length, take}
 use native.Mathlib.Omega.{arith}
 use denote.Ref.{now}
 use mathlib.Core.Path.{_≡_, sym}
-use Rattle.playing.proofs.Laws.{play-within}
+use Rattle.playing.proofs.PartLaws.{play-within}
 use borrow.Author.Needs.{needs}
 use Rattle.replay.proofs.tape.Tape.played.Statement.{statement}
 use Rattle.replay.proofs.tape.Tape.played.Tie as tie

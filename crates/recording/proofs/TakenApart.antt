@@ -5,18 +5,18 @@ use mathlib.Core.List.{List, [], _∷_, _++_, append-assoc, append-nil}
 use native.Mathlib.Nat.{le-refl}
 use native.Mathlib.Omega.{arith}
 use lib.ListN.{length, drop, length-drop}
-use lib.Seq.{drop-append-seam, drop-drop}
+use lib.Seq.{drop-append-seam, drop-drop, getD-drop}
 use Rattle.recording.specs.Reading.{nextOf}
 use Rattle.recording.specs.Writing.{bytesOf}
 use Rattle.recording.specs.Apart.{Apart, apart, onward, turns, apartOf, writtenOf}
 use Rattle.recording.proofs.ByKind.{nothing-there}
 use Rattle.recording.proofs.Moved.{moved, next-drop}
-use Rattle.recording.proofs.Reading.{Past, next-past}
+use Rattle.recording.proofs.Cases.{Past, next-past}
 use Rattle.recording.proofs.RoundTrip.{read-back, Bytes, Consumes, consumed}
 use Rattle.recording.specs.declared.record.Record.{Record}
 use Rattle.recording.specs.declared.reader.Read.{Read}
 use Rattle.recording.specs.declared.reader.Read.the-variants.{Found, Ended}
-use Rattle.recording.specs.declared.reader.Ending.{Ending}
+use Rattle.recording.specs.declared.reader.Ending.the-variants.{Whole}
 
 -- The same rest behind a record that is found.
 rest-same : (f g : List ℕ → Apart) (s : List ℕ) (x : Read) → Past s 0 x → ((t : List ℕ) → length t < length s → f t ≡ g t) → onward f s x ≡ onward g s x
@@ -54,3 +54,52 @@ apart-written (r ∷ rs) rest =
     ∙ apart-step (bytesOf r ++ (writtenOf rs ++ rest))
     ∙ ap (onward apartOf (bytesOf r ++ (writtenOf rs ++ rest))) (read-back r (writtenOf rs ++ rest))
     ∙ rw (drop-append-seam (bytesOf r) (writtenOf rs ++ rest), apart-written rs rest)
+
+pub written-apart : (rs : List Record) → apartOf (writtenOf rs) ≡ apart rs Whole
+unfolding apartOf turns
+written-apart rs = ap apartOf (sym (append-nil (writtenOf rs))) ∙ apart-written rs [] ∙ ap (λ (l : List Record). apart l Whole) (append-nil rs)
+
+-- No record stands at the start.
+abbrev pub Behind : List ℕ → Type 0
+Behind rest = apartOf rest .records ≡ []
+
+-- The whole recording is taken apart in one way: records and a rest that begins with none.
+pub one-way : (rs rs′ : List Record) (rest rest′ : List ℕ) → Behind rest → Behind rest′ → writtenOf rs ++ rest ≡ writtenOf rs′ ++ rest′ → (rs ≡ rs′) × (rest ≡ rest′)
+one-way rs rs′ rest rest′ b b′ e =
+    let same : rs ≡ rs′ =
+    sym (ap (λ (a : Apart). a .records) (apart-written rs rest) ∙ ap (λ (l : List Record). rs ++ l) b ∙ append-nil rs)
+    ∙ ap (λ (s : List ℕ). apartOf s .records) e
+    ∙ ap (λ (a : Apart). a .records) (apart-written rs′ rest′) ∙ ap (λ (l : List Record). rs′ ++ l) b′ ∙ append-nil rs′ in (
+      same,
+      sym (drop-append-seam (writtenOf rs) rest)
+          ∙ ap (λ (s : List ℕ). drop (length (writtenOf rs)) s) e
+          ∙ ap (λ (l : List Record). drop (length (writtenOf l)) (writtenOf rs′ ++ rest′)) same
+          ∙ drop-append-seam (writtenOf rs′) rest′,
+    )
+
+-- And what was taken apart is the recording: its records written again, and then the rest.
+pub record Rebuilt (s : List ℕ) (a : Apart) : Type 0 where
+  pub rest : List ℕ
+  pub whole : s ≡ writtenOf (a .records) ++ rest
+  pub ends : nextOf rest 0 ≡ Ended (a .ending)
+
+-- The first record has been read, and the rest is rebuilt.
+again : (bytes : ℕ) → ((t : List ℕ) → length t ≤ bytes → Bytes t → Rebuilt t (apartOf t))
+    → (s : List ℕ) → length s ≤ suc bytes → Bytes s → (x : Read) → nextOf s 0 ≡ x → Past s 0 x → Consumes s 0 x → Rebuilt s (onward apartOf s x)
+again bytes ih s h b (Ended ending) e past eats = record { rest = s; whole = refl; ends = e }
+again bytes ih s h b (Found r next) e past eats =
+    let t = ih (drop next s) (simp length-drop (omega (arith, past))) (λ i. rw (getD-drop next s i 0) (b (next + i))) in
+    record {
+      rest = t .rest;
+      whole = eats ∙ ap (λ (l : List ℕ). bytesOf r ++ l) (t .whole) ∙ sym (append-assoc (bytesOf r) (writtenOf (apartOf (drop next s) .records)) (t .rest));
+      ends = t .ends;
+    }
+
+rebuild : (bytes : ℕ) (s : List ℕ) → length s ≤ bytes → Bytes s → Rebuilt s (apartOf s)
+rebuild zero s h b =
+    let e = nothing-there s 0 h in
+    subst (Rebuilt s) (sym (apart-step s ∙ ap (onward apartOf s) e)) (record { rest = s; whole = refl; ends = e })
+rebuild (suc bytes) s h b = subst (Rebuilt s) (sym (apart-step s)) (again bytes (rebuild bytes) s h b (nextOf s 0) refl (next-past s 0) (consumed s 0 b))
+
+pub rebuilt : (s : List ℕ) → Bytes s → Rebuilt s (apartOf s)
+rebuilt s b = rebuild (length s) s (le-refl (length s)) b

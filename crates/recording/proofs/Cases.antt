@@ -1,15 +1,12 @@
 -- What is read at a place: how far it reaches, and that nothing else plays a part in it (01, Replay program).
 use Prim.Native.Nat.{ℕ, _+_, _-_, _<_, _≤_}
-use mathlib.Core.Bool.{Bool, true, false}
 use mathlib.Core.Path.{_≡_, refl, subst}
-use mathlib.Core.List.{List, _++_}
-use native.Mathlib.Nat.{add-assoc}
+use mathlib.Core.List.{List}
 use native.Mathlib.Omega.{arith}
-use borrow.Author.Tests.{lt-ltb, le-ltb, le-leb, lt-leb, ltb-false, leb-true, leb-false, eqb-true}
+use borrow.Author.Tests.{ltb-false, leb-true, leb-false, eqb-true}
 use lib.Dec.{eqb, ltb, leb}
-use lib.ListN.{length, getD, drop, length-drop, length-append, List·getD-append}
-use lib.Seq.{getD-drop}
-use Rattle.basis.specs.Pick.{pick, pick-all, pick-no, tests}
+use lib.ListN.{length}
+use Rattle.basis.specs.Pick.{pick-all}
 use Rattle.recording.specs.Reading.{byteAt, controlAt, changeAt, whole, nextOf}
 use Rattle.recording.specs.Writing.{bytesOf}
 use Rattle.recording.specs.declared.record.Record.{Record}

@@ -1,31 +1,28 @@
 -- A part of a recording: how far it comes, why it stops, and that playing on from there joins up to the whole (01, Replay program).
 use Prim.Native.Nat.{ℕ, _+_, _*_, _-_, _<_, _≤_}
 use mathlib.Core.Path.{_≡_, refl, sym, _∙_, ap, subst}
-use mathlib.Core.List.{List, [], _∷_, _++_, append-assoc}
+use mathlib.Core.List.{List, _++_, append-assoc}
 use native.Mathlib.Omega.{arith}
-use lib.ListN.{length, take, drop, length-drop, length-append}
-use lib.Seq.{drop-drop, drop-append-le, take-append-seam}
+use lib.ListN.{length, drop, length-drop, length-append}
+use lib.Seq.{drop-drop, drop-append-le}
 use Rattle.basis.specs.Left.{Left, left}
-use Rattle.lines.specs.Line.{longest, stopText, lineIn}
+use Rattle.lines.specs.Line.{longest}
 use Rattle.lines.proofs.Texts.{line-sized}
 use Rattle.recording.specs.Reading.{nextOf}
 use Rattle.recording.specs.Writing.{bytesOf}
-use Rattle.recording.specs.Apart.{Apart, apart, onward, apartOf}
-use Rattle.recording.proofs.Reading.{Past, next-past, found-past}
-use Rattle.recording.proofs.Apart.{apart-step}
+use Rattle.recording.specs.Apart.{onward, apartOf}
+use Rattle.recording.proofs.Cases.{found-past}
+use Rattle.recording.proofs.TakenApart.{apart-step}
 use Rattle.recording.proofs.Moved.{found-stays}
 use Rattle.recording.specs.declared.record.Record.{Record}
-use Rattle.recording.specs.declared.reader.Read.{Read}
 use Rattle.recording.specs.declared.reader.Read.the-variants.{Found, Ended}
-use Rattle.recording.specs.declared.reader.Ending.{Ending}
-use Rattle.recording.specs.declared.reader.Ending.the-variants.{Whole, Cut, UnknownKind}
 use Rattle.mailbox_state.specs.Answer.{numberOf}
 use Rattle.mailbox.specs.Mailbox.{cciOf}
 use Rattle.mailbox.specs.declared.state.Mailbox.{Mailbox}
 use Rattle.playing.specs.Turn.{outcomeOf, printed}
-use Rattle.playing.specs.Replay.{linesOf, closingText, shownOf, replayOf}
-use Rattle.playing.specs.Part.{Plays, plays, after, partOf, leadsOf, playOf, closingOf}
-use Rattle.playing.proofs.Parts.{part-all}
+use Rattle.playing.specs.Replay.{linesOf, shownOf, replayOf}
+use Rattle.playing.specs.Part.{partOf, leadsOf, playOf}
+use Rattle.playing.proofs.PartAll.{part-all}
 use Rattle.playing.specs.declared.part.Played.{Played}
 use Rattle.playing.specs.declared.part.Stop.{Stop}
 use Rattle.playing.specs.declared.part.Stop.the-variants as Stop
@@ -120,16 +117,3 @@ part-stops =
     let place : drop (rest .taken) (drop next part) ≡ drop (length (bytesOf r) + rest .taken) part = drop-drop (rest .taken) next part ∙ ap (λ (k : ℕ). drop (k + rest .taken) part) size in
     subst (λ (k : ℕ). Because (rest .state) k (drop (length (bytesOf r) + rest .taken) part) (rest .stop)) left
     (subst (λ (s : List ℕ). Because (rest .state) (room - length (printed (outcomeOf m r)) - length (rest .text)) s (rest .stop)) place ih))
-
--- What is behind the last record played gives no line, or the line `stop` and nothing after it.
-pub replay-ended : (m : Mailbox) (s : List ℕ) (ending : Ending) → nextOf s 0 ≡ Ended ending → replayOf m s ≡ closingText ending
-unfolding shownOf
-replay-ended m s ending e = ap (shownOf m) (apart-step s ∙ ap (onward apartOf s) e)
-
--- The line that ends a recording fits into its array.
-pub closing-fits : (stop : Stop) → closingOf stop .len ≤ longest
-unfolding closingOf lineIn
-closing-fits (Stop.Ended Whole) = omega arith
-closing-fits (Stop.Ended Cut) = omega arith
-closing-fits (Stop.Ended UnknownKind) = omega arith
-closing-fits Stop.Full = omega arith

@@ -2,7 +2,7 @@
 -- holds of the rest, holds of every part.
 use Prim.Native.Nat.{ℕ, zero, suc, _-_, _<_, _≤_}
 use mathlib.Core.Path.{_≡_, refl, sym, _∙_, ap, subst}
-use mathlib.Core.List.{List, [], _∷_}
+use mathlib.Core.List.{List, []}
 use native.Mathlib.Nat.{le-refl}
 use native.Mathlib.Omega.{arith}
 use borrow.Author.Tests.{ltb-true, ltb-false}
@@ -11,9 +11,9 @@ use lib.ListN.{length, drop, length-drop}
 use Rattle.basis.specs.Pick.{pick-all}
 use Rattle.recording.specs.Reading.{nextOf}
 use Rattle.recording.specs.Writing.{bytesOf}
-use Rattle.recording.specs.Apart.{Apart, apart, onward, apartOf}
-use Rattle.recording.proofs.Reading.{Past, next-past}
-use Rattle.recording.proofs.Apart.{apart-step}
+use Rattle.recording.specs.Apart.{Apart, onward, apartOf}
+use Rattle.recording.proofs.Cases.{Past, next-past}
+use Rattle.recording.proofs.TakenApart.{apart-step}
 use Rattle.recording.proofs.ByKind.{nothing-there}
 use Rattle.recording.specs.declared.record.Record.{Record}
 use Rattle.recording.specs.declared.reader.Read.{Read}

@@ -1,0 +1,44 @@
+-- Document 01's whole case from its bytes to its lines, by computation (01, Replay program).
+use Prim.Native.Nat.{ℕ}
+use mathlib.Core.List.{List, [], _∷_, _++_}
+use mathlib.Core.Path.{_≡_, refl}
+use Rattle.basis.specs.Pick.{pick}
+use Rattle.commands.specs.Control.{fieldsOf, controlOf}
+use Rattle.commands.specs.Table.{entryOf}
+use Rattle.lines.specs.Digits.{digitOf, decimalOf}
+use Rattle.lines.specs.Line.{tailOf, textOf}
+use Rattle.recording.specs.Reading.{nextOf}
+use Rattle.recording.specs.Apart.{turns, apartOf}
+use Rattle.mailbox_state.specs.Stand.{offOf}
+use Rattle.mailbox_state.specs.Told.{runsOf, dueOf}
+use Rattle.mailbox_rules.specs.Cci as cci
+use Rattle.mailbox_rules.specs.Change.{meetsOf, heardOf, presentOf}
+use Rattle.mailbox_rules.specs.Change as change
+use Rattle.mailbox_rules.specs.Changes as changes
+use Rattle.mailbox_rules.specs.Refusal.{judgedOf}
+use Rattle.mailbox_rules.specs.Report.{succeedOf}
+use Rattle.mailbox_rules.specs.Write.{thereOf, begins, takenOf, heededOf}
+use Rattle.mailbox.specs.Mailbox.{freshOf}
+use Rattle.mailbox.specs.Events.{readOf, reportedOf}
+use Rattle.playing.specs.Turn.{eventIn, outcomeOf, printed}
+use Rattle.playing.specs.Replay.{shownOf, printedOf}
+
+-- The whole case's bytes.
+abbrev bytes : List ℕ
+bytes =
+    0x01 ∷ 0x05 ∷ 0x00 ∷ 0xFF ∷ 0xFF ∷ 0x00 ∷ 0x00 ∷ 0x00 ∷ 0x00
+    ∷ 0x01 ∷ 0x04 ∷ 0x00 ∷ 0x02 ∷ 0x00 ∷ 0x00 ∷ 0x00 ∷ 0x00 ∷ 0x00
+    ∷ 0x02 ∷ 0x02 ∷ 0x02 ∷ 0x00
+    ∷ 0x01 ∷ 0x12 ∷ 0x00 ∷ 0x02 ∷ 0x00 ∷ 0x00 ∷ 0x00 ∷ 0x00 ∷ 0x00
+    ∷ 0x03 ∷ 0x09
+    ∷ 0x01 ∷ 0x04 ∷ 0x00 ∷ 0x03 ∷ 0x00 ∷ 0x00 ∷ 0x00 ∷ 0x00 ∷ 0x00 ∷ []
+
+pub whole-case : printedOf bytes
+    ≡ textOf 0x80000000 0 ++ textOf 0x20000000 0 ++ textOf 0x20000004 0 ++ textOf 0x10000000 0 ++ textOf 0x80000904 0 ++ textOf 0x20000000 0
+unfolding shownOf apartOf turns nextOf eventIn outcomeOf printed digitOf decimalOf tailOf freshOf readOf reportedOf controlOf fieldsOf entryOf heededOf judgedOf takenOf begins thereOf pick offOf runsOf dueOf cci.cciOf succeedOf change.changeOf presentOf heardOf meetsOf changes.notedOf changes.nextOf changes.lowestFrom changes.markedOf
+whole-case = refl
+
+-- Connector 2 is there, and connector 3 is not (9).
+pub two-connectors : (printedOf (0x02 ∷ 0x02 ∷ 0x02 ∷ 0x00 ∷ []) ≡ textOf 0 0) × (printedOf (0x02 ∷ 0x03 ∷ 0x02 ∷ 0x00 ∷ []) ≡ textOf 0 9)
+unfolding shownOf apartOf turns nextOf eventIn outcomeOf printed digitOf decimalOf tailOf freshOf readOf reportedOf controlOf fieldsOf entryOf heededOf judgedOf takenOf begins thereOf pick offOf runsOf dueOf cci.cciOf succeedOf change.changeOf presentOf heardOf meetsOf changes.notedOf changes.nextOf changes.lowestFrom changes.markedOf
+two-connectors = (refl, refl)
