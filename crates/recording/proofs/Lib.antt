@@ -1,3 +1,4 @@
+pub mod Bench
 pub mod ByKind
 pub mod Cases
 pub mod Moved
