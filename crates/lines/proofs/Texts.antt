@@ -5,7 +5,7 @@ use mathlib.Core.Path.{_≡_, refl}
 use native.Mathlib.Omega.{arith}
 use lib.Dec.{ltb}
 use lib.ListN.{length, getD, take, drop, length-append}
-use lib.Seq.{take-at, getD-at}
+use lib.Seq.{take-at, take-append-seam, getD-at}
 use borrow.Author.Tests.{ltb-false}
 use Rattle.basis.specs.Pick.{pick-all}
 use Rattle.lines.specs.Digits.{figure, hexOf, decimalOf}
@@ -29,6 +29,11 @@ line-joined cci n =
     let e : longest - length (hexOf 8 cci ++ tailOf n) ≡ 5 - length (tailOf n) = omega arith in
     let f : 8 + length (tailOf n) ≡ length (textOf cci n) = omega arith in
     rw (e, f)
+
+-- A line's array begins with its text, and its length is the text's.
+pub line-holds : (text : List ℕ) → (lineIn text .len ≡ length text) × (take (lineIn text .len) (lineIn text .bytes) ≡ text)
+unfolding lineIn
+line-holds text = (refl, take-append-seam text _)
 
 -- What is read in a line is what it was made of.
 pub record Says (cci number : ℕ) (text : List ℕ) : Type 0 where

@@ -16,7 +16,7 @@ use Rattle.mailbox_rules.specs.Change.{meetsOf, heardOf, presentOf}
 use Rattle.mailbox_rules.specs.Change as change
 use Rattle.mailbox_rules.specs.Changes as changes
 use Rattle.mailbox_rules.specs.Refusal.{judgedOf}
-use Rattle.mailbox_rules.specs.Report.{succeedOf}
+use Rattle.mailbox_rules.specs.Report.{succeedOf, failOf}
 use Rattle.mailbox_rules.specs.Write.{thereOf, begins, takenOf, heededOf}
 use Rattle.mailbox.specs.Mailbox.{freshOf}
 use Rattle.mailbox.specs.Events.{readOf, reportedOf}
@@ -42,3 +42,15 @@ whole-case = refl
 pub two-connectors : (printedOf (0x02 ∷ 0x02 ∷ 0x02 ∷ 0x00 ∷ []) ≡ textOf 0 0) × (printedOf (0x02 ∷ 0x03 ∷ 0x02 ∷ 0x00 ∷ []) ≡ textOf 0 9)
 unfolding shownOf apartOf turns nextOf eventIn outcomeOf printed digitOf decimalOf tailOf freshOf readOf reportedOf controlOf fieldsOf entryOf heededOf judgedOf takenOf begins thereOf pick offOf runsOf dueOf cci.cciOf succeedOf change.changeOf presentOf heardOf meetsOf changes.notedOf changes.nextOf changes.lowestFrom changes.markedOf
 two-connectors = (refl, refl)
+
+-- SET_NOTIFICATION_ENABLE, ACK_CC_CI and GET_CAPABILITY, which runs.
+abbrev running : List ℕ
+running =
+    0x01 ∷ 0x05 ∷ 0x00 ∷ 0xFF ∷ 0xFF ∷ 0x00 ∷ 0x00 ∷ 0x00 ∷ 0x00
+    ∷ 0x01 ∷ 0x04 ∷ 0x00 ∷ 0x02 ∷ 0x00 ∷ 0x00 ∷ 0x00 ∷ 0x00 ∷ 0x00
+    ∷ 0x01 ∷ 0x06 ∷ 0x00 ∷ 0x00 ∷ 0x00 ∷ 0x00 ∷ 0x00 ∷ 0x00 ∷ 0x00 ∷ []
+
+-- A port failure shows bits 30 and 31.
+pub failure-line : printedOf (running ++ 0x04 ∷ []) ≡ textOf 0x80000000 0 ++ textOf 0x20000000 0 ++ textOf 0x10000000 0 ++ textOf 0xC0000000 0
+unfolding shownOf apartOf turns nextOf eventIn outcomeOf printed digitOf decimalOf tailOf freshOf readOf reportedOf controlOf fieldsOf entryOf heededOf judgedOf takenOf begins thereOf pick offOf runsOf dueOf cci.cciOf succeedOf change.changeOf presentOf heardOf meetsOf changes.notedOf changes.nextOf changes.lowestFrom changes.markedOf failOf
+failure-line = refl

@@ -18,13 +18,16 @@ use Rattle.playing.specs.Part.{closingOf}
 use Rattle.playing.specs.declared.part.Stop.{Stop}
 use Rattle.playing.specs.declared.part.Stop.the-variants as Stop
 
+-- A part that waits for room is not ended, and has no closing line.
 pub record Closing : Type 0 where
   pub whole : closingText Whole ≡ []
   pub cut : closingText Cut ≡ stopText
   pub unknown : closingText UnknownKind ≡ stopText
+  pub full : closingOf Stop.Full ≡ lineIn []
 
 pub closing-rows : Closing
-closing-rows = record { whole = refl; cut = refl; unknown = refl }
+unfolding closingOf
+closing-rows = record { whole = refl; cut = refl; unknown = refl; full = refl }
 
 -- Where no record is found, the closing line is all that is printed.
 pub replay-ended : (m : Mailbox) (s : List ℕ) (ending : Ending) → nextOf s 0 ≡ Ended ending → replayOf m s ≡ closingText ending

@@ -1,5 +1,6 @@
 pub mod Bench
 pub mod Endings
+pub mod Lines
 pub mod Mid
 pub mod PartAll
 pub mod PartLaws

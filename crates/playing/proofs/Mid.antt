@@ -6,13 +6,13 @@ use native.Mathlib.Nat.{add-zero, zero-add, add-assoc, sub-zero}
 use native.Mathlib.Omega.{arith}
 use borrow.Author.Tests.{lt-ltb, le-ltb}
 use lib.ListN.{length, take, drop, take-append-drop}
-use lib.Seq.{length-take-le, take-append-seam, drop-drop}
+use lib.Seq.{length-take-le, drop-drop}
 use Rattle.basis.specs.Pick.{pick-yes, pick-no}
 use Rattle.basis.specs.Left.{Left, left}
 use Rattle.lent.specs.Put.{pasted}
 use Rattle.lent.proofs.Laws.{pasted-there, pasted-behind, pasted-length}
 use Rattle.lines.specs.Line.{longest, lineIn}
-use Rattle.lines.proofs.Texts.{line-sized}
+use Rattle.lines.proofs.Texts.{line-holds}
 use Rattle.recording.specs.Reading.{nextOf}
 use Rattle.recording.specs.Writing.{bytesOf}
 use Rattle.recording.specs.Apart.{onward, apartOf}
@@ -21,11 +21,10 @@ use Rattle.recording.proofs.TakenApart.{apart-at}
 use Rattle.recording.specs.declared.record.Record.{Record}
 use Rattle.recording.specs.declared.reader.Read.the-variants.{Found, Ended}
 use Rattle.recording.specs.declared.reader.Ending.{Ending}
-use Rattle.mailbox_state.specs.Answer.{numberOf}
-use Rattle.mailbox.specs.Mailbox.{cciOf}
 use Rattle.mailbox.specs.declared.state.Mailbox.{Mailbox}
 use Rattle.playing.specs.Turn.{outcomeOf, printed, turnOf}
 use Rattle.playing.specs.Part.{Plays, plays, after, playsOf, partOf, leadsOf, playOf}
+use Rattle.playing.proofs.Lines.{printed-sized}
 use Rattle.playing.specs.declared.part.Stop.{Stop}
 use Rattle.playing.specs.declared.part.Stop.the-variants as Stop
 use Rattle.playing.specs.declared.part.Played.{Played}
@@ -48,17 +47,18 @@ mid-begins mailbox part before =
 
 -- The line that a record prints, as the code has it.
 module _ (state : Mailbox) (r : Record) (turn : Turn) (e : turn ≡ turnOf state r) where
+  line-is : turn .line ≡ lineIn (printed (outcomeOf state r))
+  unfolding turnOf
+  line-is = ap (λ (t : Turn). t .line) e
+
   pub line-len : turn .line .len ≡ length (printed (outcomeOf state r))
-  unfolding turnOf lineIn
-  line-len = ap (λ (t : Turn). t .line .len) e
+  line-len = rw line-is (line-holds (printed (outcomeOf state r)) .0)
 
   pub line-fits : turn .line .len ≤ longest
-  unfolding printed
-  line-fits = rw line-len (line-sized (cciOf (outcomeOf state r .state)) (numberOf (outcomeOf state r .answer)) .1)
+  line-fits = rw line-len (printed-sized state r .1)
 
   pub line-bytes : take (turn .line .len) (turn .line .bytes) ≡ printed (outcomeOf state r)
-  unfolding turnOf lineIn
-  line-bytes = rw (line-len, ap (λ (t : Turn). t .line .bytes) e) (take-append-seam (printed (outcomeOf state r)) _)
+  line-bytes = rw line-is (line-holds (printed (outcomeOf state r)) .1)
 
   pub turn-state : turn .state ≡ outcomeOf state r .state
   unfolding turnOf

@@ -3,11 +3,10 @@ use Prim.Native.Nat.{ℕ, _+_, _*_, _-_, _<_, _≤_}
 use mathlib.Core.Path.{_≡_, refl, sym, _∙_, ap, subst}
 use mathlib.Core.List.{List, _++_, append-assoc}
 use native.Mathlib.Omega.{arith}
-use lib.ListN.{length, drop, length-drop, length-append}
-use lib.Seq.{drop-drop, drop-append-le}
+use lib.ListN.{length, take, drop, length-drop, length-append}
+use lib.Seq.{drop-drop, drop-append-le, take-append-seam, drop-append-seam}
 use Rattle.basis.specs.Left.{Left, left}
 use Rattle.lines.specs.Line.{longest}
-use Rattle.lines.proofs.Texts.{line-sized}
 use Rattle.recording.specs.Reading.{nextOf}
 use Rattle.recording.specs.Writing.{bytesOf}
 use Rattle.recording.specs.Apart.{onward, apartOf}
@@ -16,21 +15,15 @@ use Rattle.recording.proofs.TakenApart.{apart-step}
 use Rattle.recording.proofs.Moved.{found-stays}
 use Rattle.recording.specs.declared.record.Record.{Record}
 use Rattle.recording.specs.declared.reader.Read.the-variants.{Found, Ended}
-use Rattle.mailbox_state.specs.Answer.{numberOf}
-use Rattle.mailbox.specs.Mailbox.{cciOf}
 use Rattle.mailbox.specs.declared.state.Mailbox.{Mailbox}
 use Rattle.playing.specs.Turn.{outcomeOf, printed}
 use Rattle.playing.specs.Replay.{linesOf, shownOf, replayOf}
 use Rattle.playing.specs.Part.{partOf, leadsOf, playOf}
+use Rattle.playing.proofs.Lines.{printed-sized}
 use Rattle.playing.proofs.PartAll.{part-all}
 use Rattle.playing.specs.declared.part.Played.{Played}
 use Rattle.playing.specs.declared.part.Stop.{Stop}
 use Rattle.playing.specs.declared.part.Stop.the-variants as Stop
-
--- A printed line has 11 to 13 bytes.
-pub printed-sized : (m : Mailbox) (r : Record) → (11 ≤ length (printed (outcomeOf m r))) × (length (printed (outcomeOf m r)) ≤ longest)
-unfolding printed
-printed-sized m r = line-sized (cciOf (outcomeOf m r .state)) (numberOf (outcomeOf m r .answer))
 
 -- No more is taken than there is, and no more is written than there is room.
 pub part-within : (m : Mailbox) (room : ℕ) (part : List ℕ) → (partOf m room (apartOf part) .taken ≤ length part) × (length (partOf m room (apartOf part) .text) ≤ room)
@@ -48,6 +41,16 @@ unfolding leadsOf
 play-within m part out r now e =
     let w = part-within m (length out) part in
     (rw (ap (λ (x : Left Played). x .answer .taken) e) (w .0), rw (ap (λ (x : Left Played). x .answer .written) e) (w .1))
+
+-- The lines lead the output, and the rest of it is kept.
+pub play-writes : (m : Mailbox) (part out : List ℕ) (r : Played) (now : List ℕ) → left r now ≡ playOf m part out
+    → (take (r .written) now ≡ partOf m (length out) (apartOf part) .text) × (drop (r .written) now ≡ drop (r .written) out)
+unfolding leadsOf
+play-writes m part out r now e =
+    let text = partOf m (length out) (apartOf part) .text in
+    let n : r .written ≡ length text = ap (λ (x : Left Played). x .answer .written) e in
+    let led : now ≡ text ++ drop (length text) out = ap (λ (x : Left Played). x .memory) e in
+    (rw (n, led) (take-append-seam text (drop (length text) out)), rw (n, led) (drop-append-seam text (drop (length text) out)))
 
 -- No record waits for room.
 abbrev pub Played-all : Stop → Type 0

@@ -2,7 +2,6 @@
 use crate::turn::play_record;
 use lines::Line;
 use mailbox::Mailbox;
-use mailbox_state::connectors::Connectors;
 use recording::Ending;
 use recording::Read;
 ghost use mathlib.Core.Path.{_≡_};
@@ -10,19 +9,8 @@ ghost use Prim.Native.Nat.{_+_, _≤_};
 ghost use lib.ListN.{length, take};
 ghost use Rattle.basis.specs.Left.{left};
 ghost use Rattle.lent.specs.Put.{pasted};
-ghost use Rattle.lines.specs.Line.{longest, lineIn};
-ghost use Rattle.playing.specs.Replay.{begun, closingText};
-ghost use Rattle.playing.specs.Part.{playOf, closingOf};
-
-// Two connectors (01, Replay program).
-const CONNECTORS: u8 = 2;
-
-// The mailbox on which a recording is played from its start.
-pub fn begin() -> Mailbox
-    ensures { λ r. ⌜ r ≡ begun ⌝ }
-{
-    Mailbox::fresh(Connectors { count: CONNECTORS })
-}
+ghost use Rattle.lines.specs.Line.{longest};
+ghost use Rattle.playing.specs.Part.{playOf};
 
 // Why no further record was played: none is found at the place, or its line does not fit into the output.
 pub enum Stop {
@@ -83,24 +71,4 @@ fn put(out: &mut [u8], at: usize, line: Line)
     let bytes = line.bytes;
     let len = line.len;
     lent::put(out, at, &bytes[..len]);
-}
-
-// The line that ends a recording which ends here: nothing behind a whole one.
-pub fn closing(stop: Stop) -> Line
-    ensures { λ r. ⌜ r ≡ closingOf stop ⌝ }
-{
-    match stop {
-        Stop::Ended(ending) => last(ending),
-        Stop::Full => lines::none(),
-    }
-}
-
-fn last(ending: Ending) -> Line
-    ensures { λ r. ⌜ r ≡ lineIn (closingText ending) ⌝ }
-{
-    match ending {
-        Ending::Whole => lines::none(),
-        Ending::Cut => lines::stop(),
-        Ending::UnknownKind => lines::stop(),
-    }
 }

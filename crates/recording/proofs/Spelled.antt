@@ -21,6 +21,9 @@ write-short r out h = pick-yes _ _ _ (lt-ltb (length out) 9 h)
 pub short-27 : numberOf TooShort ≡ 27
 short-27 = refl
 
+pub whole-0 : (n : ℕ) → numberOf (Whole n) ≡ 0
+whole-0 n = refl
+
 -- From 9 bytes on it is written, and what is behind its own bytes is kept.
 pub write-whole : (r : Record) (out : List ℕ) → 9 ≤ length out → writeOf r out ≡ left (Whole (length (bytesOf r))) (bytesOf r ++ drop (length (bytesOf r)) out)
 unfolding writeOf

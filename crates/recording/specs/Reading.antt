@@ -38,12 +38,22 @@ changeAt s i = Change (byteAt s i) (pairOf (byteAt s (i + 1)) (byteAt s (i + 2))
 abbrev pub whole : List ℕ → ℕ → ℕ → Record → Read
 whole s at size r = pick (ltb (length s - at) size) (Ended Cut) (Found r (at + size))
 
--- Kind 1: CONTROL, 8 bytes. 2: connector, reason, 1 + 2 bytes. 3: port success, 1 byte. 4: port failure, 0 bytes.
+-- Kind 1: CONTROL, 8 bytes. 2: connector, reason, 1 + 2 bytes. 3: port success, 1 byte.
+abbrev pub controlFrom : List ℕ → ℕ → Read
+controlFrom s at = whole s at 9 (Control (controlAt s (at + 1)))
+
+abbrev pub changeFrom : List ℕ → ℕ → Read
+changeFrom s at = whole s at 4 (changeAt s (at + 1))
+
+abbrev pub successFrom : List ℕ → ℕ → Read
+successFrom s at = whole s at 2 (Success (byteAt s (at + 1)))
+
+-- 4: port failure, 0 bytes.
 unfoldable pub nextOf : List ℕ → ℕ → Read
 nextOf s at =
     pick (leb (length s) at) (Ended Whole)
-    (pick (eqb (byteAt s at) 1) (whole s at 9 (Control (controlAt s (at + 1))))
-    (pick (eqb (byteAt s at) 2) (whole s at 4 (changeAt s (at + 1)))
-    (pick (eqb (byteAt s at) 3) (whole s at 2 (Success (byteAt s (at + 1))))
+    (pick (eqb (byteAt s at) 1) (controlFrom s at)
+    (pick (eqb (byteAt s at) 2) (changeFrom s at)
+    (pick (eqb (byteAt s at) 3) (successFrom s at)
     (pick (eqb (byteAt s at) 4) (Found Failure (at + 1))
     (Ended UnknownKind)))))

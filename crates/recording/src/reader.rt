@@ -3,9 +3,9 @@ use crate::kinds;
 use crate::record::ControlBytes;
 use crate::record::Record;
 ghost use mathlib.Core.Path.{_≡_};
-ghost use Prim.Native.Nat.{_+_, _≤_};
+ghost use Prim.Native.Nat.{_+_, _<_, _≤_};
 ghost use lib.ListN.{length};
-ghost use Rattle.recording.specs.Reading.{nextOf, controlAt, changeAt, pairOf};
+ghost use Rattle.recording.specs.Reading.{nextOf, controlFrom, changeFrom, successFrom, controlAt, changeAt, pairOf};
 
 pub enum Read {
     // The record after it stands at `next`.
@@ -28,36 +28,15 @@ pub fn next(recording: &[u8], at: usize) -> Read
     if recording.len() <= at {
         return Read::Ended(Ending::Whole);
     }
-    let left = recording.len() - at;
     let kind = recording[at];
     if kind == kinds::CONTROL {
-        if left < kinds::CONTROL_SIZE {
-            return Read::Ended(Ending::Cut);
-        }
-        return Read::Found {
-            record: Record::Control(control_at(recording, at + 1)),
-            next: at + kinds::CONTROL_SIZE,
-        };
+        return control(recording, at);
     }
     if kind == kinds::CHANGE {
-        if left < kinds::CHANGE_SIZE {
-            return Read::Ended(Ending::Cut);
-        }
-        return Read::Found {
-            record: change_at(recording, at + 1),
-            next: at + kinds::CHANGE_SIZE,
-        };
+        return change(recording, at);
     }
     if kind == kinds::SUCCESS {
-        if left < kinds::SUCCESS_SIZE {
-            return Read::Ended(Ending::Cut);
-        }
-        return Read::Found {
-            record: Record::Success {
-                length: recording[at + 1],
-            },
-            next: at + kinds::SUCCESS_SIZE,
-        };
+        return success(recording, at);
     }
     if kind == kinds::FAILURE {
         return Read::Found {
@@ -66,6 +45,47 @@ pub fn next(recording: &[u8], at: usize) -> Read
         };
     }
     Read::Ended(Ending::UnknownKind)
+}
+
+fn control(recording: &[u8], at: usize) -> Read
+    requires { ⌜ at < length (now recording) ⌝ }
+    ensures { λ r. ⌜ r ≡ controlFrom (now (recording .entry)) at ⌝ }
+{
+    if recording.len() - at < kinds::CONTROL_SIZE {
+        return Read::Ended(Ending::Cut);
+    }
+    Read::Found {
+        record: Record::Control(control_at(recording, at + 1)),
+        next: at + kinds::CONTROL_SIZE,
+    }
+}
+
+fn change(recording: &[u8], at: usize) -> Read
+    requires { ⌜ at < length (now recording) ⌝ }
+    ensures { λ r. ⌜ r ≡ changeFrom (now (recording .entry)) at ⌝ }
+{
+    if recording.len() - at < kinds::CHANGE_SIZE {
+        return Read::Ended(Ending::Cut);
+    }
+    Read::Found {
+        record: change_at(recording, at + 1),
+        next: at + kinds::CHANGE_SIZE,
+    }
+}
+
+fn success(recording: &[u8], at: usize) -> Read
+    requires { ⌜ at < length (now recording) ⌝ }
+    ensures { λ r. ⌜ r ≡ successFrom (now (recording .entry)) at ⌝ }
+{
+    if recording.len() - at < kinds::SUCCESS_SIZE {
+        return Read::Ended(Ending::Cut);
+    }
+    Read::Found {
+        record: Record::Success {
+            length: recording[at + 1],
+        },
+        next: at + kinds::SUCCESS_SIZE,
+    }
 }
 
 fn change_at(recording: &[u8], at: usize) -> Record

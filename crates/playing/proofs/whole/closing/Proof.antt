@@ -1,7 +1,7 @@
 use Rattle.playing.specs.Part.{closingOf}
 use borrow.Author.Needs.{needs}
-use Rattle.playing.proofs.part.closing.Statement.{statement}
-use Rattle.playing.proofs.part.closing.Tie as tie
+use Rattle.playing.proofs.whole.closing.Statement.{statement}
+use Rattle.playing.proofs.whole.closing.Tie as tie
 
 pub closing-spec : {M : Type 1} → statement M
 unfolding closingOf

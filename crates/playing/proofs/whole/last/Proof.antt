@@ -1,6 +1,6 @@
 use borrow.Author.Needs.{needs}
-use Rattle.playing.proofs.part.last.Statement.{statement}
-use Rattle.playing.proofs.part.last.Tie as tie
+use Rattle.playing.proofs.whole.last.Statement.{statement}
+use Rattle.playing.proofs.whole.last.Tie as tie
 
 pub last-spec : {M : Type 1} → statement M
 last-spec =

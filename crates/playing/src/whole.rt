@@ -1,0 +1,39 @@
+// How a whole recording begins, and the line that it ends with.
+use crate::part::Stop;
+use lines::Line;
+use mailbox::Mailbox;
+use mailbox_state::connectors::Connectors;
+use recording::Ending;
+ghost use mathlib.Core.Path.{_≡_};
+ghost use Rattle.lines.specs.Line.{lineIn};
+ghost use Rattle.playing.specs.Replay.{begun, closingText};
+ghost use Rattle.playing.specs.Part.{closingOf};
+
+// Two connectors (01, Replay program).
+const CONNECTORS: u8 = 2;
+
+pub fn begin() -> Mailbox
+    ensures { λ r. ⌜ r ≡ begun ⌝ }
+{
+    Mailbox::fresh(Connectors { count: CONNECTORS })
+}
+
+// The line that ends a recording which ends here: nothing behind a whole one.
+pub fn closing(stop: Stop) -> Line
+    ensures { λ r. ⌜ r ≡ closingOf stop ⌝ }
+{
+    match stop {
+        Stop::Ended(ending) => last(ending),
+        Stop::Full => lines::none(),
+    }
+}
+
+fn last(ending: Ending) -> Line
+    ensures { λ r. ⌜ r ≡ lineIn (closingText ending) ⌝ }
+{
+    match ending {
+        Ending::Whole => lines::none(),
+        Ending::Cut => lines::stop(),
+        Ending::UnknownKind => lines::stop(),
+    }
+}
