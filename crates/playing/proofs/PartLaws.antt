@@ -10,11 +10,12 @@ use Rattle.lines.specs.Line.{longest}
 use Rattle.recording.specs.Reading.{nextOf}
 use Rattle.recording.specs.Writing.{bytesOf}
 use Rattle.recording.specs.Apart.{onward, apartOf}
-use Rattle.recording.proofs.Cases.{found-past}
+use Rattle.recording.proofs.Cases.{found-past, Short, next-short}
 use Rattle.recording.proofs.TakenApart.{apart-step}
 use Rattle.recording.proofs.Moved.{found-stays}
 use Rattle.recording.specs.declared.record.Record.{Record}
 use Rattle.recording.specs.declared.reader.Read.the-variants.{Found, Ended}
+use Rattle.recording.specs.declared.reader.Ending.the-variants.{Whole, Cut, UnknownKind}
 use Rattle.mailbox.specs.declared.state.Mailbox.{Mailbox}
 use Rattle.playing.specs.Turn.{outcomeOf, printed}
 use Rattle.playing.specs.Replay.{linesOf, shownOf, replayOf}
@@ -120,3 +121,21 @@ part-stops =
     let place : drop (rest .taken) (drop next part) ≡ drop (length (bytesOf r) + rest .taken) part = drop-drop (rest .taken) next part ∙ ap (λ (k : ℕ). drop (k + rest .taken) part) size in
     subst (λ (k : ℕ). Because (rest .state) k (drop (length (bytesOf r) + rest .taken) part) (rest .stop)) left
     (subst (λ (s : List ℕ). Because (rest .state) (room - length (printed (outcomeOf m r)) - length (rest .text)) s (rest .stop)) place ih))
+
+-- Behind the last record played, nothing or the begun part of one record.
+abbrev pub Leaves : ℕ → Stop → Type 0
+Leaves bytes (Stop.Ended Whole) = bytes ≤ 0
+Leaves bytes (Stop.Ended Cut) = bytes ≤ 8
+Leaves bytes (Stop.Ended UnknownKind) = Unit
+Leaves bytes Stop.Full = Unit
+
+leaving : (m : Mailbox) (room : ℕ) (part : List ℕ) (taken : ℕ) (stop : Stop) → Because m room (drop taken part) stop → Leaves (length part - taken) stop
+leaving m room part taken (Stop.Ended Whole) e = let l = length-drop taken part in let h = subst (Short (drop taken part) 0) e (next-short (drop taken part) 0) in omega arith
+leaving m room part taken (Stop.Ended Cut) e = let l = length-drop taken part in let h = subst (Short (drop taken part) 0) e (next-short (drop taken part) 0) in omega arith
+leaving m room part taken (Stop.Ended UnknownKind) e = tt
+leaving m room part taken Stop.Full e = tt
+
+pub part-leaves : (m : Mailbox) (room : ℕ) (part : List ℕ) → Leaves (length part - partOf m room (apartOf part) .taken) (partOf m room (apartOf part) .stop)
+part-leaves m room part =
+    let q = partOf m room (apartOf part) in
+    leaving (q .state) (room - length (q .text)) part (q .taken) (q .stop) (part-stops m room part)

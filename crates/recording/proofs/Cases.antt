@@ -3,7 +3,7 @@ use Prim.Native.Nat.{ℕ, _+_, _-_, _<_, _≤_}
 use mathlib.Core.Path.{_≡_, refl, subst}
 use mathlib.Core.List.{List}
 use native.Mathlib.Omega.{arith}
-use borrow.Author.Tests.{ltb-false, leb-true, leb-false, eqb-true}
+use borrow.Author.Tests.{ltb-true, ltb-false, leb-true, leb-false, eqb-true}
 use lib.Dec.{eqb, ltb, leb}
 use lib.ListN.{length}
 use Rattle.basis.specs.Pick.{pick-all}
@@ -18,7 +18,7 @@ use Rattle.recording.specs.declared.reader.Ending.the-variants.{Whole, C
 -- What holds at the end, at a known kind whose bytes are there, at one that is cut and at an unknown kind holds of what is read.
 pub next-all : (P : Read → Type 0) (s : List ℕ) (at : ℕ)
     → (length s ≤ at → P (Ended Whole))
-    → (at < length s → P (Ended Cut))
+    → (at < length s → length s < at + 9 → P (Ended Cut))
     → (at < length s → P (Ended UnknownKind))
     → (byteAt s at ≡ 1 → at + 9 ≤ length s → P (Found (Control (controlAt s (at + 1))) (at + 9)))
     → (byteAt s at ≡ 2 → at + 4 ≤ length s → P (Found (changeAt s (at + 1)) (at + 4)))
@@ -30,17 +30,17 @@ next-all P s at end cut unknown control change success failure =
     pick-all P (leb (length s) at) _ _ (λ t. end (leb-true (length s) at t))
     (λ t. let h = leb-false (length s) at t in
     pick-all P (eqb (byteAt s at) 1) _ _
-    (λ k. sized 9 (Control (controlAt s (at + 1))) (control (eqb-true (byteAt s at) 1 k)) h)
+    (λ k. sized 9 (Control (controlAt s (at + 1))) (omega arith) (control (eqb-true (byteAt s at) 1 k)) h)
     (λ _. pick-all P (eqb (byteAt s at) 2) _ _
-    (λ k. sized 4 (changeAt s (at + 1)) (change (eqb-true (byteAt s at) 2 k)) h)
+    (λ k. sized 4 (changeAt s (at + 1)) (omega arith) (change (eqb-true (byteAt s at) 2 k)) h)
     (λ _. pick-all P (eqb (byteAt s at) 3) _ _
-    (λ k. sized 2 (Success (byteAt s (at + 1))) (success (eqb-true (byteAt s at) 3 k)) h)
+    (λ k. sized 2 (Success (byteAt s (at + 1))) (omega arith) (success (eqb-true (byteAt s at) 3 k)) h)
     (λ _. pick-all P (eqb (byteAt s at) 4) _ _
     (λ k. failure (eqb-true (byteAt s at) 4 k) (omega arith))
     (λ _. unknown h)))))
   where
-    sized : (size : ℕ) (r : Record) → (at + size ≤ length s → P (Found r (at + size))) → at < length s → P (whole s at size r)
-    sized size r found h = pick-all P (ltb (length s - at) size) _ _ (λ _. cut h)
+    sized : (size : ℕ) (r : Record) → size ≤ 9 → (at + size ≤ length s → P (Found r (at + size))) → at < length s → P (whole s at size r)
+    sized size r most found h = pick-all P (ltb (length s - at) size) _ _ (λ u. let k = ltb-true (length s - at) size u in cut h (omega arith))
         (λ u. let k = ltb-false (length s - at) size u in found (omega arith))
 
 -- A record that is found is one byte long at least, ends within the recording, and the place behind it is past its own bytes.
@@ -51,8 +51,20 @@ Past s at (Ended e) = Unit
 pub next-past : (s : List ℕ) (at : ℕ) → Past s at (nextOf s at)
 unfolding bytesOf
 next-past s at =
-    next-all (Past s at) s at (λ _. tt) (λ _. tt) (λ _. tt)
+    next-all (Past s at) s at (λ _. tt) (λ _ _. tt) (λ _. tt)
     (λ _ h. (refl, omega arith, h)) (λ _ h. (refl, omega arith, h)) (λ _ h. (refl, omega arith, h)) (λ _ h. (refl, omega arith, h))
 
 pub found-past : (s : List ℕ) (at : ℕ) (r : Record) (next : ℕ) → nextOf s at ≡ Found r next → Past s at (Found r next)
 found-past s at r next e = subst (Past s at) e (next-past s at)
+
+-- What is left of a recording that is whole is nothing, and of a cut record at most 8 bytes: the longest has 9.
+abbrev pub Short : List ℕ → ℕ → Read → Type 0
+Short s at (Found r next) = Unit
+Short s at (Ended Whole) = length s - at ≤ 0
+Short s at (Ended Cut) = length s - at ≤ 8
+Short s at (Ended UnknownKind) = Unit
+
+pub next-short : (s : List ℕ) (at : ℕ) → Short s at (nextOf s at)
+next-short s at =
+    next-all (Short s at) s at (λ h. omega arith) (λ h k. omega arith) (λ _. tt)
+    (λ _ _. tt) (λ _ _. tt) (λ _ _. tt) (λ _ _. tt)

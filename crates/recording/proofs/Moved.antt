@@ -87,7 +87,7 @@ module _ (s t : List ℕ) (at : ℕ) where
 
   next-stays : Stays (nextOf s at)
   unfolding Stays
-  next-stays = next-all Stays s at (λ _. tt) (λ _. tt) (λ _. tt)
+  next-stays = next-all Stays s at (λ _. tt) (λ _ _. tt) (λ _. tt)
       (λ k h. kind-1 (s ++ t) at (same at (omega arith) ∙ k) (simp length-append (omega arith))
       ∙ rw (
         same (at + 1) (omega arith),

@@ -4,11 +4,15 @@ mod say;
 mod tape;
 
 use tape::Tape;
+ghost use Prim.Native.Nat.{_*_, _<_, _≤_};
+ghost use lib.ListN.{length};
+ghost use Rattle.lines.specs.Line.{longest};
+ghost use Rattle.replay.specs.Tape.{heldMost};
 
 // As much as is read at once.
 const ROOM: usize = 65536;
 
-// Room for the line of every record in the buffer, also where each has one byte: 13 bytes to a line (playing's `never-full`).
+// Room for the longest line to every byte of the buffer, so that no record waits for room, also where each has one byte.
 const LINES: usize = 851968;
 
 fn main() {
@@ -23,7 +27,10 @@ fn over(buffer: &mut [u8; ROOM], out: &mut [u8; LINES]) {
 }
 
 // A proved loop has to end, and nothing says that a recording does: the turns are counted down from a number that no run uses up.
-fn replay(buffer: &mut [u8], out: &mut [u8]) {
+fn replay(buffer: &mut [u8], out: &mut [u8])
+    requires { ⌜ heldMost < length (now buffer) ⌝ }
+    requires { ⌜ longest * length (now buffer) ≤ length (now out) ⌝ }
+{
     let mut tape = Tape::begin();
     let mut turns = u64::MAX;
     while turns > 0 {

@@ -5,8 +5,12 @@ use libc::STDIN_FILENO;
 use mailbox::Mailbox;
 use playing::Stop;
 use recording::Ending;
-ghost use Prim.Native.Nat.{_≤_};
-ghost use lib.ListN.{length};
+ghost use mathlib.Core.Bool.{true, false};
+ghost use mathlib.Core.Path.{_≡_};
+ghost use Prim.Native.Nat.{_*_, _<_, _≤_};
+ghost use lib.ListN.{length, take};
+ghost use Rattle.lines.specs.Line.{longest};
+ghost use Rattle.replay.specs.Tape.{heldMost, Carried, unknownKind, unknownOf};
 
 // The first `held` bytes of the buffer are not played yet, and `stop` says why.
 pub(crate) struct Tape {
@@ -18,7 +22,7 @@ pub(crate) struct Tape {
 
 impl Tape {
     pub(crate) fn begin() -> Tape
-        ensures { λ r. ⌜ r .held ≤ 0 ⌝ }
+        ensures { λ r. ⌜ r .held ≤ heldMost ⌝ }
     {
         let state = playing::begin();
         Tape {
@@ -29,10 +33,12 @@ impl Tape {
         }
     }
 
-    // One read. Where nothing has come the recording is at its end.
+    // One read. There is room for a byte at least, so that where nothing has come the recording is at its end.
     pub(crate) fn turn(self, buffer: &mut [u8], out: &mut [u8]) -> Tape
-        requires { ⌜ self .held ≤ length (now buffer) ⌝ }
-        ensures { λ r. ⌜ r .held ≤ length (now (buffer .exit)) ⌝ }
+        requires { ⌜ self .held ≤ heldMost ⌝ }
+        requires { ⌜ heldMost < length (now buffer) ⌝ }
+        requires { ⌜ longest * length (now buffer) ≤ length (now out) ⌝ }
+        ensures { λ r. ⌜ r .held ≤ heldMost ⌝ }
     {
         let held = self.held;
         let got = libc::read(STDIN_FILENO, &mut buffer[held..]);
@@ -50,7 +56,9 @@ impl Tape {
     // The first `filled` bytes are played and their lines written at once. An unknown kind ends the replay, whatever follows it.
     fn played(self, buffer: &mut [u8], filled: usize, out: &mut [u8]) -> Tape
         requires { ⌜ filled ≤ length (now buffer) ⌝ }
-        ensures { λ r. ⌜ r .held ≤ length (now (buffer .exit)) ⌝ }
+        requires { ⌜ longest * length (now buffer) ≤ length (now out) ⌝ }
+        ensures { λ r. ⌜ r .held ≤ heldMost ⌝ }
+        ensures { λ r. ⌜ (r .runs ≡ true → Carried (self .state) (take filled (now (buffer .entry))) (length (now (out .entry))) r (now (buffer .exit))) ⌝ }
     {
         let state = self.state;
         let played = playing::play(state, &buffer[..filled], out);
@@ -76,7 +84,8 @@ impl Tape {
 
     // The last line, if there is one, and no further turn.
     fn closed(self) -> Tape
-        ensures { λ r. ⌜ r .held ≤ 0 ⌝ }
+        ensures { λ r. ⌜ r .held ≤ heldMost ⌝ }
+        ensures { λ r. ⌜ r .runs ≡ false ⌝ }
     {
         let stop = self.stop;
         say::line(playing::closing(stop));
@@ -84,7 +93,8 @@ impl Tape {
     }
 
     fn ended(mut self) -> Tape
-        ensures { λ r. ⌜ r .held ≤ 0 ⌝ }
+        ensures { λ r. ⌜ r .held ≤ heldMost ⌝ }
+        ensures { λ r. ⌜ r .runs ≡ false ⌝ }
     {
         self.held = 0;
         self.runs = false;
@@ -92,14 +102,18 @@ impl Tape {
     }
 }
 
-fn is_unknown(stop: Stop) -> bool {
+fn is_unknown(stop: Stop) -> bool
+    ensures { λ r. ⌜ r ≡ unknownOf stop ⌝ }
+{
     match stop {
         Stop::Ended(ending) => is_unknown_kind(ending),
         Stop::Full => false,
     }
 }
 
-fn is_unknown_kind(ending: Ending) -> bool {
+fn is_unknown_kind(ending: Ending) -> bool
+    ensures { λ r. ⌜ r ≡ unknownKind ending ⌝ }
+{
     match ending {
         Ending::Whole => false,
         Ending::Cut => false,

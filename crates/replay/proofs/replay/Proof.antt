@@ -1,3 +1,4 @@
+use Rattle.replay.specs.Tape.{heldMost}
 use lib.ListN.{length}
 use mathlib.Core.Path.{_≡_}
 use borrow.Author.Needs.{needs}
@@ -6,7 +7,7 @@ use Rattle.replay.proofs.replay.Statement.{statement}
 use Rattle.replay.proofs.replay.Tie as tie
 
 abbrev Inv-loop : tie.InvT-loop
-Inv-loop buffer₀ out₀ tape₀ turns₀ buffer out tape turns = (tape .held ≤ length buffer) × (length buffer ≡ length buffer₀) × (length out ≡ length out₀)
+Inv-loop buffer₀ out₀ tape₀ turns₀ buffer out tape turns = (tape .held ≤ heldMost) × (length buffer ≡ length buffer₀) × (length out ≡ length out₀)
 
 abbrev μ-loop : tie.MeasureT-loop
 μ-loop buffer₀ out₀ tape₀ turns₀ buffer out tape turns = turns
