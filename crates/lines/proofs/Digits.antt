@@ -53,3 +53,17 @@ decimal-read n h = pick-all (λ (t : List ℕ). numberIn 10 t ≡ n) (ltb n 10) 
     (λ _. pick-all (λ (t : List ℕ). numberIn 10 t ≡ n) (ltb n 100) _ _
     (λ t. let k = ltb-true n 100 t in rw (figure-read (n / 10) (omega arith), figure-read (n % 10) (omega arith)) (omega arith))
     (λ t. rw (figure-read (n / 100) (omega arith), figure-read (n / 10 % 10) (omega arith), figure-read (n % 10) (omega arith)) (omega arith)))
+
+-- Decimal digits are the characters 0 to 9 alone.
+abbrev pub Figures : List ℕ → Type 0
+Figures [] = Unit
+Figures (c ∷ cs) = ((0x30 ≤ c) × (c ≤ 0x39)) × Figures cs
+
+pub decimal-figures : (n : ℕ) → n < 1000 → Figures (decimalOf n)
+unfolding decimalOf
+decimal-figures n h =
+    pick-all Figures (ltb n 10) _ _
+    (λ t. let k = ltb-true n 10 t in ((omega arith, omega arith), tt))
+    (λ _. pick-all Figures (ltb n 100) _ _
+    (λ t. let k = ltb-true n 100 t in ((omega arith, omega arith), ((omega arith, omega arith), tt)))
+    (λ _. ((omega arith, omega arith), ((omega arith, omega arith), ((omega arith, omega arith), tt)))))

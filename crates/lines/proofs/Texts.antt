@@ -9,7 +9,7 @@ use lib.Seq.{take-at, take-append-seam, getD-at}
 use borrow.Author.Tests.{ltb-false}
 use Rattle.basis.specs.Pick.{pick-all}
 use Rattle.lines.specs.Digits.{figure, hexOf, decimalOf}
-use Rattle.lines.specs.Line.{space, newline, longest, tailOf, tailled, textOf, lineIn, lineOf, cciIn, answerIn}
+use Rattle.lines.specs.Line.{space, newline, longest, tailOf, tailIn, textOf, lineIn, lineOf, cciIn, answerIn}
 use Rattle.lines.proofs.Digits.{hex-read, decimal-read}
 use Rattle.lines.specs.declared.text.Line.{Line}
 
@@ -22,8 +22,8 @@ pub tail-short : (n : ℕ) → length (tailOf n) ≤ 5
 unfolding tailOf
 tail-short n = let s = decimal-short n in simp length-append (omega (arith, s))
 
-pub line-joined : (cci n : ℕ) → _≡_ {A = Line} (record { bytes = hexOf 8 cci ++ tailled (tailOf n) .bytes; len = 8 + tailled (tailOf n) .len }) (lineOf cci n)
-unfolding lineIn tailled
+pub line-joined : (cci n : ℕ) → _≡_ {A = Line} (record { bytes = hexOf 8 cci ++ tailIn (tailOf n) .bytes; len = 8 + tailIn (tailOf n) .len }) (lineOf cci n)
+unfolding lineIn tailIn
 line-joined cci n =
     let s = tail-short n in
     let e : longest - length (hexOf 8 cci ++ tailOf n) ≡ 5 - length (tailOf n) = omega arith in

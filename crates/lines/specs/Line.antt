@@ -27,8 +27,8 @@ stopText = 0x73 ∷ 0x74 ∷ 0x6F ∷ 0x70 ∷ newline ∷ []
 abbrev pub padded : ℕ → List ℕ → List ℕ
 padded room text = text ++ replicate (room - length text) 0
 
-unfoldable pub tailled : List ℕ → Tail
-tailled text = record { bytes = padded 5 text; len = length text }
+unfoldable pub tailIn : List ℕ → Tail
+tailIn text = record { bytes = padded 5 text; len = length text }
 
 abbrev pub longest : ℕ
 longest = 13

@@ -1,6 +1,6 @@
 // What stands behind CCI: a space, the answer's number in decimal without a zero in front, a newline (01, Replay program).
 ghost use mathlib.Core.Path.{_≡_};
-ghost use Rattle.lines.specs.Line.{tailOf, tailled};
+ghost use Rattle.lines.specs.Line.{tailOf, tailIn};
 
 pub(crate) struct Tail {
     pub bytes: [u8; 5],
@@ -8,7 +8,7 @@ pub(crate) struct Tail {
 }
 
 pub(crate) fn tail_of(number: u8) -> Tail
-    ensures { λ r. ⌜ r ≡ tailled (tailOf number) ⌝ }
+    ensures { λ r. ⌜ r ≡ tailIn (tailOf number) ⌝ }
 {
     if number < 10 {
         return Tail {

@@ -1,4 +1,4 @@
--- Document 01's whole case from its bytes to its lines, by computation (01, Replay program).
+-- Recordings from their bytes to their lines, by computation (01, Replay program).
 use Prim.Native.Nat.{ℕ}
 use mathlib.Core.List.{List, [], _∷_, _++_}
 use mathlib.Core.Path.{_≡_, refl}
@@ -33,16 +33,6 @@ bytes =
     ∷ 0x03 ∷ 0x09
     ∷ 0x01 ∷ 0x04 ∷ 0x00 ∷ 0x03 ∷ 0x00 ∷ 0x00 ∷ 0x00 ∷ 0x00 ∷ 0x00 ∷ []
 
-pub whole-case : printedOf bytes
-    ≡ textOf 0x80000000 0 ++ textOf 0x20000000 0 ++ textOf 0x20000004 0 ++ textOf 0x10000000 0 ++ textOf 0x80000904 0 ++ textOf 0x20000000 0
-unfolding shownOf apartOf turns nextOf eventIn outcomeOf printed digitOf decimalOf tailOf freshOf readOf reportedOf controlOf fieldsOf entryOf heededOf judgedOf takenOf begins thereOf pick offOf runsOf dueOf cci.cciOf succeedOf change.changeOf presentOf heardOf meetsOf changes.notedOf changes.nextOf changes.lowestFrom changes.markedOf
-whole-case = refl
-
--- Connector 2 is there, and connector 3 is not (9).
-pub two-connectors : (printedOf (0x02 ∷ 0x02 ∷ 0x02 ∷ 0x00 ∷ []) ≡ textOf 0 0) × (printedOf (0x02 ∷ 0x03 ∷ 0x02 ∷ 0x00 ∷ []) ≡ textOf 0 9)
-unfolding shownOf apartOf turns nextOf eventIn outcomeOf printed digitOf decimalOf tailOf freshOf readOf reportedOf controlOf fieldsOf entryOf heededOf judgedOf takenOf begins thereOf pick offOf runsOf dueOf cci.cciOf succeedOf change.changeOf presentOf heardOf meetsOf changes.notedOf changes.nextOf changes.lowestFrom changes.markedOf
-two-connectors = (refl, refl)
-
 -- SET_NOTIFICATION_ENABLE, ACK_CC_CI and GET_CAPABILITY, which runs.
 abbrev running : List ℕ
 running =
@@ -50,7 +40,14 @@ running =
     ∷ 0x01 ∷ 0x04 ∷ 0x00 ∷ 0x02 ∷ 0x00 ∷ 0x00 ∷ 0x00 ∷ 0x00 ∷ 0x00
     ∷ 0x01 ∷ 0x06 ∷ 0x00 ∷ 0x00 ∷ 0x00 ∷ 0x00 ∷ 0x00 ∷ 0x00 ∷ 0x00 ∷ []
 
--- A port failure shows bits 30 and 31.
-pub failure-line : printedOf (running ++ 0x04 ∷ []) ≡ textOf 0x80000000 0 ++ textOf 0x20000000 0 ++ textOf 0x10000000 0 ++ textOf 0xC0000000 0
+-- The whole case; a port failure, which shows bits 30 and 31; a change on connector 2, which is there, and on 3, which is not (9).
+pub record Cases : Type 0 where
+  pub whole-case : printedOf bytes
+      ≡ textOf 0x80000000 0 ++ textOf 0x20000000 0 ++ textOf 0x20000004 0 ++ textOf 0x10000000 0 ++ textOf 0x80000904 0 ++ textOf 0x20000000 0
+  pub failure : printedOf (running ++ 0x04 ∷ []) ≡ textOf 0x80000000 0 ++ textOf 0x20000000 0 ++ textOf 0x10000000 0 ++ textOf 0xC0000000 0
+  pub second : printedOf (0x02 ∷ 0x02 ∷ 0x02 ∷ 0x00 ∷ []) ≡ textOf 0 0
+  pub third : printedOf (0x02 ∷ 0x03 ∷ 0x02 ∷ 0x00 ∷ []) ≡ textOf 0 9
+
+pub cases : Cases
 unfolding shownOf apartOf turns nextOf eventIn outcomeOf printed digitOf decimalOf tailOf freshOf readOf reportedOf controlOf fieldsOf entryOf heededOf judgedOf takenOf begins thereOf pick offOf runsOf dueOf cci.cciOf succeedOf change.changeOf presentOf heardOf meetsOf changes.notedOf changes.nextOf changes.lowestFrom changes.markedOf failOf
-failure-line = refl
+cases = record { whole-case = refl; failure = refl; second = refl; third = refl }

@@ -1,24 +1,48 @@
 -- The line that a record prints, and what kind 3 leaves in MESSAGE_IN (01, Replay program).
-use Prim.Native.Nat.{ℕ, _+_, _-_, _≤_}
+use Prim.Native.Nat.{ℕ, _+_, _-_, _^_, _<_, _≤_}
 use mathlib.Core.Bool.{true}
 use mathlib.Core.Path.{_≡_, _∙_, ap}
 use native.Mathlib.Omega.{arith}
-use lib.ListN.{length, replicate, length-replicate, replicate-append-replicate}
-use Rattle.lines.specs.Line.{longest}
-use Rattle.lines.proofs.Texts.{line-sized}
+use lib.ListN.{length, take, replicate, length-replicate, replicate-append-replicate}
+use Rattle.lines.specs.Line.{longest, textOf}
+use Rattle.lines.proofs.Texts.{line-holds, line-sized, Says, line-says}
 use Rattle.recording.specs.declared.record.Record.{Record}
 use Rattle.recording.specs.declared.record.Record.the-variants.{Success}
 use Rattle.mailbox_state.specs.Answer.{numberOf}
 use Rattle.mailbox.specs.declared.state.Mailbox.{Mailbox}
 use Rattle.mailbox_state.specs.Told.{runsOf}
+use Rattle.mailbox_state.specs.declared.answer.Answer.{Answer}
+use Rattle.mailbox_state.specs.declared.answer.Answer.the-variants.{Taken, ControlLength, NotificationsOff, CommandRuns, AcknowledgementDue, NothingToClear, NothingToCancel, NothingRuns, DataTooLong, NoSuchConnector}
 use Rattle.mailbox.specs.Mailbox.{cciOf, messageOf}
 use Rattle.mailbox.proofs.Message.{success-fills}
-use Rattle.playing.specs.Turn.{eventIn, outcomeOf, printed}
+use Rattle.playing.specs.Turn.{eventIn, outcomeOf, printed, turnOf}
 
 -- 11 to 13 bytes.
 pub printed-sized : (m : Mailbox) (r : Record) → (11 ≤ length (printed (outcomeOf m r))) × (length (printed (outcomeOf m r)) ≤ longest)
 unfolding printed
 printed-sized m r = line-sized (cciOf (outcomeOf m r .state)) (numberOf (outcomeOf m r .answer))
+
+-- The line that a turn hands out is that of its own mailbox and answer.
+pub turn-line : (m : Mailbox) (r : Record) → take (turnOf m r .line .len) (turnOf m r .line .bytes) ≡ textOf (cciOf (turnOf m r .state)) (numberOf (turnOf m r .answer))
+unfolding turnOf printed
+turn-line m r = line-holds (textOf (cciOf (outcomeOf m r .state)) (numberOf (outcomeOf m r .answer))) .1
+
+number-small : (a : Answer) → numberOf a < 256
+number-small Taken = omega arith
+number-small ControlLength = omega arith
+number-small NotificationsOff = omega arith
+number-small CommandRuns = omega arith
+number-small AcknowledgementDue = omega arith
+number-small NothingToClear = omega arith
+number-small NothingToCancel = omega arith
+number-small NothingRuns = omega arith
+number-small DataTooLong = omega arith
+number-small NoSuchConnector = omega arith
+
+-- So what is read in it is CCI and the answer's number; every u32 is below 2^32.
+pub turn-says : (m : Mailbox) (r : Record) → cciOf (turnOf m r .state) < 2 ^ 32
+    → Says (cciOf (turnOf m r .state)) (numberOf (turnOf m r .answer)) (take (turnOf m r .line .len) (turnOf m r .line .bytes))
+turn-says m r h = rw (turn-line m r) (line-says _ _ h (number-small (turnOf m r .answer)))
 
 -- That many zero bytes: all 256 are zero.
 pub success-zeros : (m : Mailbox) (n : ℕ) → runsOf (m .stand .told) ≡ true → n ≤ 255 → messageOf (outcomeOf m (Success n) .state) ≡ replicate 256 0

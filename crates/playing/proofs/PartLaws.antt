@@ -54,14 +54,14 @@ play-writes m part out r now e =
     (rw (n, led) (take-append-seam text (drop (length text) out)), rw (n, led) (drop-append-seam text (drop (length text) out)))
 
 -- No record waits for room.
-abbrev pub Played-all : Stop → Type 0
-Played-all (Stop.Ended ending) = Unit
-Played-all Stop.Full = ⊥
+abbrev pub NotFull : Stop → Type 0
+NotFull (Stop.Ended ending) = Unit
+NotFull Stop.Full = ⊥
 
 -- Where there is room for the longest line to every byte of the part, none does: a record has one byte at least.
-pub never-full : (m : Mailbox) (room : ℕ) (part : List ℕ) → longest * length part ≤ room → Played-all (partOf m room (apartOf part) .stop)
+pub never-full : (m : Mailbox) (room : ℕ) (part : List ℕ) → longest * length part ≤ room → NotFull (partOf m room (apartOf part) .stop)
 never-full =
-    part-all (λ m room part q. longest * length part ≤ room → Played-all (q .stop))
+    part-all (λ m room part q. longest * length part ≤ room → NotFull (q .stop))
     (λ m room part ending e h. tt)
     (λ m room part r next e h k.
     let past = found-past part 0 r next e in
@@ -139,3 +139,25 @@ pub part-leaves : (m : Mailbox) (room : ℕ) (part : List ℕ) → Leaves (lengt
 part-leaves m room part =
     let q = partOf m room (apartOf part) in
     leaving (q .state) (room - length (q .text)) part (q .taken) (q .stop) (part-stops m room part)
+
+-- The same of what `play` hands out.
+module _ (m : Mailbox) (part out : List ℕ) (r : Played) (now : List ℕ) (e : left r now ≡ playOf m part out) where
+  pub play-state : r .state ≡ partOf m (length out) (apartOf part) .state
+  unfolding leadsOf
+  play-state = ap (λ (x : Left Played). x .answer .state) e
+
+  pub play-taken : r .taken ≡ partOf m (length out) (apartOf part) .taken
+  unfolding leadsOf
+  play-taken = ap (λ (x : Left Played). x .answer .taken) e
+
+  pub play-stop : r .stop ≡ partOf m (length out) (apartOf part) .stop
+  unfolding leadsOf
+  play-stop = ap (λ (x : Left Played). x .answer .stop) e
+
+  -- Playing on from where it stopped joins up to the whole, whatever follows.
+  pub play-joins : (more : List ℕ) → replayOf m (part ++ more) ≡ take (r .written) now ++ replayOf (r .state) (drop (r .taken) part ++ more)
+  play-joins more = rw (play-writes m part out r now e .0, play-state, play-taken) (part-joins m (length out) part more)
+
+  pub play-stops : Because (r .state) (length out - r .written) (drop (r .taken) part) (r .stop)
+  unfolding leadsOf
+  play-stops = rw (play-state, play-taken, play-stop, ap (λ (x : Left Played). x .answer .written) e) (part-stops m (length out) part)

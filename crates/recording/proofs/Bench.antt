@@ -21,6 +21,12 @@ pub whole-case-bytes : writtenOf (control 0x05 0xFF 0xFF ∷ control 0x04 0x02 0
 unfolding bytesOf
 whole-case-bytes = refl
 
+-- CONTROL's bytes stand in their order.
+pub control-in-order : bytesOf (Control (record { first = 0x11; second = 0x22; third = 0x33; fourth = 0x44; fifth = 0x55; sixth = 0x66; seventh = 0x77; eighth = 0x88 }))
+    ≡ 0x01 ∷ 0x11 ∷ 0x22 ∷ 0x33 ∷ 0x44 ∷ 0x55 ∷ 0x66 ∷ 0x77 ∷ 0x88 ∷ []
+unfolding bytesOf
+control-in-order = refl
+
 -- The reason goes low byte first, and a failure is its kind alone.
 pub low-byte-first : bytesOf (Change 1 0x1234) ≡ 0x02 ∷ 0x01 ∷ 0x34 ∷ 0x12 ∷ []
 unfolding bytesOf

@@ -13,7 +13,7 @@ use Rattle.recording.specs.declared.reader.Read.the-variants.{Found, End
 use Rattle.recording.specs.declared.reader.Ending.the-variants.{Whole, Cut, UnknownKind}
 
 module _ (s : List ℕ) (at : ℕ) where
-  -- With the kind there and one byte less than the record has, it is cut.
+  -- With the kind there and fewer bytes than the record has, it is cut.
   pub cut-1 : byteAt s at ≡ 1 → at < length s → length s < at + 9 → nextOf s at ≡ Ended Cut
   unfolding nextOf pick
   cut-1 k h c = rw (k, lt-leb (length s) at h, lt-ltb (length s - at) 9 (omega arith))

@@ -4,7 +4,7 @@ pub mod Cases
 pub mod Moved
 pub mod RoundTrip
 pub mod Sizes
-pub mod Spelled
 pub mod TakenApart
 pub mod Unique
+pub mod WriteLaws
 pub mod Wrote

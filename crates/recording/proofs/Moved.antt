@@ -12,7 +12,7 @@ use lib.Seq.{getD-drop}
 use Rattle.basis.specs.Pick.{pick}
 use Rattle.recording.specs.Reading.{byteAt, controlAt, changeAt, nextOf}
 use Rattle.recording.proofs.Cases.{next-all}
-use Rattle.recording.proofs.ByKind.{kind-1, kind-2, kind-3, kind-4}
+use Rattle.recording.proofs.ByKind.{kind-1, kind-2, kind-3, kind-4, kind-unknown}
 use Rattle.recording.specs.declared.record.Record.{Record}
 use Rattle.recording.specs.declared.record.Record.the-variants.{Control, Success, Failure}
 use Rattle.recording.specs.declared.reader.Read.{Read}
@@ -76,18 +76,21 @@ module _ (s : List ℕ) (at : ℕ) where
       (ltb (length s - at) 9) (ltb (length s - at) 4) (ltb (length s - at) 2) at
       (Control (controlAt s (at + 1))) (changeAt s (at + 1)) (Success (byteAt s (at + 1)))))
 
--- A record that is found is found there whatever follows.
+-- A record that is found is found there whatever follows, and an unknown kind stays unknown.
 module _ (s t : List ℕ) (at : ℕ) where
   Stays : Read → Type 0
   Stays (Found r next) = nextOf (s ++ t) at ≡ Found r next
-  Stays (Ended e) = Unit
+  Stays (Ended Whole) = Unit
+  Stays (Ended Cut) = Unit
+  Stays (Ended UnknownKind) = nextOf (s ++ t) at ≡ Ended UnknownKind
 
   same : (i : ℕ) → i < length s → byteAt (s ++ t) i ≡ byteAt s i
   same i h = List·getD-append s t 0 i h
 
   next-stays : Stays (nextOf s at)
   unfolding Stays
-  next-stays = next-all Stays s at (λ _. tt) (λ _ _. tt) (λ _. tt)
+  next-stays = next-all Stays s at (λ _. tt) (λ _ _. tt)
+      (λ h k. kind-unknown (s ++ t) at (simp length-append (omega arith)) (rw (same at h) k))
       (λ k h. kind-1 (s ++ t) at (same at (omega arith) ∙ k) (simp length-append (omega arith))
       ∙ rw (
         same (at + 1) (omega arith),
@@ -107,3 +110,7 @@ module _ (s t : List ℕ) (at : ℕ) where
   pub found-stays : (r : Record) (next : ℕ) → nextOf s at ≡ Found r next → nextOf (s ++ t) at ≡ Found r next
   unfolding Stays
   found-stays r next e = subst Stays e next-stays
+
+  pub unknown-stays : nextOf s at ≡ Ended UnknownKind → nextOf (s ++ t) at ≡ Ended UnknownKind
+  unfolding Stays
+  unknown-stays e = subst Stays e next-stays

@@ -48,7 +48,7 @@ Consumes s at (Ended e) = Unit
 first : (s : List ℕ) → Bytes s → Consumes s 0 (nextOf s 0)
 unfolding bytesOf spell
 first s b =
-    next-all (Consumes s 0) s 0 (λ _. tt) (λ _ _. tt) (λ _. tt)
+    next-all (Consumes s 0) s 0 (λ _. tt) (λ _ _. tt) (λ _ _. tt)
     (λ k h. spelled 9 s 0 9 refl h ∙ rw k)
     (λ k h. let l = b 2 in let low : pairOf (byteAt s 2) (byteAt s 3) % 256 ≡ byteAt s 2 = omega arith in
     let high : pairOf (byteAt s 2) (byteAt s 3) / 256 ≡ byteAt s 3 = omega arith in

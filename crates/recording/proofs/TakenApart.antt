@@ -60,11 +60,11 @@ unfolding apartOf turns
 written-apart rs = ap apartOf (sym (append-nil (writtenOf rs))) ∙ apart-written rs [] ∙ ap (λ (l : List Record). apart l Whole) (append-nil rs)
 
 -- No record stands at the start.
-abbrev pub Behind : List ℕ → Type 0
-Behind rest = apartOf rest .records ≡ []
+abbrev pub NoRecord : List ℕ → Type 0
+NoRecord rest = apartOf rest .records ≡ []
 
 -- The whole recording is taken apart in one way: records and a rest that begins with none.
-pub one-way : (rs rs′ : List Record) (rest rest′ : List ℕ) → Behind rest → Behind rest′ → writtenOf rs ++ rest ≡ writtenOf rs′ ++ rest′ → (rs ≡ rs′) × (rest ≡ rest′)
+pub one-way : (rs rs′ : List Record) (rest rest′ : List ℕ) → NoRecord rest → NoRecord rest′ → writtenOf rs ++ rest ≡ writtenOf rs′ ++ rest′ → (rs ≡ rs′) × (rest ≡ rest′)
 one-way rs rs′ rest rest′ b b′ e =
     let same : rs ≡ rs′ =
     sym (ap (λ (a : Apart). a .records) (apart-written rs rest) ∙ ap (λ (l : List Record). rs ++ l) b ∙ append-nil rs)

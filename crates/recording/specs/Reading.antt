@@ -38,13 +38,15 @@ changeAt s i = Change (byteAt s i) (pairOf (byteAt s (i + 1)) (byteAt s (i + 2))
 abbrev pub whole : List ℕ → ℕ → ℕ → Record → Read
 whole s at size r = pick (ltb (length s - at) size) (Ended Cut) (Found r (at + size))
 
--- Kind 1: CONTROL, 8 bytes. 2: connector, reason, 1 + 2 bytes. 3: port success, 1 byte.
+-- Kind 1: CONTROL, 8 bytes.
 abbrev pub controlFrom : List ℕ → ℕ → Read
 controlFrom s at = whole s at 9 (Control (controlAt s (at + 1)))
 
+-- 2: connector, reason, 1 + 2 bytes.
 abbrev pub changeFrom : List ℕ → ℕ → Read
 changeFrom s at = whole s at 4 (changeAt s (at + 1))
 
+-- 3: port success, 1 byte.
 abbrev pub successFrom : List ℕ → ℕ → Read
 successFrom s at = whole s at 2 (Success (byteAt s (at + 1)))
 

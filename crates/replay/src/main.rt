@@ -1,13 +1,13 @@
 // Plays the recording on standard input on a mailbox with two connectors, and prints a line for each record (01, Replay program).
 mod buffer;
+mod progress;
 mod say;
-mod tape;
 
-use tape::Tape;
+use progress::Progress;
 ghost use Prim.Native.Nat.{_*_, _<_, _≤_};
 ghost use lib.ListN.{length};
 ghost use Rattle.lines.specs.Line.{longest};
-ghost use Rattle.replay.specs.Tape.{heldMost};
+ghost use Rattle.replay.specs.Held.{heldMost};
 
 // As much as is read at once.
 const ROOM: usize = 65536;
@@ -31,13 +31,13 @@ fn replay(buffer: &mut [u8], out: &mut [u8])
     requires { ⌜ heldMost < length (now buffer) ⌝ }
     requires { ⌜ longest * length (now buffer) ≤ length (now out) ⌝ }
 {
-    let mut tape = Tape::begin();
+    let mut progress = Progress::begin();
     let mut turns = u64::MAX;
     while turns > 0 {
-        if !tape.runs {
+        if !progress.runs {
             break;
         }
-        tape = tape.turn(buffer, out);
+        progress = progress.turn(buffer, out);
         turns -= 1;
     }
 }

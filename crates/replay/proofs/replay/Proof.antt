@@ -1,4 +1,5 @@
-use Rattle.replay.specs.Tape.{heldMost}
+use native.Mathlib.Omega.{arith}
+use Rattle.replay.specs.Held.{heldMost}
 use lib.ListN.{length}
 use mathlib.Core.Path.{_≡_}
 use borrow.Author.Needs.{needs}
@@ -7,16 +8,16 @@ use Rattle.replay.proofs.replay.Statement.{statement}
 use Rattle.replay.proofs.replay.Tie as tie
 
 abbrev Inv-loop : tie.InvT-loop
-Inv-loop buffer₀ out₀ tape₀ turns₀ buffer out tape turns = (tape .held ≤ heldMost) × (length buffer ≡ length buffer₀) × (length out ≡ length out₀)
+Inv-loop buffer₀ out₀ progress₀ turns₀ buffer out progress turns = (progress .held ≤ heldMost) × (length buffer ≡ length buffer₀) × (length out ≡ length out₀)
 
 abbrev μ-loop : tie.MeasureT-loop
-μ-loop buffer₀ out₀ tape₀ turns₀ buffer out tape turns = turns
+μ-loop buffer₀ out₀ progress₀ turns₀ buffer out progress turns = turns
 
 begin-requires : tie.Need-begin-requires Inv-loop μ-loop
 begin-requires c κs = search needs
 
 loop-holds : tie.Need-loop-holds Inv-loop μ-loop
-loop-holds c = search needs
+loop-holds c = (rw (c .begin .ensures) (omega arith), search needs, search needs)
 
 turn-requires : tie.Need-turn-requires Inv-loop μ-loop
 turn-requires c κs = search needs

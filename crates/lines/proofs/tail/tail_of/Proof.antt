@@ -1,5 +1,5 @@
 use Rattle.basis.specs.Pick.{pick}
-use Rattle.lines.specs.Line.{tailOf, tailled}
+use Rattle.lines.specs.Line.{tailOf, tailIn}
 use Rattle.lines.specs.Digits.{decimalOf}
 use Rattle.basis.specs.Pick.{tests}
 use borrow.Author.Needs.{needs}
@@ -7,7 +7,7 @@ use Rattle.lines.proofs.tail.tail_of.Statement.{statement}
 use Rattle.lines.proofs.tail.tail_of.Tie as tie
 
 pub tail-of-spec : {M : Type 1} → statement M
-unfolding decimalOf pick tailOf tailled
+unfolding decimalOf pick tailOf tailIn
 tail-of-spec =
     tie.close
     (tie.spec

@@ -2,14 +2,14 @@ use Rattle.lines.specs.declared.tail.Tail.{Tail}
 use native.Mathlib.Omega.{arith}
 use mathlib.Core.Path.{_≡_, ap}
 use lib.ListN.{length}
-use Rattle.lines.specs.Line.{tailOf, tailled}
+use Rattle.lines.specs.Line.{tailOf, tailIn}
 use Rattle.lines.proofs.Texts.{line-joined, tail-short}
 use borrow.Author.Needs.{needs}
 use Rattle.lines.proofs.text.line_of.Statement.{statement}
 use Rattle.lines.proofs.text.line_of.Tie as tie
 
 pub line-of-spec : {M : Type 1} → statement M
-unfolding tailled
+unfolding tailIn
 line-of-spec =
     tie.close
     (tie.spec

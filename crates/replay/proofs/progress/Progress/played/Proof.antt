@@ -7,8 +7,8 @@ use mathlib.Core.Path.{_≡_, refl, sym, _∙_}
 use Rattle.replay.proofs.Carry.{held-few, carries}
 use Rattle.playing.proofs.PartLaws.{play-within}
 use borrow.Author.Needs.{needs}
-use Rattle.replay.proofs.tape.Tape.played.Statement.{statement}
-use Rattle.replay.proofs.tape.Tape.played.Tie as tie
+use Rattle.replay.proofs.progress.Progress.played.Statement.{statement}
+use Rattle.replay.proofs.progress.Progress.played.Tie as tie
 
 pub played-spec : {M : Type 1} → statement M
 played-spec =

@@ -10,22 +10,22 @@ ghost use mathlib.Core.Path.{_≡_};
 ghost use Prim.Native.Nat.{_*_, _<_, _≤_};
 ghost use lib.ListN.{length, take};
 ghost use Rattle.lines.specs.Line.{longest};
-ghost use Rattle.replay.specs.Tape.{heldMost, Carried, unknownKind, unknownOf};
+ghost use Rattle.replay.specs.Held.{begins, heldMost, Carried, Onward, unknownKind, unknownOf};
 
 // The first `held` bytes of the buffer are not played yet, and `stop` says why.
-pub(crate) struct Tape {
+pub(crate) struct Progress {
     pub state: Mailbox,
     pub held: usize,
     pub stop: Stop,
     pub runs: bool,
 }
 
-impl Tape {
-    pub(crate) fn begin() -> Tape
-        ensures { λ r. ⌜ r .held ≤ heldMost ⌝ }
+impl Progress {
+    pub(crate) fn begin() -> Progress
+        ensures { λ r. ⌜ r ≡ begins ⌝ }
     {
         let state = playing::begin();
-        Tape {
+        Progress {
             state,
             held: 0,
             stop: Stop::Ended(Ending::Whole),
@@ -34,11 +34,12 @@ impl Tape {
     }
 
     // One read. There is room for a byte at least, so that where nothing has come the recording is at its end.
-    pub(crate) fn turn(self, buffer: &mut [u8], out: &mut [u8]) -> Tape
+    pub(crate) fn turn(self, buffer: &mut [u8], out: &mut [u8]) -> Progress
         requires { ⌜ self .held ≤ heldMost ⌝ }
         requires { ⌜ heldMost < length (now buffer) ⌝ }
         requires { ⌜ longest * length (now buffer) ≤ length (now out) ⌝ }
         ensures { λ r. ⌜ r .held ≤ heldMost ⌝ }
+        ensures { λ r. ⌜ (r .runs ≡ true → Onward (self .state) (take (self .held) (now (buffer .entry))) (length (now (out .entry))) r (now (buffer .exit))) ⌝ }
     {
         let held = self.held;
         let got = libc::read(STDIN_FILENO, &mut buffer[held..]);
@@ -54,7 +55,7 @@ impl Tape {
     }
 
     // The first `filled` bytes are played and their lines written at once. An unknown kind ends the replay, whatever follows it.
-    fn played(self, buffer: &mut [u8], filled: usize, out: &mut [u8]) -> Tape
+    fn played(self, buffer: &mut [u8], filled: usize, out: &mut [u8]) -> Progress
         requires { ⌜ filled ≤ length (now buffer) ⌝ }
         requires { ⌜ longest * length (now buffer) ≤ length (now out) ⌝ }
         ensures { λ r. ⌜ r .held ≤ heldMost ⌝ }
@@ -70,7 +71,7 @@ impl Tape {
             return self.ended();
         }
         buffer::to_front(buffer, taken, filled);
-        let next = Tape {
+        let next = Progress {
             state,
             held: filled - taken,
             stop,
@@ -83,7 +84,7 @@ impl Tape {
     }
 
     // The last line, if there is one, and no further turn.
-    fn closed(self) -> Tape
+    fn closed(self) -> Progress
         ensures { λ r. ⌜ r .held ≤ heldMost ⌝ }
         ensures { λ r. ⌜ r .runs ≡ false ⌝ }
     {
@@ -92,7 +93,7 @@ impl Tape {
         self.ended()
     }
 
-    fn ended(mut self) -> Tape
+    fn ended(mut self) -> Progress
         ensures { λ r. ⌜ r .held ≤ heldMost ⌝ }
         ensures { λ r. ⌜ r .runs ≡ false ⌝ }
     {

@@ -1,7 +1,7 @@
 use Rattle.playing.proofs.Endings.{closing-fits}
 use borrow.Author.Needs.{needs}
-use Rattle.replay.proofs.tape.Tape.closed.Statement.{statement}
-use Rattle.replay.proofs.tape.Tape.closed.Tie as tie
+use Rattle.replay.proofs.progress.Progress.closed.Statement.{statement}
+use Rattle.replay.proofs.progress.Progress.closed.Tie as tie
 
 pub closed-spec : {M : Type 1} → statement M
 closed-spec =
