@@ -1,4 +1,4 @@
--- Lines of the whole case, character by character (01, Replay program).
+-- Lines and numbers, character by character (01, Replay program).
 use mathlib.Core.List.{[], _∷_}
 use mathlib.Core.Path.{_≡_, refl}
 use Rattle.basis.specs.Pick.{pick}

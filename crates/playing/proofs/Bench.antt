@@ -40,14 +40,23 @@ running =
     ∷ 0x01 ∷ 0x04 ∷ 0x00 ∷ 0x02 ∷ 0x00 ∷ 0x00 ∷ 0x00 ∷ 0x00 ∷ 0x00
     ∷ 0x01 ∷ 0x06 ∷ 0x00 ∷ 0x00 ∷ 0x00 ∷ 0x00 ∷ 0x00 ∷ 0x00 ∷ 0x00 ∷ []
 
--- The whole case; a port failure, which shows bits 30 and 31; a change on connector 2, which is there, and on 3, which is not (9).
+-- SET_NOTIFICATION_ENABLE with the mask 0002 alone, and ACK_CC_CI.
+abbrev masked : List ℕ
+masked =
+    0x01 ∷ 0x05 ∷ 0x00 ∷ 0x02 ∷ 0x00 ∷ 0x00 ∷ 0x00 ∷ 0x00 ∷ 0x00
+    ∷ 0x01 ∷ 0x04 ∷ 0x00 ∷ 0x02 ∷ 0x00 ∷ 0x00 ∷ 0x00 ∷ 0x00 ∷ 0x00 ∷ []
+
+-- The whole case; a port failure, which shows bits 30 and 31; a change on connector 2, which is there, and on 3, which is not (9); and a
+-- change on connector 1 with the reason 0002, which meets the mask, and with 0200, which does not.
 pub record Cases : Type 0 where
   pub whole-case : printedOf bytes
       ≡ textOf 0x80000000 0 ++ textOf 0x20000000 0 ++ textOf 0x20000004 0 ++ textOf 0x10000000 0 ++ textOf 0x80000904 0 ++ textOf 0x20000000 0
   pub failure : printedOf (running ++ 0x04 ∷ []) ≡ textOf 0x80000000 0 ++ textOf 0x20000000 0 ++ textOf 0x10000000 0 ++ textOf 0xC0000000 0
   pub second : printedOf (0x02 ∷ 0x02 ∷ 0x02 ∷ 0x00 ∷ []) ≡ textOf 0 0
   pub third : printedOf (0x02 ∷ 0x03 ∷ 0x02 ∷ 0x00 ∷ []) ≡ textOf 0 9
+  pub meets : printedOf (masked ++ 0x02 ∷ 0x01 ∷ 0x02 ∷ 0x00 ∷ []) ≡ textOf 0x80000000 0 ++ textOf 0x20000000 0 ++ textOf 0x20000002 0
+  pub misses : printedOf (masked ++ 0x02 ∷ 0x01 ∷ 0x00 ∷ 0x02 ∷ []) ≡ textOf 0x80000000 0 ++ textOf 0x20000000 0 ++ textOf 0x20000000 0
 
 pub cases : Cases
 unfolding shownOf apartOf turns nextOf eventIn outcomeOf printed digitOf decimalOf tailOf freshOf readOf reportedOf controlOf fieldsOf entryOf heededOf judgedOf takenOf begins thereOf pick offOf runsOf dueOf cci.cciOf succeedOf change.changeOf presentOf heardOf meetsOf changes.notedOf changes.nextOf changes.lowestFrom changes.markedOf failOf
-cases = record { whole-case = refl; failure = refl; second = refl; third = refl }
+cases = record { whole-case = refl; failure = refl; second = refl; third = refl; meets = refl; misses = refl }
