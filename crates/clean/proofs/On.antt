@@ -14,7 +14,7 @@ use Rattle.lent.specs.Led.{led}
 use Rattle.lent.specs.Sent.{withSent}
 use Rattle.image.specs.Blocks.{blocksOf}
 use Rattle.wire.specs.declared.response.Identity.{Identity}
-use Rattle.receiver_steps.specs.declared.range.Verdict.the-variants as Ver
+use Rattle.receiver_phases.specs.declared.verdict.Verdict.the-variants as Ver
 use Rattle.receiver.specs.Request.{Effect, requestOf}
 use Rattle.receiver.proofs.Written.{request-length}
 use Rattle.indoor_phases.specs.declared.plan.Release.{Release}

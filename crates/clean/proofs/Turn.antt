@@ -10,8 +10,8 @@ use Rattle.wire.specs.Header.{headed}
 use Rattle.wire.specs.Request as message
 use Rattle.wire.specs.declared.request.Request.{Request}
 use Rattle.wire.specs.declared.request.Parsed.the-variants.{Valid}
-use Rattle.receiver_steps.specs.declared.range.Verdict.{Verdict}
-use Rattle.receiver_steps.specs.declared.range.Verdict.the-variants as Ver
+use Rattle.receiver_phases.specs.declared.verdict.Verdict.{Verdict}
+use Rattle.receiver_phases.specs.declared.verdict.Verdict.the-variants as Ver
 use Rattle.receiver.specs.Request.{Effect, effect, requestOf}
 use Rattle.receiver.specs.declared.session.Receiver.{Receiver}
 use Rattle.receiver.specs.declared.session.Outcome.{Outcome}

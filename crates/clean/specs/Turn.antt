@@ -5,7 +5,7 @@ use lib.Dec.{ltb, eqb}
 use lib.ListN.{length, take}
 use Rattle.basis.specs.Pick.{pick}
 use Rattle.basis.specs.Left.{Left}
-use Rattle.receiver_steps.specs.declared.range.Verdict.the-variants as Ver
+use Rattle.receiver_phases.specs.declared.verdict.Verdict.the-variants as Ver
 use Rattle.receiver.specs.Request.{Effect, requestOf}
 use Rattle.receiver.specs.declared.session.Receiver.{Receiver}
 use Rattle.indoor.specs.Response.{responseOf}

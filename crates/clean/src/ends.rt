@@ -1,7 +1,7 @@
 // Both ends and the request on its way, and one turn of the line: the request to the receiver, its answer to the indoor end.
 use indoor::Indoor;
 use receiver::Receiver;
-use receiver_steps::range::Verdict;
+use receiver_phases::verdict::Verdict;
 ghost use mathlib.Core.Path.{_≡_};
 ghost use Prim.Native.Nat.{_≤_};
 ghost use lib.ListN.{length};

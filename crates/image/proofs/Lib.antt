@@ -2,5 +2,4 @@ pub mod Parts
 pub mod Adding
 pub mod Laws
 pub mod Whole
-pub mod Bench
 pub mod Unique

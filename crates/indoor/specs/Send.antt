@@ -1,9 +1,7 @@
--- The bytes of the request that goes out with an answer, and the buffer that they lead (01, Numbers we answer).
+-- The bytes of the request that goes out with an answer (01, Numbers we answer).
 use Prim.Native.Nat.{ℕ}
 use mathlib.Core.List.{List, [], _++_}
 use lib.ListN.{length}
-use Rattle.basis.specs.Left.{Left, left}
-use Rattle.lent.specs.Led.{led}
 use Rattle.image.specs.Blocks.{blockAt}
 use Rattle.wire.specs.Written.{requestBytes}
 use Rattle.wire.specs.declared.request.Versions.{Versions}
@@ -28,7 +26,3 @@ sendsBytes versions file Abort = requestBytes Req.Abort
 
 abbrev pub bytesOf : Plan → List ℕ → Answer → List ℕ
 bytesOf plan file answer = sendsBytes (plan .release .versions) file (sendsOf answer)
-
--- A buffer is written in its first bytes only; the rest is kept.
-abbrev pub leads : List ℕ → List ℕ → Left ℕ
-leads bytes out = left (length bytes) (led bytes out)

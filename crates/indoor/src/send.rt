@@ -10,7 +10,8 @@ ghost use lib.ListN.{length};
 ghost use Rattle.basis.specs.Left.{left};
 ghost use Rattle.wire.specs.Codes.{longest};
 ghost use Rattle.wire.specs.Written.{requestBytes};
-ghost use Rattle.indoor.specs.Send.{leads, blockBytes, sendsBytes, bytesOf};
+ghost use Rattle.lent.specs.Led.{leads};
+ghost use Rattle.indoor.specs.Send.{blockBytes, sendsBytes, bytesOf};
 
 pub(crate) fn send(out: &mut [u8], file: &[u8], plan: Plan, answer: Answer) -> usize
     requires { ⌜ longest ≤ length (now out) ⌝ }

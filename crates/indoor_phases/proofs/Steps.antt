@@ -6,12 +6,12 @@ use mathlib.Core.Path.{_≡_, refl}
 use borrow.Author.Tests.{eq-eqb, eqb-true}
 use Rattle.basis.specs.Pick.{pick, pick-all}
 use Rattle.image.proofs.Laws.{enough, least}
-use Rattle.indoor_phases.specs.Phase.{progress, stands}
-use Rattle.indoor_phases.specs.Step.{step, goes, fails, last, emptiedBy, sent}
+use Rattle.indoor_phases.specs.Phase.{stands}
+use Rattle.indoor_phases.specs.Step.{step, goes, fails, last, emptiedBy}
 use Rattle.indoor_phases.specs.declared.plan.Plan.{Plan}
 use Rattle.indoor_phases.specs.declared.phase.Reason.{Reason}
 use Rattle.indoor_phases.specs.declared.phase.Phase.{Phase}
-use Rattle.indoor_phases.specs.declared.phase.Phase.the-variants.{Transfer, Failed}
+use Rattle.indoor_phases.specs.declared.phase.Phase.the-variants.{Failed}
 use Rattle.indoor_phases.specs.declared.answer.Answer.{Answer}
 use Rattle.indoor_phases.specs.declared.answer.Answer.the-variants as Ans
 
@@ -45,7 +45,3 @@ module _ (plan : Plan) (number : ℕ) (emptied : Bool) where
       pick-all (λ (t : Bool). t ≡ true → (emptied ≡ true) ⊎ (number ≡ last plan)) emptied _ _
       (λ e _. inl e)
       (λ _ t. inr (eqb-true number (last plan) t))
-
-  -- A block that has gone out leaves no wait.
-  pub sent-rests : sent plan number emptied ≡ Transfer (progress number 0 (emptiedBy plan number emptied))
-  sent-rests = refl

@@ -4,12 +4,10 @@ use mathlib.Core.Bool.{Bool, true, _||_}
 use mathlib.Core.Logic.{_⊎_, inl, inr}
 use mathlib.Core.Path.{_≡_, refl}
 use native.Mathlib.Omega.{arith}
-use borrow.Author.Tests.{eqb-true, ltb-false}
+use borrow.Author.Tests.{eqb-true}
 use lib.Dec.{eqb, ltb}
 use Rattle.basis.specs.Pick.{pick-all, When}
-use Rattle.silence.specs.Expiry.{grown, grownOf}
-use Rattle.silence.specs.declared.Grown.{Grown}
-use Rattle.silence.specs.declared.Event.the-variants.{Quiet, Resend, NoneLeft}
+use Rattle.silence.proofs.Laws.{grown-all}
 use Rattle.indoor_phases.specs.Phase.{stands}
 use Rattle.indoor_phases.specs.Answer.{numberOf, sendsOf}
 use Rattle.indoor_phases.specs.Step.{step}
@@ -71,8 +69,6 @@ pub record Ticks (plan : Plan) (stand : Stand) (elapsed : ℕ) (s : Step) : Type
   -- A resend is counted only by an expiry, and one call is at most one.
   pub counted : (s .stand .resends ≡ stand .resends) ⊎ Expires plan stand elapsed
   pub once : s .stand .resends ≤ stand .resends + 1
-  -- Silence grows by no more than what has elapsed.
-  pub grown-most : s .stand .silence ≤ stand .silence + elapsed
   pub fit : Fit plan (stand .phase) → Fit plan (s .stand .phase)
   pub within : Fit plan (stand .phase) → Within plan (sendsOf (s .answer))
   pub empties : Empties plan (stand .phase) (s .answer) (s .stand .phase)
@@ -80,19 +76,13 @@ pub record Ticks (plan : Plan) (stand : Stand) (elapsed : ℕ) (s : Step) : Type
   pub marks : Marks plan (sendsOf (s .answer)) (s .stand .phase)
 
 -- The sums that every case needs.
-record Sums (silence elapsed resends : ℕ) : Type 0 where
-  all : silence + elapsed ≤ silence + elapsed
-  none : 0 ≤ silence + elapsed
-  before : silence ≤ silence + elapsed
+record Sums (resends : ℕ) : Type 0 where
   counted : resends + 1 ≤ resends + 1
   kept : resends ≤ resends + 1
   cleared : 0 ≤ resends + 1
 
-sums : (silence elapsed resends : ℕ) → Sums silence elapsed resends
-sums silence elapsed resends = record {
-  all = omega arith;
-  none = omega arith;
-  before = omega arith;
+sums : (resends : ℕ) → Sums resends
+sums resends = record {
   counted = omega arith;
   kept = omega arith;
   cleared = omega arith;
@@ -102,59 +92,44 @@ module _ (plan : Plan) (silence resends elapsed : ℕ) where
   abbrev P : Phase → Step → Type 0
   P before s = Ticks plan (stands before silence resends) elapsed s
 
-  abbrev limit : ℕ
-  limit = plan .settings .limit
-
-  -- The silence rule, over what holds of each of its three ends.
-  grown-walk : (Q : Grown → Type 0)
-      → Q (grown (silence + elapsed) resends Quiet)
-      → (limit ≤ silence + elapsed → Q (grown 0 (resends + 1) Resend))
-      → (limit ≤ silence + elapsed → Q (grown 0 resends NoneLeft))
-      → Q (grownOf silence elapsed resends (plan .settings))
-  unfolding grownOf
-  grown-walk Q quiet again none =
-      pick-all Q (ltb (silence + elapsed) limit) _ _ (λ _. quiet)
-      (λ f. let at = ltb-false (silence + elapsed) limit f in
-      pick-all Q (ltb resends (plan .settings .resends)) _ _ (λ _. again at) (λ _. none at))
-
   identify-ticks : P Identify (resendsOf plan (stands Identify silence resends) Ans.Identifying elapsed)
   unfolding resendsOf resentOf
   identify-ticks =
-      let k = sums silence elapsed resends in
-      grown-walk (λ x. P Identify (resentOf Identify Ans.Identifying x (x .event)))
-      (search inl) (λ at. search (inl, inr)) (λ at. search (inl, inr))
+      let k = sums resends in
+      grown-all silence elapsed resends (plan .settings) (λ x. P Identify (resentOf Identify Ans.Identifying x (x .event)))
+      (λ _. search inl) (λ at _. search (inl, inr)) (λ at _. search (inl, inr))
 
   initiate-ticks : (left : ℕ) → P (Initiate left) (initiatePassOf plan (stands (Initiate left) silence resends) left elapsed)
   unfolding initiatePassOf resendsOf resentOf pacedOf
   initiate-ticks left =
-      let k = sums silence elapsed resends in
+      let k = sums resends in
       pick-all (P (Initiate left)) (eqb left 0) _ _
       (λ t. let none = eqb-true left 0 t in
-      grown-walk (λ x. P (Initiate left) (resentOf (Initiate left) Ans.Initiating x (x .event)))
-      (search inl) (λ at. search (inl, inr)) (λ at. search (inl, inr)))
+      grown-all silence elapsed resends (plan .settings) (λ x. P (Initiate left) (resentOf (Initiate left) Ans.Initiating x (x .event)))
+      (λ _. search inl) (λ at _. search (inl, inr)) (λ at _. search (inl, inr)))
       (λ _. pick-all (P (Initiate left)) (ltb elapsed left) _ _ (λ _. search inl) (λ _. search inl))
 
   validate-ticks : (left : ℕ) → P (Validate left) (validatePassOf plan (stands (Validate left) silence resends) left elapsed)
   unfolding validatePassOf resendsOf resentOf pacedOf
   validate-ticks left =
-      let k = sums silence elapsed resends in
+      let k = sums resends in
       pick-all (P (Validate left)) (eqb left 0) _ _
       (λ t. let none = eqb-true left 0 t in
-      grown-walk (λ x. P (Validate left) (resentOf (Validate left) Ans.Validating x (x .event)))
-      (search inl) (λ at. search (inl, inr)) (λ at. search (inl, inr)))
+      grown-all silence elapsed resends (plan .settings) (λ x. P (Validate left) (resentOf (Validate left) Ans.Validating x (x .event)))
+      (λ _. search inl) (λ at _. search (inl, inr)) (λ at _. search (inl, inr)))
       (λ _. pick-all (P (Validate left)) (ltb elapsed left) _ _ (λ _. search inl) (λ _. search inl))
 
   transfer-ticks : (p : Progress) → P (Transfer p) (transferPassOf plan (stands (Transfer p) silence resends) p elapsed)
   unfolding transferPassOf expiresOf expiredOf pacedOf
   transfer-ticks p =
-      let k = sums silence elapsed resends in
+      let k = sums resends in
       let later = later-empties plan (p .asked) (p .emptied) in
       let kept = emptied-stays plan (p .asked) (p .emptied) in
       let marked = emptied-last plan (p .asked) (p .emptied) in
       pick-all (P (Transfer p)) (eqb (p .wait) 0) _ _
       (λ t. let none = eqb-true (p .wait) 0 t in
-      grown-walk (λ x. P (Transfer p) (expiredOf (Transfer p) x (x .event)))
-      (search inl) (λ at. search (inl, inr)) (λ at. search (inl, inr)))
+      grown-all silence elapsed resends (plan .settings) (λ x. P (Transfer p) (expiredOf (Transfer p) x (x .event)))
+      (λ _. search inl) (λ at _. search (inl, inr)) (λ at _. search (inl, inr)))
       (λ _. pick-all (P (Transfer p)) (ltb elapsed (p .wait)) _ _ (λ _. search inl) (λ _. search inl))
 
   passed-ticks : (before : Phase) → P before (passedOf plan (stands before silence resends) before elapsed)
@@ -163,8 +138,8 @@ module _ (plan : Plan) (silence resends elapsed : ℕ) where
   passed-ticks (Initiate left) = initiate-ticks left
   passed-ticks (Transfer p) = transfer-ticks p
   passed-ticks (Validate left) = validate-ticks left
-  passed-ticks Done = let k = sums silence elapsed resends in search inl
-  passed-ticks (Failed reason) = let k = sums silence elapsed resends in search inl
+  passed-ticks Done = let k = sums resends in search inl
+  passed-ticks (Failed reason) = let k = sums resends in search inl
 
 pub pass-ticks : (plan : Plan) (stand : Stand) (elapsed : ℕ) → Ticks plan stand elapsed (passOf plan stand elapsed)
 pass-ticks plan stand elapsed = passed-ticks plan (stand .silence) (stand .resends) elapsed (stand .phase)

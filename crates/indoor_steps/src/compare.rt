@@ -4,7 +4,7 @@ use wire::response::Identity;
 ghost use mathlib.Core.Path.{_≡_};
 ghost use Rattle.indoor_rules.specs.Newer.{newerOf};
 
-pub fn newer(release: Release, reported: Identity) -> bool
+pub(crate) fn newer(release: Release, reported: Identity) -> bool
     ensures { λ r. ⌜ r ≡ newerOf release reported ⌝ }
 {
     if release.vendor != reported.vendor {

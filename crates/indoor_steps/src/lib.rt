@@ -3,5 +3,4 @@
 mod compare;
 mod response;
 
-pub use compare::newer;
 pub use response::decide;

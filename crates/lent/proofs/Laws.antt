@@ -1,7 +1,7 @@
 -- What `put` leaves, said of its parts: for callers that know whether there is room.
 use Prim.Native.Nat.{ℕ, _+_, _<_, _≤_}
 use mathlib.Core.Path.{_≡_, refl, _∙_}
-use mathlib.Core.List.{List, _++_, append-assoc}
+use mathlib.Core.List.{List, _++_}
 use native.Mathlib.Nat.{zero-add}
 use native.Mathlib.Omega.{arith}
 use borrow.Author.Tests.{leb-true}
@@ -27,11 +27,8 @@ put-passes d at s h = simp tests
 pub put-leads : (s d : List ℕ) → length s ≤ length d → putOf d 0 s ≡ left Stored (led s d)
 put-leads s d h = put-fits d 0 s (simp zero-add h) ∙ simp zero-add
 
--- Before the place all is as it was, at the place lies the part, and behind it all is as it was.
+-- Up to the part's end lie what was before the place and the part, and behind it all is as it was.
 module _ (d : List ℕ) (at : ℕ) (s : List ℕ) (h : at ≤ length d) where
-  pub pasted-before : take at (pasted d at s) ≡ take at d
-  pasted-before = simp append-assoc (take-at (take at d) (s ++ drop (at + length s) d) at (length-take-le at d h))
-
   pub pasted-there : take (at + length s) (pasted d at s) ≡ take at d ++ s
   pasted-there =
       let e = length-take-le at d h in

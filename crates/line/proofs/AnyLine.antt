@@ -19,7 +19,7 @@ use Rattle.receiver_phases.specs.declared.phase.Accepted.{Accepted}
 use Rattle.receiver_phases.specs.declared.phase.Phase.{Phase as ReceiverPhase}
 use Rattle.receiver_phases.specs.declared.phase.Phase.the-variants.{Idle, Transfer, Await, Good}
 use Rattle.receiver_phases.proofs.Truth.{IsGood}
-use Rattle.receiver_steps.specs.declared.range.Verdict.{Verdict}
+use Rattle.receiver_phases.specs.declared.verdict.Verdict.{Verdict}
 use Rattle.receiver.specs.Request.{requestOf}
 use Rattle.receiver.specs.Time.{timeOf as receiverTimeOf}
 use Rattle.receiver.specs.History as taking

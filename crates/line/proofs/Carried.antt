@@ -1,5 +1,5 @@
 -- What one delivery does to a clean line that has one message on its way.
-use Prim.Native.Nat.{ℕ, _+_, _-_, _≤_}
+use Prim.Native.Nat.{ℕ, _+_, _≤_}
 use mathlib.Core.Path.{_≡_, refl, sym, _∙_, ap}
 use mathlib.Core.List.{List, [], _∷_, _++_}
 use lib.Dec.{eqb}
@@ -21,12 +21,12 @@ use Rattle.receiver_phases.specs.Answer.{replyOf}
 use Rattle.receiver_phases.specs.declared.answer.Answer.{Answer}
 use Rattle.receiver_phases.specs.declared.phase.Phase as receiver
 use Rattle.receiver_phases.specs.declared.phase.Phase.the-variants.{Good}
-use Rattle.receiver_steps.specs.Range.{verdictOutside, outOfRange}
-use Rattle.receiver_steps.specs.Request.{decideOf}
-use Rattle.receiver_steps.specs.declared.range.Verdict.the-variants as Ver
-use Rattle.receiver_steps.specs.declared.request.Store.{Store}
-use Rattle.receiver_steps.specs.declared.request.Store.the-variants as Sto
-use Rattle.receiver_steps.specs.declared.request.Step.{Step}
+use Rattle.receiver_rules.specs.Range.{verdictOutside, outOfRange}
+use Rattle.receiver_rules.specs.Request.{decideOf}
+use Rattle.receiver_phases.specs.declared.verdict.Verdict.the-variants as Ver
+use Rattle.receiver_phases.specs.declared.step.Store.{Store}
+use Rattle.receiver_phases.specs.declared.step.Store.the-variants as Sto
+use Rattle.receiver_phases.specs.declared.step.Step.{Step}
 use Rattle.receiver.specs.Request.{Effect, imageOf, doneOf, requestOf}
 use Rattle.receiver.specs.Respond.{replyBytes, bytesOf}
 use Rattle.receiver.proofs.Answers.{answers-step}

@@ -6,7 +6,7 @@ use mathlib.Core.List.{List, [], _∷_, List·Memᴰ, List·Memᴰ·head, List·
 use native.Mathlib.Omega.{arith}
 use lib.ListN.{replicate, length-replicate}
 use Rattle.wire.specs.declared.response.Identity.{Identity}
-use Rattle.receiver_steps.specs.declared.range.Verdict.the-variants as Ver
+use Rattle.receiver_phases.specs.declared.verdict.Verdict.the-variants as Ver
 use Rattle.receiver.specs.Request.{requestOf}
 use Rattle.indoor_phases.specs.declared.plan.Release.{Release}
 use Rattle.indoor.specs.Response.{responseOf}

@@ -1,5 +1,5 @@
 -- The course of a clean line: after each delivery it is known where both ends stand, what is on its way and how many requests were sent.
-use Prim.Native.Nat.{ℕ, suc, _+_, _*_, _-_, _≤_, _<_}
+use Prim.Native.Nat.{ℕ, suc, _+_, _*_, _≤_, _<_}
 use mathlib.Core.Bool.{Bool, true, false, true≢false}
 use mathlib.Core.Logic.{_⊎_, inl, inr}
 use mathlib.Core.Path.{_≡_, refl, sym, _∙_, ap, subst}
@@ -29,12 +29,12 @@ use Rattle.receiver_phases.specs.declared.phase.Accepted.{Accepted}
 use Rattle.receiver_phases.specs.declared.phase.Progress.{Progress}
 use Rattle.receiver_phases.specs.declared.phase.Phase as receiver
 use Rattle.receiver_phases.specs.declared.phase.Phase.the-variants.{Idle, Transfer, Await, Good}
-use Rattle.receiver_steps.specs.Request.{to, progress}
-use Rattle.receiver_steps.specs.declared.range.Verdict.the-variants as Ver
-use Rattle.receiver_steps.specs.declared.request.Store.the-variants as Sto
-use Rattle.receiver_steps.specs.declared.request.Step.{Step}
-use Rattle.receiver_steps.proofs.Rows as rows
-use Rattle.receiver_steps.proofs.Orders as orders
+use Rattle.receiver_rules.specs.Request.{to, progress}
+use Rattle.receiver_phases.specs.declared.verdict.Verdict.the-variants as Ver
+use Rattle.receiver_phases.specs.declared.step.Store.the-variants as Sto
+use Rattle.receiver_phases.specs.declared.step.Step.{Step}
+use Rattle.receiver_rules.proofs.Rows as rows
+use Rattle.receiver_rules.proofs.Orders as orders
 use Rattle.receiver.specs.Respond.{replyBytes}
 use Rattle.receiver.proofs.Fresh as receiverFresh
 use Rattle.receiver.proofs.Reached.{reached-capacity}

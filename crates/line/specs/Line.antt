@@ -15,8 +15,8 @@ use Rattle.wire.specs.Fields.{Words}
 use Rattle.wire.specs.declared.response.Identity.{Identity}
 use Rattle.receiver_phases.specs.declared.phase.Accepted.{Accepted}
 use Rattle.receiver_phases.specs.declared.phase.Phase.the-variants.{Good}
-use Rattle.receiver_steps.specs.declared.range.Verdict.{Verdict}
-use Rattle.receiver_steps.specs.declared.range.Verdict.the-variants as Ver
+use Rattle.receiver_phases.specs.declared.verdict.Verdict.{Verdict}
+use Rattle.receiver_phases.specs.declared.verdict.Verdict.the-variants as Ver
 use Rattle.receiver.specs.Session.{startOf as receiverStartOf}
 use Rattle.receiver.specs.Request.{Effect, requestOf}
 use Rattle.receiver.specs.Time.{timeOf as receiverTimeOf}

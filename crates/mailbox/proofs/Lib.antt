@@ -1,4 +1,3 @@
-pub mod Bench
 pub mod Ending
 pub mod Laws
 pub mod Message

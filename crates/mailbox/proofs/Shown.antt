@@ -13,7 +13,6 @@ use Rattle.commands.specs.declared.control.Parsed.{Parsed}
 use Rattle.mailbox_state.specs.declared.answer.Answer.{Answer}
 use Rattle.mailbox_state.specs.declared.answer.Answer.the-variants.{Taken}
 use Rattle.mailbox_state.specs.declared.stand.Changes.{Changes}
-use Rattle.mailbox_rules.specs.Change as change
 use Rattle.mailbox_rules.specs.Changes.{lowestOf, notedOf, nextOf}
 use Rattle.mailbox_rules.proofs.Command.{ShownBy, stays, reset, acknowledged, write-shown}
 use Rattle.mailbox_rules.proofs.Noted.{Recorded, change-alters}

@@ -1,4 +1,4 @@
--- When an acknowledgement is due, and what ends that (01, The mailbox).
+-- When an acknowledgement is due, and what ends that and a run (01, The mailbox).
 use Prim.Native.Nat.{ℕ}
 use mathlib.Core.Bool.{Bool, true, false, true≢false}
 use mathlib.Core.Logic.{_⊎_, inl, inr}
@@ -69,6 +69,36 @@ module _ (stand : Stand) (control : Control) where
       (zero-taken _ (eqb-true (numberOf (refusalOf stand (entryOf (control .code) .class) control)) 0 y))
       (named (control .code))))
       (λ n. inl h)
+
+-- What a write must be to end a run: PPM_RESET, or CANCEL.
+pub data Stops (code : ℕ) : Type 0 where
+  byReset : code ≡ 0x01 → Stops code
+  byCancel : code ≡ 0x02 → Stops code
+
+stopping : (class : Class) (off runs due shown change completed : Bool) (code : ℕ) → runs ≡ true → judgedOf class off runs due shown change completed ≡ Taken → Named code class → Stops code
+unfolding judgedOf pick
+stopping class off false due shown change completed code r e h = absurd (true≢false (sym r))
+stopping class.Reset off true due shown change completed code r e h = byReset h
+stopping class.Cancel off true due shown change completed code r e h = byCancel h
+stopping class.Acknowledge true true due shown change completed code r e h = absurd (omega (arith, ap numberOf e))
+stopping class.Acknowledge false true due shown change completed code r e h = absurd (omega (arith, ap numberOf e))
+stopping class.Enable true true due shown change completed code r e h = absurd (omega (arith, ap numberOf e))
+stopping class.Enable false true due shown change completed code r e h = absurd (omega (arith, ap numberOf e))
+stopping class.Run true true due shown change completed code r e h = absurd (omega (arith, ap numberOf e))
+stopping class.Run false true due shown change completed code r e h = absurd (omega (arith, ap numberOf e))
+stopping class.NotSupported true true due shown change completed code r e h = absurd (omega (arith, ap numberOf e))
+stopping class.NotSupported false true due shown change completed code r e h = absurd (omega (arith, ap numberOf e))
+
+pub run-stays : (stand : Stand) (control : Control) → runsOf (stand .told) ≡ true → (writeOf stand control .stand .told ≡ stand .told) ⊎ Stops (control .code)
+unfolding heededOf
+run-stays stand control h =
+    pick-all (λ (s : Step). (s .stand .told ≡ stand .told) ⊎ Stops (control .code)) _ _ _
+    (λ y.
+    inr
+    (stopping (entryOf (control .code) .class) _ _ _ _ _ _ (control .code) h
+    (zero-taken _ (eqb-true (numberOf (refusalOf stand (entryOf (control .code) .class) control)) 0 y))
+    (named (control .code))))
+    (λ n. inl refl)
 
 -- Every completion and cancel leaves an acknowledgement due; what does not complete at once runs.
 abbrev pub Leaves : Class → Told → Type 0

@@ -29,14 +29,6 @@ pub closing-rows : Closing
 unfolding closingOf
 closing-rows = record { whole = refl; cut = refl; unknown = refl; full = refl }
 
-pub record Text : Type 0 where
-  pub whole : closingText Whole ≡ []
-  pub cut : closingText Cut ≡ stopText
-  pub unknown : closingText UnknownKind ≡ stopText
-
-pub text-rows : Text
-text-rows = record { whole = refl; cut = refl; unknown = refl }
-
 -- Where no record is found, the closing line is all that is printed.
 pub replay-ended : (m : Mailbox) (s : List ℕ) (ending : Ending) → nextOf s 0 ≡ Ended ending → replayOf m s ≡ closingText ending
 unfolding shownOf

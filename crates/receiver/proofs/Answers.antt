@@ -12,9 +12,9 @@ use Rattle.wire.specs.declared.request.Request.{Request}
 use Rattle.wire.specs.declared.request.Parsed.the-variants as Par
 use Rattle.receiver_phases.specs.Phase.{acceptedOf}
 use Rattle.receiver_phases.specs.declared.answer.Answer.the-variants.{Malformed, OutOfRange, BufferShort, ImageLength}
-use Rattle.receiver_steps.specs.Range.{outOfRange}
-use Rattle.receiver_steps.specs.Request.{decideOf}
-use Rattle.receiver_steps.specs.declared.range.Verdict.{Verdict}
+use Rattle.receiver_rules.specs.Range.{outOfRange}
+use Rattle.receiver_rules.specs.Request.{decideOf}
+use Rattle.receiver_phases.specs.declared.verdict.Verdict.{Verdict}
 use Rattle.receiver.specs.Session.{ends}
 use Rattle.receiver.specs.Request.{effect, doneOf, readOf, requestOf}
 use Rattle.receiver.specs.Sum.{sumOf}

@@ -7,14 +7,14 @@ use Rattle.wire.specs.Request as message
 use Rattle.wire.specs.declared.request.Request.{Request}
 use Rattle.wire.specs.declared.request.Request.the-variants as Req
 use Rattle.wire.specs.declared.request.Parsed.the-variants.{Valid}
-use Rattle.receiver_steps.specs.Request.{decideOf}
-use Rattle.receiver_steps.proofs.Row.{ToGood, ToAwait, Enters, decide-row}
+use Rattle.receiver_rules.specs.Request.{decideOf}
+use Rattle.receiver_rules.proofs.Row.{ToGood, ToAwait, Enters, decide-row}
 use Rattle.receiver_phases.specs.declared.phase.Accepted.{Accepted}
 use Rattle.receiver_phases.specs.declared.phase.Progress.{Progress}
 use Rattle.receiver_phases.specs.declared.phase.Phase.{Phase}
 use Rattle.receiver_phases.specs.declared.phase.Phase.the-variants.{Idle, Transfer, Await, Good}
-use Rattle.receiver_steps.specs.declared.range.Verdict.{Verdict}
-use Rattle.receiver_steps.specs.declared.range.Verdict.the-variants as Ver
+use Rattle.receiver_phases.specs.declared.verdict.Verdict.{Verdict}
+use Rattle.receiver_phases.specs.declared.verdict.Verdict.the-variants as Ver
 use Rattle.receiver.specs.declared.session.Receiver.{Receiver}
 use Rattle.receiver.proofs.Walk.{request-walk}
 use Rattle.receiver.proofs.Laws.{next}

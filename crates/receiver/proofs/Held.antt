@@ -1,5 +1,5 @@
 -- What every session that calls lead to holds: the accepted blocks, in order, are the first bytes of the image, and the counts are theirs.
-use Prim.Native.Nat.{ℕ, _*_, _-_, _<_, _≤_}
+use Prim.Native.Nat.{ℕ, _*_, _<_, _≤_}
 use mathlib.Core.Bool.{Bool, false}
 use mathlib.Core.Path.{_≡_, refl}
 use mathlib.Core.List.{List, [], _∷_}
@@ -11,7 +11,7 @@ use Rattle.receiver_phases.specs.declared.phase.Accepted.{Accepted}
 use Rattle.receiver_phases.specs.declared.phase.Phase.{Phase}
 use Rattle.receiver_phases.specs.declared.phase.Phase.the-variants.{Idle, Transfer, Await, Good}
 use Rattle.receiver_phases.specs.Phase.{nothing}
-use Rattle.receiver_steps.specs.Request.{progress}
+use Rattle.receiver_rules.specs.Request.{progress}
 use Rattle.receiver.specs.History.{inOrder, forgets}
 
 abbrev pub Whole : List (List ℕ) → Type 0

@@ -1,5 +1,5 @@
 -- Every step keeps what a session holds: the accepted blocks stay the first bytes of the image.
-use Prim.Native.Nat.{ℕ, _+_, _*_, _<_, _≤_}
+use Prim.Native.Nat.{ℕ, _*_, _<_, _≤_}
 use mathlib.Core.Bool.{false}
 use mathlib.Core.Path.{_≡_, refl, sym, _∙_, ap}
 use mathlib.Core.List.{List, _++_}
@@ -16,15 +16,15 @@ use Rattle.wire.specs.declared.request.Request.{Request}
 use Rattle.wire.specs.declared.request.Request.the-variants as Req
 use Rattle.wire.specs.declared.request.Parsed.the-variants as Par
 use Rattle.receiver_phases.specs.Answer.{numberOf}
-use Rattle.receiver_steps.specs.Request.{offerOf, againOf, initiateOf, passesCapacity, closeOf, takeOf, transferOf, dataOf, judgeOf, validateOf, abortOf, decideOf}
-use Rattle.receiver_steps.proofs.Within.{within}
+use Rattle.receiver_rules.specs.Request.{offerOf, againOf, initiateOf, passesCapacity, closeOf, takeOf, transferOf, dataOf, judgeOf, validateOf, abortOf, decideOf}
+use Rattle.receiver_rules.proofs.Within.{within}
 use Rattle.receiver_phases.specs.declared.phase.Accepted.{Accepted}
 use Rattle.receiver_phases.specs.declared.phase.Progress.{Progress}
 use Rattle.receiver_phases.specs.declared.phase.Phase.{Phase}
 use Rattle.receiver_phases.specs.declared.phase.Phase.the-variants.{Idle, Transfer, Await, Good}
-use Rattle.receiver_steps.specs.declared.range.Verdict.{Verdict}
-use Rattle.receiver_steps.specs.declared.range.Verdict.the-variants as Ver
-use Rattle.receiver_steps.specs.declared.request.Step.{Step}
+use Rattle.receiver_phases.specs.declared.verdict.Verdict.{Verdict}
+use Rattle.receiver_phases.specs.declared.verdict.Verdict.the-variants as Ver
+use Rattle.receiver_phases.specs.declared.step.Step.{Step}
 use Rattle.receiver.specs.Request.{imageOf}
 use Rattle.receiver.specs.History.{takenBy, inOrder}
 use Rattle.receiver.proofs.Held.{Held, whole-bytes, not-short, nothing-held, none-taken}

@@ -4,18 +4,17 @@ use mathlib.Core.Bool.{true, false, true≢false}
 use mathlib.Core.Path.{_≡_, refl, sym, _∙_}
 use mathlib.Core.List.{List}
 use Rattle.basis.specs.Pick.{when-met}
-use Rattle.basis.specs.Left.{leaves}
 use Rattle.wire.specs.declared.request.Request.{Request}
 use Rattle.receiver_phases.specs.Answer.{numberOf}
-use Rattle.receiver_steps.specs.Request.{decideOf}
-use Rattle.receiver_steps.proofs.Row.{keepsAll, keepsPhase, endsIdle, Stays, Row, decide-row}
+use Rattle.receiver_rules.specs.Request.{decideOf}
+use Rattle.receiver_rules.proofs.Row.{keepsAll, keepsPhase, endsIdle, Stays, Row, decide-row}
 use Rattle.receiver_phases.specs.declared.phase.Accepted.{Accepted}
 use Rattle.receiver_phases.specs.declared.phase.Phase.{Phase}
 use Rattle.receiver_phases.specs.declared.phase.Phase.the-variants.{Idle, Good}
-use Rattle.receiver_steps.specs.declared.range.Verdict.{Verdict}
-use Rattle.receiver_steps.specs.declared.request.Store.{Store}
-use Rattle.receiver_steps.specs.declared.request.Store.the-variants.{Nowhere}
-use Rattle.receiver_steps.specs.declared.request.Step.{Step}
+use Rattle.receiver_phases.specs.declared.verdict.Verdict.{Verdict}
+use Rattle.receiver_phases.specs.declared.step.Store.{Store}
+use Rattle.receiver_phases.specs.declared.step.Store.the-variants.{Nowhere}
+use Rattle.receiver_phases.specs.declared.step.Step.{Step}
 use Rattle.receiver.specs.Request.{Effect, imageOf, requestOf}
 use Rattle.receiver.specs.declared.session.Receiver.{Receiver}
 use Rattle.receiver.proofs.Walk.{request-walk}

@@ -24,11 +24,11 @@ use Rattle.receiver_phases.specs.declared.phase.Accepted.{Accepted}
 use Rattle.receiver_phases.specs.declared.phase.Progress.{Progress}
 use Rattle.receiver_phases.specs.declared.phase.Phase.{Phase}
 use Rattle.receiver_phases.specs.declared.phase.Phase.the-variants.{Idle, Transfer, Await, Good}
-use Rattle.receiver_steps.specs.Request.{decideOf}
-use Rattle.receiver_steps.proofs.Orders.{answers-22}
-use Rattle.receiver_steps.specs.declared.range.Verdict.{Verdict}
-use Rattle.receiver_steps.specs.declared.request.Step.{Step}
-use Rattle.receiver_time.proofs.Laws.{Lasts}
+use Rattle.receiver_rules.specs.Request.{decideOf}
+use Rattle.receiver_rules.proofs.Orders.{answers-22}
+use Rattle.receiver_phases.specs.declared.verdict.Verdict.{Verdict}
+use Rattle.receiver_phases.specs.declared.step.Step.{Step}
+use Rattle.receiver_rules.proofs.Elapsed.{Lasts}
 use Rattle.receiver.specs.Request.{requestOf}
 use Rattle.receiver.specs.Time.{timeOf}
 use Rattle.receiver.specs.History.{acceptsBlock, forgets, takenBy, takenAfter, inOrder, Reached, asks, passes}

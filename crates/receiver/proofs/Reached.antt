@@ -1,5 +1,5 @@
 -- Every session that calls lead to holds what was accepted.
-use Prim.Native.Nat.{ℕ, _-_, _≤_}
+use Prim.Native.Nat.{ℕ, _≤_}
 use mathlib.Core.Bool.{false}
 use mathlib.Core.Path.{_≡_, refl}
 use mathlib.Core.List.{List}
@@ -10,10 +10,10 @@ use Rattle.wire.specs.Request as message
 use Rattle.wire.specs.declared.request.Request.the-variants as Req
 use Rattle.wire.specs.declared.request.Parsed.{Parsed}
 use Rattle.wire.specs.declared.request.Parsed.the-variants as Par
-use Rattle.receiver_time.proofs.Laws.{Lasts}
+use Rattle.receiver_rules.proofs.Elapsed.{Lasts}
 use Rattle.receiver_phases.specs.declared.phase.Phase.{Phase}
 use Rattle.receiver_phases.specs.declared.phase.Phase.the-variants.{Idle, Transfer, Await, Good}
-use Rattle.receiver_steps.specs.declared.range.Verdict.{Verdict}
+use Rattle.receiver_phases.specs.declared.verdict.Verdict.{Verdict}
 use Rattle.receiver.specs.Request.{requestOf}
 use Rattle.receiver.specs.Time.{timeOf}
 use Rattle.receiver.specs.History.{carried, acceptsBlock, forgets, takenBy, takenAfter, Reached, starts, asks, passes}

@@ -10,10 +10,10 @@ use Rattle.receiver_phases.specs.Phase.{accepts}
 use Rattle.receiver_phases.specs.declared.answer.Answer.the-variants.{NotDue}
 use Rattle.receiver_phases.specs.declared.phase.Phase.{Phase}
 use Rattle.receiver_phases.specs.declared.phase.Phase.the-variants.{Transfer}
-use Rattle.receiver_steps.specs.Range.{outOfRange}
-use Rattle.receiver_steps.specs.Request.{to, progress, decideOf}
-use Rattle.receiver_steps.proofs.Orders.{answers-22}
-use Rattle.receiver_steps.specs.declared.range.Verdict.{Verdict}
+use Rattle.receiver_rules.specs.Range.{outOfRange}
+use Rattle.receiver_rules.specs.Request.{to, progress, decideOf}
+use Rattle.receiver_rules.proofs.Orders.{answers-22}
+use Rattle.receiver_phases.specs.declared.verdict.Verdict.{Verdict}
 use Rattle.receiver.specs.Request.{doneOf, requestOf}
 use Rattle.receiver.specs.declared.session.Receiver.{Receiver}
 use Rattle.receiver.proofs.Answers.{answers-step}

@@ -1,8 +1,9 @@
 -- How a session starts, in the paper's own numbers (01, Sizes and numbers).
 use Prim.Native.Nat.{ℕ, _<_, _≤_}
+use mathlib.Core.List.{[], _∷_, map}
 use mathlib.Core.Path.{_≡_, refl}
 use native.Mathlib.Omega.{arith}
-use borrow.Author.Tests.{le-ltb, ltb-false}
+use borrow.Author.Tests.{le-ltb, lt-ltb}
 use lib.Dec.{ltb}
 use Rattle.basis.specs.Pick.{pick, pick-all}
 use Rattle.silence.specs.Settings as silent
@@ -35,21 +36,22 @@ module _ (limit resends : ℕ) (identity : Identity) (capacity : ℕ) where
       let few : capacity ≤ capacityMost = omega arith in
       rw (le-ltb capacityMost capacity few, within-made limit resends h)
 
-  -- Above a capacity of 1,048,575: 29.
-  pub start-29-capacity : 1048575 < capacity → numberOf (startOf limit resends identity capacity) ≡ 29
-  unfolding startOf
-  start-29-capacity h =
-      pick-all (λ (x : Started). numberOf x ≡ 29) (ltb capacityMost capacity) _ _ (λ _. refl)
-      (λ t. let few = ltb-false capacityMost capacity t in absurd (omega arith))
+  -- Above a capacity of 1,048,575: 29, no session.
+  pub start-29-capacity : 1048575 < capacity → startOf limit resends identity capacity ≡ Refused
+  unfolding startOf pick
+  start-29-capacity h = rw (lt-ltb capacityMost capacity (omega arith))
 
-  fresh-29 : (x : Checked) → silent.numberOf x ≡ 29 → numberOf (freshOf x identity capacity) ≡ 29
+  fresh-29 : (x : Checked) → silent.numberOf x ≡ 29 → freshOf x identity capacity ≡ Refused
   unfolding freshOf
   fresh-29 (Che.Made settings) e = absurd (omega arith)
   fresh-29 Che.Refused e = refl
 
-  -- A silence limit or resend count outside its limits: 29.
-  pub start-29-settings : (Within limit resends → ⊥) → numberOf (startOf limit resends identity capacity) ≡ 29
+  -- A silence limit or resend count outside its limits: 29, no session.
+  pub start-29-settings : (Within limit resends → ⊥) → startOf limit resends identity capacity ≡ Refused
   unfolding startOf
   start-29-settings h =
-      pick-all (λ (x : Started). numberOf x ≡ 29) (ltb capacityMost capacity) _ _ (λ _. refl)
+      pick-all (λ (x : Started). x ≡ Refused) (ltb capacityMost capacity) _ _ (λ _. refl)
       (λ _. fresh-29 (silent.settingsOf limit resends) (outside-29 limit resends h))
+
+pub started-rows : (r : Receiver) → map numberOf (Made r ∷ Refused ∷ []) ≡ 0 ∷ 29 ∷ []
+started-rows r = refl

@@ -7,21 +7,21 @@ use mathlib.Core.List.{List, _++_}
 use native.Mathlib.Omega.{arith}
 use lib.Dec.{ltb}
 use lib.ListN.{length, take, drop}
-use Rattle.lent.proofs.Laws.{put-fits, put-length, pasted-before, pasted-there, pasted-behind}
+use Rattle.lent.proofs.Laws.{put-fits, put-length, pasted-there, pasted-behind}
 use Rattle.wire.specs.Request as message
 use Rattle.wire.proofs.Sizes.{request-sized}
 use Rattle.wire.specs.declared.request.Request.{Request}
 use Rattle.wire.specs.declared.request.Request.the-variants as Req
 use Rattle.wire.specs.declared.request.Parsed.the-variants.{Valid}
 use Rattle.receiver_phases.specs.Phase.{accepts}
-use Rattle.receiver_steps.specs.Request.{progress, decideOf}
-use Rattle.receiver_steps.proofs.Row.{Taken, Puts, decide-row}
+use Rattle.receiver_rules.specs.Request.{progress, decideOf}
+use Rattle.receiver_rules.proofs.Row.{Taken, Puts, decide-row}
 use Rattle.receiver_phases.specs.declared.phase.Progress.{Progress}
 use Rattle.receiver_phases.specs.declared.phase.Phase.{Phase}
 use Rattle.receiver_phases.specs.declared.phase.Phase.the-variants.{Idle, Transfer, Await, Good}
-use Rattle.receiver_steps.specs.declared.range.Verdict.{Verdict}
-use Rattle.receiver_steps.specs.declared.request.Store.{Store}
-use Rattle.receiver_steps.specs.declared.request.Store.the-variants.{Nowhere, At}
+use Rattle.receiver_phases.specs.declared.verdict.Verdict.{Verdict}
+use Rattle.receiver_phases.specs.declared.step.Store.{Store}
+use Rattle.receiver_phases.specs.declared.step.Store.the-variants.{Nowhere, At}
 use Rattle.receiver.specs.Request.{imageOf}
 use Rattle.receiver.specs.declared.session.Receiver.{Receiver}
 use Rattle.receiver.proofs.Walk.{request-walk}
@@ -42,7 +42,6 @@ pub record Stored (before : Phase) (capacity : ℕ) (request image image′ : Li
   pub low : number ≤ 4095
   pub lent : length image ≡ capacity
   pub fits : 256 * number + size ≤ capacity
-  pub ahead : take (256 * number) image′ ≡ take (256 * number) image
   pub there : take (256 * number + size) image′ ≡ take (256 * number) image ++ drop 4 request
   pub behind : drop (256 * number + size) image′ ≡ drop (256 * number + size) image
   pub counted : then ≡ Transfer (progress (accepts (number + 1) (256 * number + size)) (ltb size 256))
@@ -72,7 +71,6 @@ module _ (image request : List ℕ) (capacity : ℕ) (room : length image ≡ ca
         low = t .low;
         lent = room;
         fits = fits;
-        ahead = pasted-before image (256 * number) (drop 4 request) at;
         there = rw (← (size .1)) (pasted-there image (256 * number) (drop 4 request) at);
         behind = rw (← (size .1)) (pasted-behind image (256 * number) (drop 4 request) at);
         counted = t .counted;

@@ -10,8 +10,8 @@ use Rattle.basis.specs.Left.{left}
 use Rattle.silence.specs.declared.Settings.{Settings}
 use Rattle.receiver_phases.specs.Answer.{numberOf}
 use Rattle.receiver_phases.specs.declared.answer.Answer.the-variants.{BufferShort, Passed}
-use Rattle.receiver_time.specs.Time.{after, passOf}
-use Rattle.receiver_time.proofs.Laws.{Lasts, idle-still, good-still, pass-ticks, pass-many}
+use Rattle.receiver_rules.specs.Time.{after, passOf}
+use Rattle.receiver_rules.proofs.Elapsed.{Lasts, idle-still, good-still, pass-ticks, pass-many}
 use Rattle.receiver_phases.specs.declared.phase.Accepted.{Accepted}
 use Rattle.receiver_phases.specs.declared.phase.Phase.{Phase}
 use Rattle.receiver_phases.specs.declared.phase.Phase.the-variants.{Idle, Transfer, Await, Good}

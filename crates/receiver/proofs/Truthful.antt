@@ -1,7 +1,7 @@
 -- What one call owes whoever reads its response: success is told by a receiver that has marked the image good, and by no other.
 use Prim.Native.Nat.{ℕ}
 use mathlib.Core.Bool.{true, true≢false}
-use mathlib.Core.Path.{_≡_, refl, sym, ap, subst, _∙_}
+use mathlib.Core.Path.{_≡_, refl, sym, ap, _∙_}
 use mathlib.Core.List.{List}
 use lib.ListN.{take}
 use Rattle.basis.specs.Pick.{pick}
@@ -14,19 +14,21 @@ use Rattle.wire.specs.declared.response.Parsed.the-variants as Par
 use Rattle.receiver_phases.specs.Answer.{identified, initiated, receipt, validated, replyOf}
 use Rattle.receiver_phases.specs.declared.answer.Answer.{Answer}
 use Rattle.receiver_phases.specs.declared.answer.Answer.the-variants.{Identified, Offered, Asking, Closed, Success, Later, Aborted, Passed, Malformed, UnexpectedInitiate, UnexpectedData, UnexpectedValidate, Unexpected, NotDue, PassesCapacity, WrongFile, VerdictBad, OutOfRange, BufferShort, ImageLength}
+use Rattle.receiver_phases.specs.declared.phase.Accepted.{Accepted}
 use Rattle.receiver_phases.specs.declared.phase.Phase.{Phase}
 use Rattle.receiver_phases.specs.declared.phase.Phase.the-variants.{Idle, Transfer, Await, Good}
 use Rattle.receiver_phases.proofs.Truth.{IsGood, Tells}
-use Rattle.receiver_steps.specs.Request.{decideOf}
-use Rattle.receiver_steps.specs.declared.range.Verdict.{Verdict}
-use Rattle.receiver_steps.proofs.Row.{Stays, decide-row}
-use Rattle.receiver_time.specs.Time.{passOf}
-use Rattle.receiver_time.proofs.Laws.{pass-ticks}
+use Rattle.receiver_rules.specs.Request.{decideOf}
+use Rattle.receiver_phases.specs.declared.verdict.Verdict.{Verdict}
+use Rattle.receiver_rules.proofs.Row.{decide-row}
+use Rattle.receiver_rules.specs.Time.{passOf}
+use Rattle.receiver_rules.proofs.Elapsed.{pass-ticks}
 use Rattle.receiver.specs.Request.{requestOf}
 use Rattle.receiver.specs.Respond.{replyBytes, bytesOf}
 use Rattle.receiver.specs.Time.{timeOf}
 use Rattle.receiver.specs.declared.session.Receiver.{Receiver}
 use Rattle.receiver.proofs.Walk.{request-walk, time-walk}
+use Rattle.receiver.proofs.Laws.{good-stays}
 use Rattle.receiver.proofs.TimeLaws.{time-good}
 use Rattle.receiver.proofs.Written.{first-bytes, request-leads, time-leads}
 
@@ -67,11 +69,11 @@ module _ (r : Receiver) (phase : Phase) where
   bytes-truthful BufferShort h e = absurd e
   bytes-truthful ImageLength h e = absurd e
 
-stays-good : (before next : Phase) → Stays before next → IsGood before → IsGood next
-stays-good Idle next s g = absurd g
-stays-good (Transfer p) next s g = absurd g
-stays-good (Await a) next s g = absurd g
-stays-good (Good a) next s g = rw s tt
+good-carried : (before next : Phase) → ((a : Accepted) → before ≡ Good a → next ≡ Good a) → IsGood before → IsGood next
+good-carried Idle next h g = absurd g
+good-carried (Transfer p) next h g = absurd g
+good-carried (Await a) next h g = absurd g
+good-carried (Good a) next h g = rw (h a refl) tt
 
 module _ (r : Receiver) (image request : List ℕ) (readiness : ℕ) (verdict : Verdict) (out : List ℕ) where
   abbrev then : Phase
@@ -93,9 +95,7 @@ module _ (r : Receiver) (image request : List ℕ) (readiness : ℕ) (verdict : 
 
   -- What was told once stays true: Good is never left.
   pub request-stays-good : IsGood (r .phase) → IsGood then
-  request-stays-good g =
-      request-walk r image request readiness verdict out (λ x. IsGood (x .outcome .state .phase)) g g g g
-      (λ q _ _ _. stays-good (r .phase) _ (decide-row (r .phase) q (r .capacity) readiness verdict .stays) g)
+  request-stays-good = good-carried (r .phase) then (good-stays r image request readiness verdict out)
 
 module _ (r : Receiver) (elapsed : ℕ) (out : List ℕ) where
   abbrev passed : Phase
@@ -112,11 +112,5 @@ module _ (r : Receiver) (elapsed : ℕ) (out : List ℕ) where
   pub time-truthful : Truthful passed (take (timeOf r elapsed out .answer .written) (timeOf r elapsed out .memory))
   time-truthful = rw (first-bytes r out _ _ (time-leads r elapsed out)) tick-truthful
 
-  good-at : (phase : Phase) → r .phase ≡ phase → IsGood phase → IsGood passed
-  good-at Idle e g = absurd g
-  good-at (Transfer p) e g = absurd g
-  good-at (Await a) e g = absurd g
-  good-at (Good a) e g = subst IsGood (sym (ap (λ (x : Receiver). x .phase) (time-good r elapsed out a e) ∙ e)) tt
-
   pub time-stays-good : IsGood (r .phase) → IsGood passed
-  time-stays-good g = good-at (r .phase) refl g
+  time-stays-good = good-carried (r .phase) passed (λ a e. ap (λ (x : Receiver). x .phase) (time-good r elapsed out a e) ∙ e)

@@ -5,7 +5,7 @@ use mathlib.Core.List.{List}
 use Rattle.basis.specs.Only.{only}
 use Rattle.basis.specs.Left.{left}
 use Rattle.wire.specs.declared.response.Identity.{Identity}
-use Rattle.receiver_steps.specs.declared.range.Verdict.{Verdict}
+use Rattle.receiver_phases.specs.declared.verdict.Verdict.{Verdict}
 use Rattle.receiver.specs.Session as session
 use Rattle.receiver.specs.Request.{effect, requestOf}
 use Rattle.receiver.specs.Time.{timeOf}

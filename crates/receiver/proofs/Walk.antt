@@ -13,10 +13,10 @@ use Rattle.wire.specs.declared.request.Request.{Request}
 use Rattle.wire.specs.declared.request.Parsed.{Parsed}
 use Rattle.wire.specs.declared.request.Parsed.the-variants as Par
 use Rattle.receiver_phases.specs.declared.answer.Answer.the-variants.{Malformed, OutOfRange, BufferShort, ImageLength}
-use Rattle.receiver_steps.specs.Range.{outOfRange}
-use Rattle.receiver_steps.specs.Request.{decideOf}
-use Rattle.receiver_time.specs.Time.{passOf}
-use Rattle.receiver_steps.specs.declared.range.Verdict.{Verdict}
+use Rattle.receiver_rules.specs.Range.{outOfRange}
+use Rattle.receiver_rules.specs.Request.{decideOf}
+use Rattle.receiver_rules.specs.Time.{passOf}
+use Rattle.receiver_phases.specs.declared.verdict.Verdict.{Verdict}
 use Rattle.receiver.specs.Session.{ends}
 use Rattle.receiver.specs.Request.{Effect, kept, doneOf, readOf, requestOf}
 use Rattle.receiver.specs.Time.{tickedOf, spendOf, timeOf}

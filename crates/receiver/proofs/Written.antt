@@ -22,11 +22,11 @@ use Rattle.receiver_phases.specs.Answer.{replyOf}
 use Rattle.receiver_phases.specs.declared.answer.Answer.{Answer}
 use Rattle.receiver_phases.specs.declared.answer.Reply.{Reply}
 use Rattle.receiver_phases.specs.declared.answer.Reply.the-variants.{Nothing, Sends}
-use Rattle.receiver_steps.specs.Request.{decideOf, abortOf}
-use Rattle.receiver_time.specs.Time.{passOf}
+use Rattle.receiver_rules.specs.Request.{decideOf, abortOf}
+use Rattle.receiver_rules.specs.Time.{passOf}
 use Rattle.receiver_phases.specs.declared.phase.Phase.{Phase}
 use Rattle.receiver_phases.specs.declared.phase.Phase.the-variants.{Idle, Transfer, Await, Good}
-use Rattle.receiver_steps.specs.declared.range.Verdict.{Verdict}
+use Rattle.receiver_phases.specs.declared.verdict.Verdict.{Verdict}
 use Rattle.receiver.specs.Respond.{replyBytes, bytesOf}
 use Rattle.receiver.specs.Request.{requestOf}
 use Rattle.receiver.specs.Time.{timeOf}

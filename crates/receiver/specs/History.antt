@@ -17,7 +17,7 @@ use Rattle.wire.specs.declared.response.Identity.{Identity}
 use Rattle.receiver_phases.specs.Answer.{numberOf}
 use Rattle.receiver_phases.specs.declared.phase.Phase.{Phase}
 use Rattle.receiver_phases.specs.declared.phase.Phase.the-variants.{Idle, Transfer, Await, Good}
-use Rattle.receiver_steps.specs.declared.range.Verdict.{Verdict}
+use Rattle.receiver_phases.specs.declared.verdict.Verdict.{Verdict}
 use Rattle.receiver.specs.Session.{startOf}
 use Rattle.receiver.specs.Request.{requestOf}
 use Rattle.receiver.specs.Time.{timeOf}

@@ -10,14 +10,14 @@ use Rattle.wire.specs.Codes.{longest, dataHead}
 use Rattle.wire.specs.Request as message
 use Rattle.wire.specs.declared.request.Parsed.{Parsed}
 use Rattle.wire.specs.declared.request.Parsed.the-variants as Par
-use Rattle.receiver_steps.specs.Range.{outOfRange}
-use Rattle.receiver_steps.specs.Request.{decideOf}
-use Rattle.receiver_steps.specs.declared.range.Verdict.{Verdict}
+use Rattle.receiver_rules.specs.Range.{outOfRange}
+use Rattle.receiver_rules.specs.Request.{decideOf}
+use Rattle.receiver_phases.specs.declared.verdict.Verdict.{Verdict}
 use Rattle.receiver_phases.specs.declared.answer.Answer.{Answer}
 use Rattle.receiver_phases.specs.declared.answer.Answer.the-variants.{Malformed, OutOfRange, BufferShort, ImageLength}
-use Rattle.receiver_steps.specs.declared.request.Store.{Store}
-use Rattle.receiver_steps.specs.declared.request.Store.the-variants.{Nowhere, At}
-use Rattle.receiver_steps.specs.declared.request.Step.{Step}
+use Rattle.receiver_phases.specs.declared.step.Store.{Store}
+use Rattle.receiver_phases.specs.declared.step.Store.the-variants.{Nowhere, At}
+use Rattle.receiver_phases.specs.declared.step.Step.{Step}
 use Rattle.receiver.specs.Session.{ends, moved}
 use Rattle.receiver.specs.Respond.{bytesOf}
 use Rattle.receiver.specs.declared.session.Receiver.{Receiver}

@@ -1,9 +1,6 @@
--- The bytes of the response that goes out with an answer, and the buffer that they lead (01, Numbers we answer).
+-- The bytes of the response that goes out with an answer (01, Numbers we answer).
 use Prim.Native.Nat.{ℕ}
 use mathlib.Core.List.{List, []}
-use lib.ListN.{length}
-use Rattle.basis.specs.Left.{Left, left}
-use Rattle.lent.specs.Led.{led}
 use Rattle.wire.specs.Written.{responseBytes}
 use Rattle.receiver_phases.specs.Answer.{replyOf}
 use Rattle.receiver_phases.specs.declared.answer.Answer.{Answer}
@@ -14,10 +11,6 @@ use Rattle.receiver.specs.declared.session.Receiver.{Receiver}
 unfoldable pub replyBytes : Reply → List ℕ
 replyBytes Nothing = []
 replyBytes (Sends response) = responseBytes response
-
--- A response buffer is written in its first bytes only; the rest is kept.
-abbrev pub leads : List ℕ → List ℕ → Left ℕ
-leads bytes out = left (length bytes) (led bytes out)
 
 abbrev pub bytesOf : Receiver → Answer → List ℕ
 bytesOf r answer = replyBytes (replyOf (r .identity) (r .capacity) answer)

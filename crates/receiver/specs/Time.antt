@@ -7,9 +7,9 @@ use Rattle.basis.specs.Pick.{pick}
 use Rattle.basis.specs.Left.{Left, left}
 use Rattle.lent.specs.Led.{led}
 use Rattle.wire.specs.Codes.{longest}
-use Rattle.receiver_time.specs.Time.{passOf}
+use Rattle.receiver_rules.specs.Time.{passOf}
 use Rattle.receiver_phases.specs.declared.answer.Answer.the-variants.{BufferShort}
-use Rattle.receiver_time.specs.declared.Tick.{Tick}
+use Rattle.receiver_phases.specs.declared.step.Tick.{Tick}
 use Rattle.receiver.specs.Session.{ends, moved}
 use Rattle.receiver.specs.Respond.{bytesOf}
 use Rattle.receiver.specs.declared.session.Receiver.{Receiver}

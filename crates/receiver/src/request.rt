@@ -5,9 +5,8 @@ use crate::session::Outcome;
 use crate::session::Receiver;
 use crate::store::keep;
 use receiver_phases::answer::Answer;
-use receiver_steps::range;
-use receiver_steps::range::Verdict;
-use receiver_steps::request::decide;
+use receiver_phases::verdict::Verdict;
+use receiver_steps::decide;
 use wire::codes;
 use wire::request::Parsed;
 use wire::request::Request;
@@ -17,7 +16,7 @@ ghost use lib.ListN.{length};
 ghost use Rattle.wire.specs.Codes.{longest};
 ghost use Rattle.wire.specs.Request.{requestOf as messageOf};
 ghost use Rattle.wire.specs.declared.request.Parsed.the-variants.{Valid};
-ghost use Rattle.receiver_steps.specs.Request.{decideOf};
+ghost use Rattle.receiver_rules.specs.Request.{decideOf};
 ghost use Rattle.receiver.specs.Request.{effect, doneOf, readOf, requestOf};
 
 impl Receiver {
@@ -37,7 +36,7 @@ impl Receiver {
         if out.len() < codes::LONGEST {
             return self.refuse(Answer::BufferShort);
         }
-        if range::out_of_range(readiness, verdict) {
+        if receiver_steps::out_of_range(readiness, verdict) {
             return self.refuse(Answer::OutOfRange);
         }
         self.read(image, request, readiness, verdict, out)

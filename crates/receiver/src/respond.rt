@@ -10,7 +10,8 @@ ghost use Rattle.basis.specs.Left.{left};
 ghost use Rattle.wire.specs.Codes.{longest};
 ghost use Rattle.wire.specs.Written.{responseBytes};
 ghost use Rattle.receiver_phases.specs.Answer.{replyOf};
-ghost use Rattle.receiver.specs.Respond.{replyBytes, leads};
+ghost use Rattle.lent.specs.Led.{leads};
+ghost use Rattle.receiver.specs.Respond.{replyBytes};
 
 pub(crate) fn respond(out: &mut [u8], identity: Identity, capacity: u32, answer: Answer) -> usize
     requires { ⌜ longest ≤ length (now out) ⌝ }

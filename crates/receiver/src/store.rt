@@ -1,5 +1,5 @@
 // A request's block put into the lent image.
-use receiver_steps::request::Store;
+use receiver_phases::step::Store;
 ghost use mathlib.Core.Path.{_≡_};
 ghost use Prim.Native.Nat.{_≤_};
 ghost use lib.ListN.{length, drop};

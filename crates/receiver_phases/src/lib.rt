@@ -1,3 +1,5 @@
-// Where a receiver stands, and what it answers (01, The receiver's phases; 01, Numbers we answer).
+// Where a receiver stands, what comes with a request, what it answers and what is decided (01, The receiver's phases; 01, Numbers we answer).
 pub mod answer;
 pub mod phase;
+pub mod step;
+pub mod verdict;

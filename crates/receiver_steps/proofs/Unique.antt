@@ -4,11 +4,11 @@ use mathlib.Core.Bool.{Bool}
 use mathlib.Core.Path.{_≡_}
 use Rattle.basis.specs.Only.{only}
 use Rattle.wire.specs.declared.request.Request.{Request}
-use Rattle.receiver_steps.specs.Range.{outOfRange}
-use Rattle.receiver_steps.specs.Request.{decideOf}
+use Rattle.receiver_rules.specs.Range.{outOfRange}
+use Rattle.receiver_rules.specs.Request.{decideOf}
 use Rattle.receiver_phases.specs.declared.phase.Phase.{Phase}
-use Rattle.receiver_steps.specs.declared.range.Verdict.{Verdict}
-use Rattle.receiver_steps.specs.declared.request.Step.{Step}
+use Rattle.receiver_phases.specs.declared.verdict.Verdict.{Verdict}
+use Rattle.receiver_phases.specs.declared.step.Step.{Step}
 
 pub one-out-of-range : (readiness : ℕ) (verdict : Verdict) (r r′ : Bool) → r ≡ outOfRange readiness verdict → r′ ≡ outOfRange readiness verdict → r ≡ r′
 one-out-of-range readiness verdict r r′ p q = only p q

@@ -1,15 +1,9 @@
 // The readiness wait and the verdict that come with each request, and whether they are in range (01, The receiver's phases).
+use receiver_phases::verdict::Verdict;
 ghost use mathlib.Core.Path.{_≡_};
-ghost use Rattle.receiver_steps.specs.Range.{laterOutside, verdictOutside, outOfRange};
+ghost use Rattle.receiver_rules.specs.Range.{laterOutside, verdictOutside, outOfRange};
 
 const WAIT_MOST: u8 = 254;
-
-// Of the image's signature, worked out elsewhere.
-pub enum Verdict {
-    Good,
-    Bad,
-    Later(u8),
-}
 
 fn later_outside(wait: u8) -> bool
     ensures { λ r. ⌜ r ≡ laterOutside wait ⌝ }

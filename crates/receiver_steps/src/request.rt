@@ -1,28 +1,18 @@
 // What the receiver does with a well-formed request, by its phase (01, The receiver's phases).
-use crate::range::Verdict;
 use receiver_phases::answer::Answer;
 use receiver_phases::phase::Accepted;
 use receiver_phases::phase::Phase;
 use receiver_phases::phase::Progress;
+use receiver_phases::step::Step;
+use receiver_phases::step::Store;
+use receiver_phases::verdict::Verdict;
 use wire::request::Request;
 ghost use mathlib.Core.Path.{_≡_};
 ghost use Prim.Native.Nat.{_+_, _*_, _≤_, _<_};
-ghost use Rattle.receiver_steps.specs.Request.{lastNumber, to, offerOf, againOf, initiateOf, passesCapacity, closeOf, takeOf, transferOf, dataOf, judgeOf, validateOf, abortOf, decideOf};
+ghost use Rattle.receiver_rules.specs.Request.{lastNumber, to, offerOf, againOf, initiateOf, passesCapacity, closeOf, takeOf, transferOf, dataOf, judgeOf, validateOf, abortOf, decideOf};
 
 // An image of 1,048,575 bytes has no block above this number (01, Sizes and numbers).
 const LAST_NUMBER: u16 = 4095;
-
-// Whether the request's block is put into the image, and at which number's place.
-pub enum Store {
-    Nowhere,
-    At(u16),
-}
-
-pub struct Step {
-    pub phase: Phase,
-    pub answer: Answer,
-    pub store: Store,
-}
 
 pub fn decide(
     phase: Phase,

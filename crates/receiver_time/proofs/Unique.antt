@@ -4,8 +4,8 @@ use mathlib.Core.Path.{_≡_}
 use Rattle.basis.specs.Only.{only}
 use Rattle.silence.specs.declared.Settings.{Settings}
 use Rattle.receiver_phases.specs.declared.phase.Phase.{Phase}
-use Rattle.receiver_time.specs.Time.{passOf}
-use Rattle.receiver_time.specs.declared.Tick.{Tick}
+use Rattle.receiver_rules.specs.Time.{passOf}
+use Rattle.receiver_phases.specs.declared.step.Tick.{Tick}
 
 pub one-pass : (phase : Phase) (silence elapsed made : ℕ) (settings : Settings) (r r′ : Tick) → r ≡ passOf phase silence elapsed made settings
     → r′ ≡ passOf phase silence elapsed made settings → r ≡ r′

@@ -1,17 +1,11 @@
-// What the receiver does when time passes (01, The receiver's phases).
+// What the receiver decides when time passes. Nothing here touches memory (01, The receiver's phases).
 use receiver_phases::answer::Answer;
 use receiver_phases::phase::Phase;
+use receiver_phases::step::Tick;
 use silence::Event;
 use silence::Settings;
 ghost use mathlib.Core.Path.{_≡_};
-ghost use Rattle.receiver_time.specs.Time.{after, expireOf, waitOf, passOf};
-
-pub struct Tick {
-    pub phase: Phase,
-    pub silence: u16,
-    pub resends: u8,
-    pub answer: Answer,
-}
+ghost use Rattle.receiver_rules.specs.Time.{after, expireOf, waitOf, passOf};
 
 // Transfer asks for the next number with wait 0, Await repeats the closing answer.
 pub fn pass(phase: Phase, silence: u16, elapsed: u16, resends: u8, settings: Settings) -> Tick

@@ -57,11 +57,12 @@ module _ (silence elapsed made : ℕ) (settings : Settings) where
   abbrev after : Grown
   after = grownOf silence elapsed made settings
 
-  walk : (P : Grown → Type 0) → (silence + elapsed < settings .limit → P (grown (silence + elapsed) made Quiet))
+  -- What holds below the limit, of a resend and of the end of resends holds of every call.
+  pub grown-all : (P : Grown → Type 0) → (silence + elapsed < settings .limit → P (grown (silence + elapsed) made Quiet))
       → (settings .limit ≤ silence + elapsed → made < settings .resends → P (grown 0 (made + 1) Resend))
       → (settings .limit ≤ silence + elapsed → settings .resends ≤ made → P (grown 0 made NoneLeft)) → P after
   unfolding grownOf
-  walk P quiet resend none =
+  grown-all P quiet resend none =
       pick-all P (ltb (silence + elapsed) (settings .limit)) _ _
       (λ t. quiet (ltb-true (silence + elapsed) (settings .limit) t))
       (λ f. pick-all P (ltb made (settings .resends)) _ _
@@ -70,36 +71,29 @@ module _ (silence elapsed made : ℕ) (settings : Settings) where
 
   -- Below the limit silence grows by what has elapsed, and nothing is sent again.
   pub below-quiet : silence + elapsed < settings .limit → after ≡ grown (silence + elapsed) made Quiet
-  below-quiet = walk (λ g. silence + elapsed < settings .limit → g ≡ grown (silence + elapsed) made Quiet) (λ _ _. refl) (λ f _ h. absurd (omega arith)) (λ f _ h. absurd (omega arith))
+  below-quiet = grown-all (λ g. silence + elapsed < settings .limit → g ≡ grown (silence + elapsed) made Quiet) (λ _ _. refl) (λ f _ h. absurd (omega arith)) (λ f _ h. absurd (omega arith))
 
   -- At the limit, while resends are left, there is one; with none left, none.
   pub left-resends : settings .limit ≤ silence + elapsed → made < settings .resends → after ≡ grown 0 (made + 1) Resend
-  left-resends = walk (λ g. settings .limit ≤ silence + elapsed → made < settings .resends → g ≡ grown 0 (made + 1) Resend) (λ t h _. absurd (omega arith)) (λ _ _ _ _. refl) (λ _ g _ h. absurd (omega arith))
+  left-resends = grown-all (λ g. settings .limit ≤ silence + elapsed → made < settings .resends → g ≡ grown 0 (made + 1) Resend) (λ t h _. absurd (omega arith)) (λ _ _ _ _. refl) (λ _ g _ h. absurd (omega arith))
 
   pub none-left-ends : settings .limit ≤ silence + elapsed → settings .resends ≤ made → after ≡ grown 0 made NoneLeft
-  none-left-ends = walk (λ g. settings .limit ≤ silence + elapsed → settings .resends ≤ made → g ≡ grown 0 made NoneLeft) (λ t h _. absurd (omega arith)) (λ _ t _ h. absurd (omega arith)) (λ _ _ _ _. refl)
+  none-left-ends = grown-all (λ g. settings .limit ≤ silence + elapsed → settings .resends ≤ made → g ≡ grown 0 made NoneLeft) (λ t h _. absurd (omega arith)) (λ _ t _ h. absurd (omega arith)) (λ _ _ _ _. refl)
 
   -- An expiry sets silence to zero.
   pub expiry-zero : (after .event ≡ Quiet → ⊥) → after .silence ≡ 0
-  expiry-zero = walk (λ g. (g .event ≡ Quiet → ⊥) → g .silence ≡ 0) (λ _ h. absurd (h refl)) (λ _ _ _. refl) (λ _ _ _. refl)
+  expiry-zero = grown-all (λ g. (g .event ≡ Quiet → ⊥) → g .silence ≡ 0) (λ _ h. absurd (h refl)) (λ _ _ _. refl) (λ _ _ _. refl)
 
   -- Silence that reaches the limit exactly is an expiry, and so is any longer one.
   pub limit-expires : settings .limit ≤ silence + elapsed → after .event ≡ Quiet → ⊥
   limit-expires =
-      walk (λ g. settings .limit ≤ silence + elapsed → g .event ≡ Quiet → ⊥) (λ t h _. omega arith)
+      grown-all (λ g. settings .limit ≤ silence + elapsed → g .event ≡ Quiet → ⊥) (λ t h _. omega arith)
       (λ _ _ _ e. let z : _≡_ {A = ℕ} 0 1 = cc in omega arith)
       (λ _ _ _ e. let z : _≡_ {A = ℕ} 0 1 = cc in omega arith)
 
-  -- What is left is always below a limit that a session can have.
-  pub below-limit : 1 ≤ settings .limit → after .silence < settings .limit
-  below-limit = walk (λ g. 1 ≤ settings .limit → g .silence < settings .limit) (λ t _. t) (λ _ _ h. h) (λ _ _ h. h)
-
-  -- One call that passes several limits is one expiry: at most one resend, and never more than the settings allow.
+  -- One call that passes several limits is one expiry: at most one resend.
   pub one-expiry : after .resends ≤ made + 1
-  one-expiry = walk (λ g. g .resends ≤ made + 1) (λ _. omega arith) (λ _ _. omega arith) (λ _ _. omega arith)
-
-  pub resends-within : made ≤ settings .resends → after .resends ≤ settings .resends
-  resends-within = walk (λ g. made ≤ settings .resends → g .resends ≤ settings .resends) (λ _ h. h) (λ _ t _. omega arith) (λ _ _ h. h)
+  one-expiry = grown-all (λ g. g .resends ≤ made + 1) (λ _. omega arith) (λ _ _. omega arith) (λ _ _. omega arith)
 
 -- However many limits a call passes, it does what a call does that reaches the first exactly.
 pub many-limits : (silence made e e′ : ℕ) (settings : Settings) → settings .limit ≤ silence + e → settings .limit ≤ silence + e′

@@ -5,5 +5,4 @@ pub mod RequestBytes
 pub mod Sizes
 pub mod ResponseBytes
 pub mod Types
-pub mod Bench
 pub mod Unique

@@ -1,7 +1,7 @@
 -- Every byte string that is read as a request is the bytes that writing it gives, with the block behind its head, exactly where it is built;
 -- and its fields are such as can be sent.
 use borrow.Author.Tests.{ltb-false}
-use Prim.Native.Nat.{ℕ, _+_, _-_, _≤_}
+use Prim.Native.Nat.{ℕ, _≤_}
 use mathlib.Core.Path.{_≡_, refl, _∙_}
 use mathlib.Core.List.{List, [], _++_}
 use native.Mathlib.Omega.{arith}

@@ -1,5 +1,5 @@
 -- What is in a lent buffer after a message was made and sent there (01, Numbers we answer).
-use Prim.Native.Nat.{ℕ, _<_, _≤_}
+use Prim.Native.Nat.{ℕ, _≤_}
 use mathlib.Core.Path.{_≡_}
 use mathlib.Core.List.{List}
 use native.Mathlib.Omega.{arith}
@@ -25,11 +25,6 @@ module _ (l out : List ℕ) (h : length l ≤ 22) where
   pub sends-whole : length l ≤ length out → sendOf (messageOf l) out ≡ left (Written (length l)) (led l out)
   unfolding messageOf sentOf
   sends-whole k = rw (take-append-seam l (drop (length l) (replicate 22 0))) (simp tests)
-
-  -- A buffer that is too short is answered, not touched.
-  pub sends-nothing : length out < length l → sendOf (messageOf l) out ≡ left TooShort out
-  unfolding messageOf sentOf
-  sends-nothing k = simp tests
 
 -- No more is written than the buffer holds.
 abbrev pub Fits : ℕ → Sent → Type 0

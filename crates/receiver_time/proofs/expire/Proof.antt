@@ -1,4 +1,4 @@
-use Rattle.receiver_time.specs.Time.{expireOf}
+use Rattle.receiver_rules.specs.Time.{expireOf}
 use borrow.Author.Needs.{needs}
 use Rattle.receiver_time.proofs.expire.Statement.{statement}
 use Rattle.receiver_time.proofs.expire.Tie as tie

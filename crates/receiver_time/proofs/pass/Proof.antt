@@ -1,4 +1,4 @@
-use Rattle.receiver_time.specs.Time.{passOf}
+use Rattle.receiver_rules.specs.Time.{passOf}
 use borrow.Author.Needs.{needs}
 use Rattle.receiver_time.proofs.pass.Statement.{statement}
 use Rattle.receiver_time.proofs.pass.Tie as tie

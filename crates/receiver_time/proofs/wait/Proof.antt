@@ -1,4 +1,4 @@
-use Rattle.receiver_time.specs.Time.{waitOf}
+use Rattle.receiver_rules.specs.Time.{waitOf}
 use borrow.Author.Needs.{needs}
 use Rattle.receiver_time.proofs.wait.Statement.{statement}
 use Rattle.receiver_time.proofs.wait.Tie as tie

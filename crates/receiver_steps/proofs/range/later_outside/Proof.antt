@@ -1,5 +1,5 @@
 use Rattle.basis.specs.Pick.{tests}
-use Rattle.receiver_steps.specs.Range.{laterOutside}
+use Rattle.receiver_rules.specs.Range.{laterOutside}
 use Rattle.receiver_steps.proofs.range.later_outside.Statement.{statement}
 use Rattle.receiver_steps.proofs.range.later_outside.Tie as tie
 

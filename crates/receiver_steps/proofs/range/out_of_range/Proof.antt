@@ -1,5 +1,5 @@
 use Rattle.basis.specs.Pick.{tests}
-use Rattle.receiver_steps.specs.Range.{outOfRange}
+use Rattle.receiver_rules.specs.Range.{outOfRange}
 use borrow.Author.Needs.{needs}
 use Rattle.receiver_steps.proofs.range.out_of_range.Statement.{statement}
 use Rattle.receiver_steps.proofs.range.out_of_range.Tie as tie

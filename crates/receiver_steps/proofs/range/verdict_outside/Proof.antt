@@ -1,4 +1,4 @@
-use Rattle.receiver_steps.specs.Range.{verdictOutside}
+use Rattle.receiver_rules.specs.Range.{verdictOutside}
 use borrow.Author.Needs.{needs}
 use Rattle.receiver_steps.proofs.range.verdict_outside.Statement.{statement}
 use Rattle.receiver_steps.proofs.range.verdict_outside.Tie as tie

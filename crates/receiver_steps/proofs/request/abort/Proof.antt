@@ -1,4 +1,4 @@
-use Rattle.receiver_steps.specs.Request.{abortOf}
+use Rattle.receiver_rules.specs.Request.{abortOf}
 use borrow.Author.Needs.{needs}
 use Rattle.receiver_steps.proofs.request.abort.Statement.{statement}
 use Rattle.receiver_steps.proofs.request.abort.Tie as tie

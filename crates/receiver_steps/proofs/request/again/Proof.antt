@@ -1,5 +1,5 @@
 use Rattle.basis.specs.Pick.{tests}
-use Rattle.receiver_steps.specs.Request.{againOf}
+use Rattle.receiver_rules.specs.Request.{againOf}
 use borrow.Author.Needs.{needs}
 use Rattle.receiver_steps.proofs.request.again.Statement.{statement}
 use Rattle.receiver_steps.proofs.request.again.Tie as tie

@@ -1,4 +1,4 @@
-use Rattle.receiver_steps.specs.Request.{dataOf}
+use Rattle.receiver_rules.specs.Request.{dataOf}
 use borrow.Author.Needs.{needs}
 use Rattle.receiver_steps.proofs.request.block.Statement.{statement}
 use Rattle.receiver_steps.proofs.request.block.Tie as tie

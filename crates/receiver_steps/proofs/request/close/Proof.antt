@@ -1,5 +1,5 @@
 use Rattle.basis.specs.Pick.{tests}
-use Rattle.receiver_steps.specs.Request.{closeOf}
+use Rattle.receiver_rules.specs.Request.{closeOf}
 use borrow.Author.Needs.{needs}
 use Rattle.receiver_steps.proofs.request.close.Statement.{statement}
 use Rattle.receiver_steps.proofs.request.close.Tie as tie

@@ -1,4 +1,4 @@
-use Rattle.receiver_steps.specs.Request.{decideOf}
+use Rattle.receiver_rules.specs.Request.{decideOf}
 use borrow.Author.Needs.{needs}
 use Rattle.receiver_steps.proofs.request.decide.Statement.{statement}
 use Rattle.receiver_steps.proofs.request.decide.Tie as tie

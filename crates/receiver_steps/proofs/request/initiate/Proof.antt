@@ -1,4 +1,4 @@
-use Rattle.receiver_steps.specs.Request.{initiateOf}
+use Rattle.receiver_rules.specs.Request.{initiateOf}
 use borrow.Author.Needs.{needs}
 use Rattle.receiver_steps.proofs.request.initiate.Statement.{statement}
 use Rattle.receiver_steps.proofs.request.initiate.Tie as tie

@@ -1,4 +1,4 @@
-use Rattle.receiver_steps.specs.Request.{judgeOf}
+use Rattle.receiver_rules.specs.Request.{judgeOf}
 use borrow.Author.Needs.{needs}
 use Rattle.receiver_steps.proofs.request.judge.Statement.{statement}
 use Rattle.receiver_steps.proofs.request.judge.Tie as tie

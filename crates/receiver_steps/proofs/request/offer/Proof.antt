@@ -1,5 +1,5 @@
 use Rattle.basis.specs.Pick.{tests}
-use Rattle.receiver_steps.specs.Request.{offerOf}
+use Rattle.receiver_rules.specs.Request.{offerOf}
 use borrow.Author.Needs.{needs}
 use Rattle.receiver_steps.proofs.request.offer.Statement.{statement}
 use Rattle.receiver_steps.proofs.request.offer.Tie as tie

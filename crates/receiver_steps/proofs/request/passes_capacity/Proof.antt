@@ -1,5 +1,5 @@
 use Rattle.basis.specs.Pick.{tests}
-use Rattle.receiver_steps.specs.Request.{passesCapacity}
+use Rattle.receiver_rules.specs.Request.{passesCapacity}
 use borrow.Author.Needs.{needs}
 use Rattle.receiver_steps.proofs.request.passes_capacity.Statement.{statement}
 use Rattle.receiver_steps.proofs.request.passes_capacity.Tie as tie

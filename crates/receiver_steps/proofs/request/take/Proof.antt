@@ -1,5 +1,5 @@
 use Rattle.basis.specs.Pick.{tests}
-use Rattle.receiver_steps.specs.Request.{takeOf}
+use Rattle.receiver_rules.specs.Request.{takeOf}
 use borrow.Author.Needs.{needs}
 use Rattle.receiver_steps.proofs.request.take.Statement.{statement}
 use Rattle.receiver_steps.proofs.request.take.Tie as tie

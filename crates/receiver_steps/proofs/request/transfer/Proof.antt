@@ -1,8 +1,8 @@
 use mathlib.Core.Path.{_∙_, sym}
 use native.Mathlib.Omega.{arith}
-use Rattle.receiver_steps.proofs.Within.{within}
+use Rattle.receiver_rules.proofs.Within.{within}
 use Rattle.basis.specs.Pick.{tests}
-use Rattle.receiver_steps.specs.Request.{transferOf}
+use Rattle.receiver_rules.specs.Request.{transferOf}
 use borrow.Author.Needs.{needs}
 use Rattle.receiver_steps.proofs.request.transfer.Statement.{statement}
 use Rattle.receiver_steps.proofs.request.transfer.Tie as tie

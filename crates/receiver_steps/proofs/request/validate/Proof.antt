@@ -1,4 +1,4 @@
-use Rattle.receiver_steps.specs.Request.{validateOf}
+use Rattle.receiver_rules.specs.Request.{validateOf}
 use borrow.Author.Needs.{needs}
 use Rattle.receiver_steps.proofs.request.validate.Statement.{statement}
 use Rattle.receiver_steps.proofs.request.validate.Tie as tie

@@ -10,7 +10,7 @@ hear-spec =
     tie.close
     (tie.spec
     (λ c κs. search needs)
-    (λ c κs. let a = c .before .before .before .before .before .before .args in rw (c .before .decide .ensures) (decide-has (now (a .request)) (a .self .phase) (a .valid) (a .self .capacity) (a .readiness) (a .verdict) (c .before .before .before .before .before .before .pre .1)))
+    (λ c κs. let a = c .before .before .before .before .before .before .args in rw (c .before .decide .ensures) (decide-has (now (a .request)) (a .valid) (a .self .capacity) (c .before .before .before .before .before .before .pre .1) (a .self .phase) (a .readiness) (a .verdict)))
     (λ c κs. search needs)
     (λ c κs. search needs)
     (λ c. search needs)

@@ -1,0 +1,22 @@
+// What is decided on a request, and when time passes.
+use crate::answer::Answer;
+use crate::phase::Phase;
+
+// Whether the request's block is put into the image, and at which number's place.
+pub enum Store {
+    Nowhere,
+    At(u16),
+}
+
+pub struct Step {
+    pub phase: Phase,
+    pub answer: Answer,
+    pub store: Store,
+}
+
+pub struct Tick {
+    pub phase: Phase,
+    pub silence: u16,
+    pub resends: u8,
+    pub answer: Answer,
+}
