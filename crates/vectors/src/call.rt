@@ -8,7 +8,7 @@ use crate::verdict::Judged;
 use receiver::Outcome;
 use receiver::Receiver;
 use receiver::Summed;
-use receiver_steps::range::Verdict;
+use receiver_phases::verdict::Verdict;
 use wire::codes;
 ghost use Prim.Native.Nat.{_≤_};
 
