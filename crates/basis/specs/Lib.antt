@@ -3,3 +3,4 @@ pub mod Left
 pub mod Only
 pub mod Lists
 pub mod Table
+pub mod Bytes

@@ -17,7 +17,7 @@ use Rattle.indoor_phases.specs.declared.phase.Reason.the-variants.{Silence}
 use Rattle.indoor_phases.specs.declared.phase.Progress.{Progress}
 use Rattle.indoor_phases.specs.declared.phase.Phase.{Phase}
 use Rattle.indoor_phases.specs.declared.phase.Phase.the-variants.{Identify, Initiate, Transfer, Validate, Done, Failed}
-use Rattle.indoor_rules.proofs.Row.{ToValidate, ToDone, Enters, decide-row}
+use Rattle.indoor_rules.proofs.Owes.{ToValidate, ToDone, Enters, decide-row}
 use Rattle.indoor_rules.proofs.Orders.{failed}
 use Rattle.indoor_rules.proofs.Ticks.{Expires, order, pass-ticks}
 use Rattle.indoor_phases.specs.declared.step.Step.{Step}

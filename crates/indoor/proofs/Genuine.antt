@@ -20,7 +20,7 @@ use Rattle.indoor_phases.specs.declared.plan.Plan.{Plan}
 use Rattle.indoor_phases.specs.declared.answer.Answer.{Answer}
 use Rattle.indoor_phases.specs.declared.answer.Sends.{Sends}
 use Rattle.indoor_phases.specs.declared.answer.Sends.the-variants.{Nothing, GetFwId, Initiate, Block, Validate, Abort}
-use Rattle.indoor_rules.proofs.Row.{Within}
+use Rattle.indoor_rules.proofs.Owes.{Within}
 use Rattle.indoor.specs.Send.{blockBytes, sendsBytes, bytesOf}
 use Rattle.indoor.specs.History.{Genuine}
 use Rattle.indoor.proofs.Block.{block-most}

@@ -27,7 +27,7 @@ use Rattle.indoor_phases.specs.declared.phase.Phase.{Phase}
 use Rattle.indoor_phases.specs.declared.phase.Phase.the-variants.{Identify, Initiate, Transfer, Validate, Done, Failed}
 use Rattle.indoor_phases.specs.declared.answer.Answer.the-variants.{Sending}
 use Rattle.indoor_phases.specs.declared.step.Step.{Step}
-use Rattle.indoor_rules.proofs.Row.{ToValidate, ToDone, Enters, Fit, Within, Emptied, Empties, decide-row}
+use Rattle.indoor_rules.proofs.Owes.{ToValidate, ToDone, Enters, Fit, Within, Emptied, Empties, decide-row}
 use Rattle.indoor_rules.proofs.Ticks.{Expires, order, pass-ticks}
 use Rattle.indoor.specs.Send.{blockBytes, sendsBytes, bytesOf}
 use Rattle.indoor.specs.Session.{doneOf}

@@ -22,7 +22,7 @@ use Rattle.indoor_phases.specs.declared.answer.Answer.{Answer}
 use Rattle.indoor_phases.specs.declared.answer.Answer.the-variants as Ans
 use Rattle.indoor_phases.specs.declared.answer.Sends.the-variants.{Nothing}
 use Rattle.indoor_phases.specs.declared.step.Step.{Step}
-use Rattle.indoor_rules.proofs.Row.{hears, Row, Stays, decide-row}
+use Rattle.indoor_rules.proofs.Owes.{hears, Row, Stays, decide-row}
 use Rattle.indoor_rules.proofs.Ticks.{Ticks, Rests, pass-ticks}
 use Rattle.indoor.specs.Session.{doneOf}
 use Rattle.indoor.specs.Send.{sendsBytes}

@@ -19,7 +19,7 @@ use Rattle.indoor.specs.Send.{sendsBytes}
 use Rattle.indoor.specs.History.{Reached, starts, hears, passes, Genuine, AllGenuine, emptyBlock}
 use Rattle.indoor.specs.declared.session.Indoor.{Indoor}
 use Rattle.indoor_phases.specs.Step.{last}
-use Rattle.indoor_rules.proofs.Row.{Fit}
+use Rattle.indoor_rules.proofs.Owes.{Fit}
 use Rattle.indoor.proofs.Fresh.{Fresh, start-fresh}
 use Rattle.indoor.proofs.Genuine.{bytes-genuine}
 use Rattle.indoor.proofs.Holds.{EmptySent, Holds, heard-holds, ticked-holds}

@@ -28,16 +28,16 @@ fn deliver(out: &mut [u8], file: &[u8], versions: Versions, sends: Sends) -> usi
 {
     match sends {
         Sends::Nothing => 0,
-        Sends::GetFwId => whole(out, Request::GetFwId),
-        Sends::Initiate => whole(out, Request::Initiate(versions)),
+        Sends::GetFwId => message(out, Request::GetFwId),
+        Sends::Initiate => message(out, Request::Initiate(versions)),
         Sends::Block(number) => block(out, file, number),
-        Sends::Validate => whole(out, Request::Validate),
-        Sends::Abort => whole(out, Request::Abort),
+        Sends::Validate => message(out, Request::Validate),
+        Sends::Abort => message(out, Request::Abort),
     }
 }
 
 // A request that has no block; of DATA its head.
-pub(crate) fn whole(out: &mut [u8], request: Request) -> usize
+pub(crate) fn message(out: &mut [u8], request: Request) -> usize
     requires { ⌜ longest ≤ length (now out) ⌝ }
     ensures { λ r. ⌜ left r (now (out .exit)) ≡ leads (requestBytes request) (now (out .entry)) ⌝ }
 {
@@ -54,7 +54,7 @@ fn block(out: &mut [u8], file: &[u8], number: u16) -> usize
 {
     let part = image::block_at(file, number);
     let size = part.len();
-    let head = whole(out, Request::Data { number, size });
+    let head = message(out, Request::Data { number, size });
     lent::put(out, head, part);
     head + size
 }

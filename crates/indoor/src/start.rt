@@ -1,5 +1,5 @@
 // A session's start (01, Numbers we answer: 29, 46, 27).
-use crate::send::whole;
+use crate::send::message;
 use crate::session::Indoor;
 use crate::session::Started;
 use indoor_phases::phase::Phase;
@@ -63,7 +63,7 @@ fn begun(plan: Plan, out: &mut [u8]) -> Started
         silence: 0,
         resends: 0,
     };
-    let written = whole(out, Request::GetFwId);
+    let written = message(out, Request::GetFwId);
     Started::Made {
         state: Indoor { plan, stand },
         written,

@@ -2,5 +2,5 @@ pub mod Compared
 pub mod Due
 pub mod Elapsed
 pub mod Orders
-pub mod Row
+pub mod Owes
 pub mod Ticks

@@ -22,7 +22,7 @@ use Rattle.indoor_phases.specs.declared.answer.Answer.the-variants as Ans
 use Rattle.indoor_phases.specs.declared.step.Step.{Step}
 use Rattle.indoor_phases.proofs.Steps.{emptied-stays, emptied-last}
 use Rattle.indoor_rules.proofs.Orders.{failed}
-use Rattle.indoor_rules.proofs.Row.{Ends, Fit, Within, Empties, Still, Marks, later-empties}
+use Rattle.indoor_rules.proofs.Owes.{Ends, Fit, Within, Empties, Still, Marks, later-empties}
 
 -- Answered 0 or 40.
 abbrev pub ticks : ℕ → Bool

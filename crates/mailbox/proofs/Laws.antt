@@ -32,7 +32,8 @@ use Rattle.mailbox.specs.History.{Event, writes, succeeds, fails, change
 use Rattle.mailbox.specs.declared.state.Mailbox.{Mailbox}
 use Rattle.mailbox.specs.declared.state.Outcome.{Outcome}
 
--- Each call is the step that the rules decide, with MESSAGE_IN cleared where the step says so.
+-- Each call is the step that the rules decide, with MESSAGE_IN cleared where the step says so; written out, so that a slip in `settledOf` is
+-- refused.
 abbrev pub moved : Mailbox → Step → Outcome
 moved m step = outcome (mailbox (step .stand) (clearedOf (m .message) (step .clears))) (step .answer)
 

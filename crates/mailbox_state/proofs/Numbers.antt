@@ -1,5 +1,6 @@
 -- The numbers of the answers, and of a count of connectors, as document 01 has them (01, Numbers we answer; 01, The mailbox).
 use Prim.Native.Nat.{ℕ, _≤_, _<_}
+use mathlib.Core.List.{[], _∷_, map}
 use mathlib.Core.Path.{_≡_, refl}
 use native.Mathlib.Omega.{arith}
 use borrow.Author.Tests.{lt-ltb, le-ltb}
@@ -10,36 +11,12 @@ use Rattle.mailbox_state.specs.declared.answer.Answer.the-variants.{Take
 use Rattle.mailbox_state.specs.declared.connectors.Connectors.{Connectors}
 use Rattle.mailbox_state.specs.declared.connectors.Counted.the-variants.{Made, Refused}
 
-pub record Numbers : Type 0 where
-  pub taken : numberOf Taken ≡ 0
-  pub controlLength : numberOf ControlLength ≡ 1
-  pub notificationsOff : numberOf NotificationsOff ≡ 2
-  pub commandRuns : numberOf CommandRuns ≡ 3
-  pub acknowledgementDue : numberOf AcknowledgementDue ≡ 4
-  pub nothingToClear : numberOf NothingToClear ≡ 5
-  pub nothingToCancel : numberOf NothingToCancel ≡ 6
-  pub nothingRuns : numberOf NothingRuns ≡ 7
-  pub dataTooLong : numberOf DataTooLong ≡ 8
-  pub noSuchConnector : numberOf NoSuchConnector ≡ 9
-  pub refused : connectors.numberOf Refused ≡ 29
-  pub made : (count : Connectors) → connectors.numberOf (Made count) ≡ 0
+pub numbers : map numberOf (Taken ∷ ControlLength ∷ NotificationsOff ∷ CommandRuns ∷ AcknowledgementDue ∷ NothingToClear ∷ NothingToCancel ∷ NothingRuns ∷ DataTooLong ∷ NoSuchConnector ∷ [])
+    ≡ 0 ∷ 1 ∷ 2 ∷ 3 ∷ 4 ∷ 5 ∷ 6 ∷ 7 ∷ 8 ∷ 9 ∷ []
+numbers = refl
 
-pub numbers : Numbers
-numbers =
-    record {
-      taken = refl;
-      controlLength = refl;
-      notificationsOff = refl;
-      commandRuns = refl;
-      acknowledgementDue = refl;
-      nothingToClear = refl;
-      nothingToCancel = refl;
-      nothingRuns = refl;
-      dataTooLong = refl;
-      noSuchConnector = refl;
-      refused = refl;
-      made = λ count. refl;
-    }
+pub counted-numbers : (count : Connectors) → map connectors.numberOf (Made count ∷ Refused ∷ []) ≡ 0 ∷ 29 ∷ []
+counted-numbers count = refl
 
 module _ (count : ℕ) where
   pub counted : 1 ≤ count → count ≤ 8 → connectors.countedOf count ≡ Made (record { count = count })

@@ -2,6 +2,7 @@
 -- Notifications are off or on, with any mask (01, The mailbox).
 use Prim.Native.Nat.{ℕ}
 use mathlib.Core.Bool.{true, false}
+use mathlib.Core.List.{List, [], _∷_, map}
 use mathlib.Core.Path.{_≡_, refl}
 use Rattle.mailbox_state.specs.Stand.{offOf}
 use Rattle.mailbox_state.specs.Told.{runsOf, dueOf}
@@ -10,41 +11,16 @@ use Rattle.mailbox_state.specs.declared.told.Command.{Command}
 use Rattle.mailbox_state.specs.declared.told.Told.{Told}
 use Rattle.mailbox_state.specs.declared.told.Told.the-variants.{Nothing, ResetDone, Busy, Completed, Failed, NotSupported, Cancelled, Acknowledged}
 
-pub record Quiet (told : Told) : Type 0 where
-  pub still : runsOf told ≡ false
-  pub acknowledged : dueOf told ≡ false
+abbrev all : Command → ℕ → List Told
+all command length = Nothing ∷ ResetDone ∷ Acknowledged ∷ Busy command ∷ Completed length ∷ Failed ∷ NotSupported ∷ Cancelled ∷ []
 
-pub record Ended (told : Told) : Type 0 where
-  pub still : runsOf told ≡ false
-  pub due : dueOf told ≡ true
+pub runs-rows : (command : Command) (length : ℕ) → map runsOf (all command length) ≡ false ∷ false ∷ false ∷ true ∷ false ∷ false ∷ false ∷ false ∷ []
+unfolding runsOf
+runs-rows command length = refl
 
-pub record Runs (told : Told) : Type 0 where
-  pub runs : runsOf told ≡ true
-  pub not-due : dueOf told ≡ false
-
-pub record Told-rows : Type 0 where
-  pub nothing : Quiet Nothing
-  pub reset-done : Quiet ResetDone
-  pub acknowledged : Quiet Acknowledged
-  pub busy : (command : Command) → Runs (Busy command)
-  pub completed : (length : ℕ) → Ended (Completed length)
-  pub failed : Ended Failed
-  pub not-supported : Ended NotSupported
-  pub cancelled : Ended Cancelled
-
-pub told-rows : Told-rows
-unfolding runsOf dueOf
-told-rows =
-    record {
-      nothing = record { still = refl; acknowledged = refl };
-      reset-done = record { still = refl; acknowledged = refl };
-      acknowledged = record { still = refl; acknowledged = refl };
-      busy = λ command. record { runs = refl; not-due = refl };
-      completed = λ length. record { still = refl; due = refl };
-      failed = record { still = refl; due = refl };
-      not-supported = record { still = refl; due = refl };
-      cancelled = record { still = refl; due = refl };
-    }
+pub due-rows : (command : Command) (length : ℕ) → map dueOf (all command length) ≡ false ∷ false ∷ false ∷ false ∷ true ∷ true ∷ true ∷ true ∷ []
+unfolding dueOf
+due-rows command length = refl
 
 pub off-off : offOf Off ≡ true
 unfolding offOf

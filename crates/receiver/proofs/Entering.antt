@@ -8,7 +8,7 @@ use Rattle.wire.specs.declared.request.Request.{Request}
 use Rattle.wire.specs.declared.request.Request.the-variants as Req
 use Rattle.wire.specs.declared.request.Parsed.the-variants.{Valid}
 use Rattle.receiver_rules.specs.Request.{decideOf}
-use Rattle.receiver_rules.proofs.Row.{ToGood, ToAwait, Enters, decide-row}
+use Rattle.receiver_rules.proofs.Owes.{ToGood, ToAwait, Enters, decide-row}
 use Rattle.receiver_phases.specs.declared.phase.Accepted.{Accepted}
 use Rattle.receiver_phases.specs.declared.phase.Progress.{Progress}
 use Rattle.receiver_phases.specs.declared.phase.Phase.{Phase}

@@ -7,7 +7,7 @@ use Rattle.basis.specs.Pick.{when-met}
 use Rattle.wire.specs.declared.request.Request.{Request}
 use Rattle.receiver_phases.specs.Answer.{numberOf}
 use Rattle.receiver_rules.specs.Request.{decideOf}
-use Rattle.receiver_rules.proofs.Row.{keepsAll, keepsPhase, endsIdle, Stays, Row, decide-row}
+use Rattle.receiver_rules.proofs.Owes.{keepsAll, keepsPhase, endsIdle, Stays, Row, decide-row}
 use Rattle.receiver_phases.specs.declared.phase.Accepted.{Accepted}
 use Rattle.receiver_phases.specs.declared.phase.Phase.{Phase}
 use Rattle.receiver_phases.specs.declared.phase.Phase.the-variants.{Idle, Good}

@@ -1,5 +1,5 @@
 pub mod Answers
-pub mod Holds
+pub mod HasBlock
 pub mod Walk
 pub mod Laws
 pub mod Entering

@@ -15,7 +15,7 @@ use Rattle.wire.specs.declared.request.Request.the-variants as Req
 use Rattle.wire.specs.declared.request.Parsed.the-variants.{Valid}
 use Rattle.receiver_phases.specs.Phase.{accepts}
 use Rattle.receiver_rules.specs.Request.{progress, decideOf}
-use Rattle.receiver_rules.proofs.Row.{Taken, Puts, decide-row}
+use Rattle.receiver_rules.proofs.Owes.{Taken, Puts, decide-row}
 use Rattle.receiver_phases.specs.declared.phase.Progress.{Progress}
 use Rattle.receiver_phases.specs.declared.phase.Phase.{Phase}
 use Rattle.receiver_phases.specs.declared.phase.Phase.the-variants.{Idle, Transfer, Await, Good}

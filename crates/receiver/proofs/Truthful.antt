@@ -20,7 +20,7 @@ use Rattle.receiver_phases.specs.declared.phase.Phase.the-variants.{Idle, Trans
 use Rattle.receiver_phases.proofs.Truth.{IsGood, Tells}
 use Rattle.receiver_rules.specs.Request.{decideOf}
 use Rattle.receiver_phases.specs.declared.verdict.Verdict.{Verdict}
-use Rattle.receiver_rules.proofs.Row.{decide-row}
+use Rattle.receiver_rules.proofs.Owes.{decide-row}
 use Rattle.receiver_rules.specs.Time.{passOf}
 use Rattle.receiver_rules.proofs.Elapsed.{pass-ticks}
 use Rattle.receiver.specs.Request.{requestOf}

@@ -3,7 +3,7 @@
 use crate::respond::respond;
 use crate::session::Outcome;
 use crate::session::Receiver;
-use crate::store::keep;
+use crate::store::apply;
 use receiver_phases::answer::Answer;
 use receiver_phases::verdict::Verdict;
 use receiver_steps::decide;
@@ -80,7 +80,7 @@ impl Receiver {
         let store = step.store;
         let answer = step.answer;
         let phase = step.phase;
-        keep(image, request, store);
+        apply(image, request, store);
         let written = respond(out, identity, self.capacity, answer);
         let state = self.moved(phase, 0, 0);
         Outcome {

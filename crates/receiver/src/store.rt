@@ -7,7 +7,7 @@ ghost use Rattle.wire.specs.Codes.{dataHead};
 ghost use Rattle.image.specs.Blocks.{putBlockOf};
 ghost use Rattle.receiver.specs.Request.{Long, imageOf};
 
-pub(crate) fn keep(image: &mut [u8], request: &[u8], store: Store)
+pub(crate) fn apply(image: &mut [u8], request: &[u8], store: Store)
     requires { ⌜ Long store (now request) ⌝ }
     ensures { λ _. ⌜ now (image .exit) ≡ imageOf store (now (image .entry)) (now (request .entry)) ⌝ }
 {

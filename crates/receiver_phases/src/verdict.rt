@@ -1,6 +1,4 @@
-// The verdict that comes with each request (01, The receiver's phases).
-
-// Of the image's signature, worked out elsewhere.
+// The verdict that comes with each request: of the image's signature, worked out elsewhere (01, The receiver's phases).
 pub enum Verdict {
     Good,
     Bad,

@@ -1,5 +1,5 @@
 pub mod Within
-pub mod Row
+pub mod Owes
 pub mod RangeLaws
 pub mod Orders
 pub mod Rows

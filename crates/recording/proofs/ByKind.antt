@@ -7,7 +7,8 @@ use native.Mathlib.Omega.{arith}
 use borrow.Author.Tests.{lt-ltb, le-ltb, le-leb, lt-leb, ne-eqb}
 use lib.ListN.{length}
 use Rattle.basis.specs.Pick.{pick}
-use Rattle.recording.specs.Reading.{byteAt, controlAt, changeAt, nextOf}
+use Rattle.basis.specs.Bytes.{byteAt}
+use Rattle.recording.specs.Reading.{controlAt, changeAt, nextOf}
 use Rattle.recording.specs.declared.record.Record.the-variants.{Control, Success, Failure}
 use Rattle.recording.specs.declared.reader.Read.the-variants.{Found, Ended}
 use Rattle.recording.specs.declared.reader.Ending.the-variants.{Whole, Cut, UnknownKind}

@@ -8,7 +8,8 @@ use borrow.Author.Tests.{ltb-true, ltb-false, leb-true, leb-false, eqb-true, eqb
 use lib.Dec.{eqb, ltb, leb}
 use lib.ListN.{length}
 use Rattle.basis.specs.Pick.{pick-all}
-use Rattle.recording.specs.Reading.{byteAt, controlAt, changeAt, whole, nextOf}
+use Rattle.basis.specs.Bytes.{byteAt}
+use Rattle.recording.specs.Reading.{controlAt, changeAt, whole, nextOf}
 use Rattle.recording.specs.Writing.{bytesOf}
 use Rattle.recording.specs.declared.record.Record.{Record}
 use Rattle.recording.specs.declared.record.Record.the-variants.{Control, Success, Failure}

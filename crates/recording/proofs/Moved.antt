@@ -10,7 +10,8 @@ use lib.Dec.{eqb, ltb, leb}
 use lib.ListN.{length, drop, length-drop, length-append, List·getD-append}
 use lib.Seq.{getD-drop}
 use Rattle.basis.specs.Pick.{pick}
-use Rattle.recording.specs.Reading.{byteAt, controlAt, changeAt, nextOf}
+use Rattle.basis.specs.Bytes.{byteAt}
+use Rattle.recording.specs.Reading.{controlAt, changeAt, nextOf}
 use Rattle.recording.proofs.Cases.{next-all}
 use Rattle.recording.proofs.ByKind.{kind-1, kind-2, kind-3, kind-4, kind-unknown}
 use Rattle.recording.specs.declared.record.Record.{Record}

@@ -1,12 +1,13 @@
 -- What is written reads back, and what is read was written so (01, Replay program).
-use Prim.Native.Nat.{ℕ, _+_, _/_, _%_, _<_}
+use Prim.Native.Nat.{ℕ, _+_, _/_, _%_}
 use mathlib.Core.Path.{_≡_, refl, sym, _∙_, ap, subst}
 use mathlib.Core.List.{List, _++_}
 use native.Mathlib.Omega.{arith}
 use lib.ListN.{length, drop}
 use lib.Seq.{drop-append-seam, drop-drop, getD-drop}
 use Rattle.basis.specs.Lists.{spell, spelled}
-use Rattle.recording.specs.Reading.{byteAt, nextOf, pairOf}
+use Rattle.basis.specs.Bytes.{byteAt, Bytes}
+use Rattle.recording.specs.Reading.{nextOf, pairOf}
 use Rattle.recording.specs.Writing.{bytesOf}
 use Rattle.recording.proofs.ByKind.{kind-1, kind-2, kind-3, kind-4}
 use Rattle.recording.proofs.Moved.{moved, next-drop}
@@ -34,10 +35,6 @@ written-reads before r behind =
     next-drop (before ++ (bytesOf r ++ behind)) (length before)
     ∙ ap (λ (s : List ℕ). moved (length before) (nextOf s 0)) (drop-append-seam before (bytesOf r ++ behind))
     ∙ ap (moved (length before)) (read-back r behind)
-
--- Bytes that a u8 can hold.
-abbrev pub Bytes : List ℕ → Type 0
-Bytes s = (i : ℕ) → byteAt s i < 256
 
 -- A record's bytes are consumed exactly: from its place on stand its own bytes, and then what is behind it.
 abbrev pub Consumes : List ℕ → ℕ → Read → Type 0

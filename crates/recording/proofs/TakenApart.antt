@@ -12,7 +12,8 @@ use Rattle.recording.specs.Apart.{Apart, apart, onward, turns, apartOf, 
 use Rattle.recording.proofs.ByKind.{nothing-there}
 use Rattle.recording.proofs.Moved.{moved, next-drop}
 use Rattle.recording.proofs.Cases.{Past, next-past}
-use Rattle.recording.proofs.RoundTrip.{read-back, Bytes, Consumes, consumed}
+use Rattle.basis.specs.Bytes.{Bytes}
+use Rattle.recording.proofs.RoundTrip.{read-back, Consumes, consumed}
 use Rattle.recording.specs.declared.record.Record.{Record}
 use Rattle.recording.specs.declared.reader.Read.{Read}
 use Rattle.recording.specs.declared.reader.Read.the-variants.{Found, Ended}

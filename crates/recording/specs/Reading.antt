@@ -1,8 +1,9 @@
 -- The record at a place: one byte of kind, then the body (01, Replay program).
 use Prim.Native.Nat.{ℕ, _+_, _*_, _-_}
 use mathlib.Core.List.{List}
-use lib.ListN.{length, getD}
+use lib.ListN.{length}
 use lib.Dec.{eqb, ltb, leb}
+use Rattle.basis.specs.Bytes.{byteAt}
 use Rattle.basis.specs.Pick.{pick}
 use Rattle.recording.specs.declared.record.ControlBytes.{ControlBytes}
 use Rattle.recording.specs.declared.record.Record.{Record}
@@ -10,9 +11,6 @@ use Rattle.recording.specs.declared.record.Record.the-variants.{Control,
 use Rattle.recording.specs.declared.reader.Read.{Read}
 use Rattle.recording.specs.declared.reader.Read.the-variants.{Found, Ended}
 use Rattle.recording.specs.declared.reader.Ending.the-variants.{Whole, Cut, UnknownKind}
-
-abbrev pub byteAt : List ℕ → ℕ → ℕ
-byteAt s i = getD s i 0
 
 abbrev pub controlAt : List ℕ → ℕ → ControlBytes
 controlAt s i =

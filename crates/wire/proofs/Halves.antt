@@ -4,7 +4,8 @@ use mathlib.Core.Path.{_≡_}
 use mathlib.Core.List.{List}
 use native.Mathlib.Nat.{mod-mod}
 use native.Mathlib.Omega.{arith}
-use Rattle.wire.specs.Numbers.{Bytes, byteAt, wordAt}
+use Rattle.basis.specs.Bytes.{Bytes, byteAt}
+use Rattle.wire.specs.Numbers.{wordAt}
 
 pub word-back : (n : ℕ) → n < 65536 → n % 256 + 256 * (n / 256 % 256) ≡ n
 word-back n h = omega arith

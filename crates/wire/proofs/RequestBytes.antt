@@ -10,7 +10,8 @@ use lib.Dec.{ltb}
 use Rattle.basis.specs.Pick.{pick-all}
 use Rattle.basis.specs.Lists.{spell, spelled, spelled-all}
 use Rattle.wire.specs.Codes.{getFwId, initiate, datum, validate, abort, dataNr, dataPause, vendorSpecific}
-use Rattle.wire.specs.Numbers.{Bytes, byteAt, wordAt}
+use Rattle.basis.specs.Bytes.{Bytes, byteAt}
+use Rattle.wire.specs.Numbers.{wordAt}
 use Rattle.wire.specs.Identity.{versionsAt}
 use Rattle.wire.specs.Request.{requestOf, typedOf, bareOf, initiateOf, dataOf}
 use Rattle.wire.specs.Written.{requestBytes, bareBytes, initiateBytes, headBytes}

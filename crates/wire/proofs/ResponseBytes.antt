@@ -9,7 +9,8 @@ use lib.ListN.{length}
 use lib.Dec.{eqb}
 use Rattle.basis.specs.Lists.{spell, spelled-all}
 use Rattle.wire.specs.Codes.{getFwIdResponse, initiateResponse, dataResponse, validateResponse, dataPauseResponse, vendorSpecificResponse}
-use Rattle.wire.specs.Numbers.{Bytes, byteAt, wordAt}
+use Rattle.basis.specs.Bytes.{Bytes, byteAt}
+use Rattle.wire.specs.Numbers.{wordAt}
 use Rattle.wire.specs.Identity.{cleared, identityIn}
 use Rattle.wire.specs.Response.{responseOf, typedOf, identifiedOf, initiatedOf, receiptOf, validatedOf}
 use Rattle.wire.specs.Written.{responseBytes, identifiedBytes, initiatedBytes, receiptBytes, validatedBytes, flagOf}

@@ -8,7 +8,7 @@ use lib.ListN.{length, length-drop}
 use lib.Dec.{ltb}
 use Rattle.basis.specs.Pick.{pick-all}
 use Rattle.wire.specs.Codes.{getFwId, initiate, datum, validate, abort, dataNr, dataPause, vendorSpecific}
-use Rattle.wire.specs.Numbers.{byteAt}
+use Rattle.basis.specs.Bytes.{byteAt}
 use Rattle.wire.specs.Request.{requestOf, typedOf, bareOf, initiateOf, dataOf}
 use Rattle.wire.specs.Fields.{Sized}
 use Rattle.wire.specs.declared.request.Request.{Request}

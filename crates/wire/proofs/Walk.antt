@@ -10,7 +10,7 @@ use lib.ListN.{length}
 use lib.Dec.{eqb, ltb}
 use Rattle.basis.specs.Pick.{pick, pick-all}
 use Rattle.wire.specs.Header.{headed}
-use Rattle.wire.specs.Numbers.{byteAt}
+use Rattle.basis.specs.Bytes.{byteAt}
 
 pub record Headed (m : List ℕ) : Type 0 where
   pub long : 2 ≤ length m

@@ -4,7 +4,7 @@ use mathlib.Core.Path.{_≡_}
 use mathlib.Core.List.{List, []}
 use lib.ListN.{length, drop}
 use Rattle.wire.specs.Codes.{dataHead}
-use Rattle.wire.specs.Numbers.{byteAt}
+use Rattle.basis.specs.Bytes.{byteAt}
 use Rattle.wire.specs.Identity.{cleared}
 use Rattle.wire.specs.declared.request.Versions.{Versions}
 use Rattle.wire.specs.declared.request.Request.{Request}

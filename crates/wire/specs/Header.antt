@@ -6,7 +6,7 @@ use lib.ListN.{length}
 use lib.Dec.{ltb, eqb}
 use Rattle.basis.specs.Pick.{pick}
 use Rattle.wire.specs.Codes.{version, shortest, longest}
-use Rattle.wire.specs.Numbers.{byteAt}
+use Rattle.basis.specs.Bytes.{byteAt}
 
 unfoldable pub headed : List ℕ → Bool
 headed m =

@@ -1,7 +1,8 @@
 -- The fields of 001 T5-18, where they stand, and which of their bits are reserved.
 use Prim.Native.Nat.{ℕ, _+_, _*_, _/_, _%_}
 use mathlib.Core.List.{List}
-use Rattle.wire.specs.Numbers.{byteAt, wordAt}
+use Rattle.basis.specs.Bytes.{byteAt}
+use Rattle.wire.specs.Numbers.{wordAt}
 use Rattle.wire.specs.declared.request.Versions.{Versions}
 use Rattle.wire.specs.declared.response.Identity.{Identity}
 

@@ -1,10 +1,7 @@
 -- Numbers in a message go low byte first (01, Sizes and numbers).
-use Prim.Native.Nat.{ℕ, _+_, _*_, _/_, _%_, _<_}
+use Prim.Native.Nat.{ℕ, _+_, _*_, _/_, _%_}
 use mathlib.Core.List.{List}
-use lib.ListN.{getD}
-
-abbrev pub byteAt : List ℕ → ℕ → ℕ
-byteAt m i = getD m i 0
+use Rattle.basis.specs.Bytes.{byteAt}
 
 abbrev pub wordAt : List ℕ → ℕ → ℕ
 wordAt m i = byteAt m i + 256 * byteAt m (i + 1)
@@ -14,7 +11,3 @@ low n = n % 256
 
 abbrev pub high : ℕ → ℕ
 high n = n / 256 % 256
-
--- A list whose elements are bytes, as every slice of `u8` is.
-abbrev pub Bytes : List ℕ → Type 0
-Bytes m = (i : ℕ) → byteAt m i < 256

@@ -6,7 +6,8 @@ use lib.Dec.{ltb, eqb}
 use Rattle.basis.specs.Pick.{pick}
 use Rattle.wire.specs.Codes.{header, initiateLength, dataHead, getFwId, initiate, datum, dataNr, validate, abort, dataPause, vendorSpecific}
 use Rattle.wire.specs.Header.{headed}
-use Rattle.wire.specs.Numbers.{byteAt, wordAt}
+use Rattle.basis.specs.Bytes.{byteAt}
+use Rattle.wire.specs.Numbers.{wordAt}
 use Rattle.wire.specs.Identity.{versionsAt}
 use Rattle.wire.specs.declared.request.Request.{Request}
 use Rattle.wire.specs.declared.request.Request.the-variants.{GetFwId, Initiate, Data, Validate, Abort, NotBuilt}

@@ -7,7 +7,8 @@ use lib.Dec.{eqb}
 use Rattle.basis.specs.Pick.{pick}
 use Rattle.wire.specs.Codes.{getFwIdResponse, initiateResponse, dataResponse, validateResponse, dataPauseResponse, vendorSpecificResponse, getFwIdResponseLength, initiateResponseLength, dataResponseLength, validateResponseLength}
 use Rattle.wire.specs.Header.{headed}
-use Rattle.wire.specs.Numbers.{byteAt, wordAt}
+use Rattle.basis.specs.Bytes.{byteAt}
+use Rattle.wire.specs.Numbers.{wordAt}
 use Rattle.wire.specs.Identity.{cleared, identityIn}
 use Rattle.wire.specs.declared.response.Response.the-variants.{GetFwId, Initiate, Data, Validate, NotBuilt}
 use Rattle.wire.specs.declared.response.Parsed.{Parsed}

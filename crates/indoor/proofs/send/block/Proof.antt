@@ -16,7 +16,7 @@ block-spec =
     (λ c κs. search needs)
     (λ c κs. search needs)
     (λ c.
-    let small = together-most _ _ _ _ _ (c .before .before .before .before .before .before .before .before .block-at .ensures) (answers (c .before .before .before .before .before .before .whole .ensures)) in
+    let small = together-most _ _ _ _ _ (c .before .before .before .before .before .before .before .before .block-at .ensures) (answers (c .before .before .before .before .before .before .message .ensures)) in
     search needs)
     (λ c. search needs)
-    (λ c. let a = c .before .before .before .before .before .before .before .before .before .before .before .args in rw (leaves (c .before .before .put .ensures), leaves (c .before .before .before .before .before .before .whole .ensures), answers (c .before .before .before .before .before .before .whole .ensures), c .before .before .before .before .before .before .before .before .block-at .ensures, block-written (now (a .file)) (a .number) (now (a .out)) (search needs), length-append)))
+    (λ c. let a = c .before .before .before .before .before .before .before .before .before .before .before .args in rw (leaves (c .before .before .put .ensures), leaves (c .before .before .before .before .before .before .message .ensures), answers (c .before .before .before .before .before .before .message .ensures), c .before .before .before .before .before .before .before .before .block-at .ensures, block-written (now (a .file)) (a .number) (now (a .out)) (search needs), length-append)))

@@ -9,4 +9,4 @@ begun-spec =
     (tie.spec
     (λ c κs. search needs)
     (λ c. search needs)
-    (λ c. rw (answers (c .before .before .whole .ensures), leaves (c .before .before .whole .ensures))))
+    (λ c. rw (answers (c .before .before .message .ensures), leaves (c .before .before .message .ensures))))

@@ -1,5 +1,5 @@
 use Rattle.basis.specs.Left.{answers, leaves}
-use Rattle.receiver.proofs.Holds.{decide-has}
+use Rattle.receiver.proofs.HasBlock.{decide-has}
 use denote.Ref.{now}
 use borrow.Author.Needs.{needs}
 use Rattle.receiver.proofs.session.Receiver.hear.Statement.{statement}
@@ -15,4 +15,4 @@ hear-spec =
     (λ c κs. search needs)
     (λ c. search needs)
     (λ c. search needs)
-    (λ c. rw (← (c .before .before .before .before .before .before .before .before .before .decide .ensures), c .moved .ensures, answers (c .before .before .before .respond .ensures), leaves (c .before .before .before .respond .ensures), c .before .before .before .before .before .before .before .keep .ensures)))
+    (λ c. rw (← (c .before .before .before .before .before .before .before .before .before .decide .ensures), c .moved .ensures, answers (c .before .before .before .respond .ensures), leaves (c .before .before .before .respond .ensures), c .before .before .before .before .before .before .before .apply .ensures)))

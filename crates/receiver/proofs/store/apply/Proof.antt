@@ -1,11 +1,11 @@
 use Rattle.receiver.specs.Request.{imageOf}
 use borrow.Author.Needs.{needs}
-use Rattle.receiver.proofs.store.keep.Statement.{statement}
-use Rattle.receiver.proofs.store.keep.Tie as tie
+use Rattle.receiver.proofs.store.apply.Statement.{statement}
+use Rattle.receiver.proofs.store.apply.Tie as tie
 
-pub keep-spec : {M : Type 1} → statement M
+pub apply-spec : {M : Type 1} → statement M
 unfolding imageOf
-keep-spec =
+apply-spec =
     tie.close
     (tie.spec
     (λ c. search needs)

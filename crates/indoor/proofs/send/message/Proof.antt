@@ -5,12 +5,12 @@ use Rattle.basis.specs.Left.{leaves}
 use Rattle.wire.specs.Written.{requestBytes}
 use Rattle.writing.specs.Message.{messageOf}
 use borrow.Author.Needs.{needs}
-use Rattle.indoor.proofs.send.whole.Statement.{statement}
-use Rattle.indoor.proofs.send.whole.Tie as tie
+use Rattle.indoor.proofs.send.message.Statement.{statement}
+use Rattle.indoor.proofs.send.message.Tie as tie
 
-pub whole-spec : {M : Type 1} → statement M
+pub message-spec : {M : Type 1} → statement M
 unfolding messageOf
-whole-spec =
+message-spec =
     tie.close
     (tie.spec
     (λ c κs. search needs)

@@ -8,7 +8,7 @@ use Rattle.wire.specs.declared.request.Request.{Request}
 use Rattle.wire.specs.declared.request.Request.the-variants as Req
 use Rattle.wire.specs.declared.request.Parsed.the-variants.{Valid}
 use Rattle.receiver_rules.specs.Request.{decideOf}
-use Rattle.receiver_rules.proofs.Row.{Puts, decide-row}
+use Rattle.receiver_rules.proofs.Owes.{Puts, decide-row}
 use Rattle.receiver_phases.specs.declared.phase.Phase.{Phase}
 use Rattle.receiver_phases.specs.declared.phase.Phase.the-variants.{Idle, Transfer, Await, Good}
 use Rattle.receiver_phases.specs.declared.verdict.Verdict.{Verdict}
