@@ -43,6 +43,7 @@ pub record Row : Type 0 where
 abbrev row : Example → List ℕ → Row
 row example printed = record { example = example; printed = printed }
 
+-- P1 to P4, then P5, P6 to P8, and P9 to P12.
 abbrev pub table : List Row
 table =
     row (blocks 1) (1 ∷ [])
