@@ -1,4 +1,4 @@
--- Bytes of a list, as a slice of `u8` is.
+-- A byte of a list, and a list of bytes, as every slice of `u8` is.
 use Prim.Native.Nat.{ℕ, _<_}
 use mathlib.Core.List.{List}
 use lib.ListN.{getD}
