@@ -4,3 +4,4 @@ pub mod Only
 pub mod Lists
 pub mod Table
 pub mod Bytes
+pub mod Flag

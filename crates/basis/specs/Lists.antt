@@ -17,17 +17,18 @@ take-own zero l = refl
 take-own (suc m) [] = refl
 take-own (suc m) (x ∷ l) = ap (λ t. x ∷ t) (take-own m l)
 
--- The k elements of a list from the place i on, one by one, and then the rest.
-unfoldable pub spell : List ℕ → ℕ → ℕ → List ℕ → List ℕ
-spell m i zero rest = rest
-spell m i (suc k) rest = getD m i 0 ∷ spell m (suc i) k rest
+-- The k elements of a list from the place i on, one by one, and then the rest; d is what a list has behind its end.
+module _ {A : Type 0} (d : A) where
+  unfoldable pub spell : List A → ℕ → ℕ → List A → List A
+  spell m i zero rest = rest
+  spell m i (suc k) rest = getD m i d ∷ spell m (suc i) k rest
 
-pub spelled : (k : ℕ) (m : List ℕ) (i e : ℕ) → e ≡ i + k → e ≤ length m → drop i m ≡ spell m i k (drop e m)
-unfolding spell
-spelled zero m i e q h =
-    let p : i ≡ e = omega arith in
-    rw p
-spelled (suc k) m i e q h = drop-cons m i 0 (omega arith) ∙ ap (λ (l : List ℕ). getD m i 0 ∷ l) (spelled k m (suc i) e (omega arith) h)
+  pub spelled : (k : ℕ) (m : List A) (i e : ℕ) → e ≡ i + k → e ≤ length m → drop i m ≡ spell m i k (drop e m)
+  unfolding spell
+  spelled zero m i e q h =
+      let p : i ≡ e = omega arith in
+      rw p
+  spelled (suc k) m i e q h = drop-cons m i d (omega arith) ∙ ap (λ (l : List A). getD m i d ∷ l) (spelled k m (suc i) e (omega arith) h)
 
-pub spelled-all : (k : ℕ) (m : List ℕ) → length m ≡ k → m ≡ spell m 0 k []
-spelled-all k m h = spelled k m 0 (length m) (omega arith) (le-refl (length m)) ∙ ap (spell m 0 k) (drop-length m)
+  pub spelled-all : (k : ℕ) (m : List A) → length m ≡ k → m ≡ spell m 0 k []
+  spelled-all k m h = spelled k m 0 (length m) (omega arith) (le-refl (length m)) ∙ ap (spell m 0 k) (drop-length m)

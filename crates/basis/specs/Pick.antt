@@ -24,6 +24,12 @@ unfolding pick
 pick-all P true a b y n = y refl
 pick-all P false a b y n = n refl
 
+-- A choice that is false without its test.
+pub pick-both : (t a : Bool) → pick t a false ≡ true → (t ≡ true) × (a ≡ true)
+unfolding pick
+pick-both true a e = (refl, e)
+pick-both false a e = absurd (true≢false (sym e))
+
 -- What is owed under a test alone.
 abbrev pub When : Bool → Type 0 → Type 0
 When true A = A

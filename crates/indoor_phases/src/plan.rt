@@ -7,6 +7,7 @@ ghost use mathlib.Core.Path.{_≡_};
 ghost use Rattle.indoor_phases.specs.Step.{last, emptiedBy, sent};
 
 // What the file is offered as.
+#[repr(C)]
 pub struct Release {
     pub vendor: u16,
     pub product: u16,
@@ -14,6 +15,7 @@ pub struct Release {
 }
 
 // `length` is the file's.
+#[repr(C)]
 pub struct Plan {
     pub settings: Settings,
     pub release: Release,

@@ -3,6 +3,7 @@ ghost use mathlib.Core.Path.{_≡_};
 ghost use Rattle.mailbox_state.specs.Told.{runsOf, dueOf};
 
 // What the port is to do: `connector` is 0 where the command needs none, and `reset_type` is CONNECTOR_RESET's (000 T4-5), else 0.
+#[repr(C)]
 pub struct Command {
     pub code: u8,
     pub connector: u8,

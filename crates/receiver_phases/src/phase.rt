@@ -2,6 +2,7 @@
 ghost use mathlib.Core.Path.{_≡_};
 ghost use Rattle.receiver_phases.specs.Phase.{nothing, acceptedOf};
 
+#[repr(C)]
 pub struct Accepted {
     pub blocks: u16,
     pub bytes: u32,

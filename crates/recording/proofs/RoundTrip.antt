@@ -46,12 +46,12 @@ first : (s : List ℕ) → Bytes s → Consumes s 0 (nextOf s 0)
 unfolding bytesOf spell
 first s b =
     next-all (Consumes s 0) s 0 (λ _. tt) (λ _ _. tt) (λ _ _. tt)
-    (λ k h. spelled 9 s 0 9 refl h ∙ rw k)
+    (λ k h. spelled 0 9 s 0 9 refl h ∙ rw k)
     (λ k h. let l = b 2 in let low : pairOf (byteAt s 2) (byteAt s 3) % 256 ≡ byteAt s 2 = omega arith in
     let high : pairOf (byteAt s 2) (byteAt s 3) / 256 ≡ byteAt s 3 = omega arith in
-    spelled 4 s 0 4 refl h ∙ rw (k, low, high))
-    (λ k h. spelled 2 s 0 2 refl h ∙ rw k)
-    (λ k h. spelled 1 s 0 1 refl h ∙ rw k)
+    spelled 0 4 s 0 4 refl h ∙ rw (k, low, high))
+    (λ k h. spelled 0 2 s 0 2 refl h ∙ rw k)
+    (λ k h. spelled 0 1 s 0 1 refl h ∙ rw k)
 
 pub consumed : (s : List ℕ) (at : ℕ) → Bytes s → Consumes s at (nextOf s at)
 consumed s at b =

@@ -40,19 +40,19 @@ requests = record { valid = Valid; malformed = Malformed; inner = inner; apart =
 
 bare-same : (m : List ℕ) (t : ℕ) → byteAt m 0 ≡ 1 → byteAt m 1 ≡ t → length m ≡ 2 → bareBytes t ++ [] ≡ m
 unfolding bareBytes spell
-bare-same m t v e n = cc (spelled-all 2 m n, v, e)
+bare-same m t v e n = cc (spelled-all 0 2 m n, v, e)
 
 initiate-same : (m : List ℕ) → Bytes m → byteAt m 0 ≡ 1 → byteAt m 1 ≡ initiate → length m ≡ 10 → initiateBytes (versionsAt m 2) ++ [] ≡ m
 unfolding initiateBytes spell
 initiate-same m small v e n =
     let low = bytes-low m small in
     let high = bytes-high m small in
-    rw (low 2 3, high 2 3, low 4 5, high 4 5, low 6 7, high 6 7, low 8 9, high 8 9) (cc (spelled-all 10 m n, v, e))
+    rw (low 2 3, high 2 3, low 4 5, high 4 5, low 6 7, high 6 7, low 8 9, high 8 9) (cc (spelled-all 0 10 m n, v, e))
 
 data-same : (m : List ℕ) → Bytes m → byteAt m 0 ≡ 1 → byteAt m 1 ≡ datum → 4 ≤ length m → headBytes (wordAt m 2) ++ drop 4 m ≡ m
 unfolding headBytes spell
 data-same m small v e n =
-    rw (bytes-low m small 2 3, bytes-high m small 2 3) (cc (spelled 4 m 0 4 refl n, v, e))
+    rw (bytes-low m small 2 3, bytes-high m small 2 3) (cc (spelled 0 4 m 0 4 refl n, v, e))
 
 module _ (m : List ℕ) (small : Bytes m) (h : Headed m) where
   bare-read : (q : Request) (t : ℕ) → byteAt m 1 ≡ t → requestBytes q ++ blockIn m q ≡ bareBytes t ++ [] → BuiltRequest q → Sendable q (blockIn m q)

@@ -72,7 +72,7 @@ module _ (m : List ℕ) (small : Bytes m) (v : byteAt m 0 ≡ 1) where
             let g3 : byteAt m 20 % 32 % 32 ≡ byteAt m 20 = omega arith in
             let g4 : byteAt m 21 % 16 % 16 ≡ byteAt m 21 = omega arith in
             rw (low 3 4, high 3 4, low 5 6, high 5 6, low 9 10, high 9 10, low 11 12, high 11 12, low 13 14, high 13 14, low 15 16, high 15 16, g0, g1, g2, g3, g4)
-            (cc (spelled-all 22 m n, v, e));
+            (cc (spelled-all 0 22 m n, v, e));
         back = λ w.
             let b0 : byteAt m 8 / 16 * 16 / 16 * 16 ≡ byteAt m 8 = byte-same _ m 8 w in
             let b1 : byteAt m 18 % 16 % 16 ≡ byteAt m 18 = byte-same _ m 18 w in
@@ -96,7 +96,7 @@ module _ (m : List ℕ) (small : Bytes m) (v : byteAt m 0 ≡ 1) where
       record {
         there = λ p.
             let g : byteAt m 6 % 16 ≡ byteAt m 6 = omega arith in
-            rw (one, two, three, g) (cc (spelled-all 7 m n, v, e));
+            rw (one, two, three, g) (cc (spelled-all 0 7 m n, v, e));
         back = λ w.
             let b : (wordAt m 4 + 65536 * (byteAt m 6 % 16)) / 65536 % 16 ≡ byteAt m 6 = byte-same _ m 6 w in
             omega arith;
@@ -107,7 +107,7 @@ module _ (m : List ℕ) (small : Bytes m) (v : byteAt m 0 ≡ 1) where
   receipt-same : byteAt m 1 ≡ dataResponse → length m ≡ 7 → Same m (Data (byteAt m 2) (byteAt m 3) (wordAt m 5))
   unfolding responseBytes receiptBytes spell
   receipt-same e n = record {
-    there = λ z. rw (bytes-low m small 5 6, bytes-high m small 5 6) (cc (spelled-all 7 m n, v, e, z));
+    there = λ z. rw (bytes-low m small 5 6, bytes-high m small 5 6) (cc (spelled-all 0 7 m n, v, e, z));
     back = λ w. let b : 0 ≡ byteAt m 4 = byte-same _ m 4 w in omega arith;
     fields = bytes-word m small 5;
     cleared-already = refl;
@@ -116,7 +116,7 @@ module _ (m : List ℕ) (small : Bytes m) (v : byteAt m 0 ≡ 1) where
   validated-same : byteAt m 1 ≡ validateResponse → length m ≡ 5 → Same m (Validate (byteAt m 2) (byteAt m 3) (eqb (byteAt m 4 % 2) 1))
   unfolding responseBytes validatedBytes spell
   validated-same e n = record {
-    there = λ z. rw (flag-back (byteAt m 4) z) (cc (spelled-all 5 m n, v, e));
+    there = λ z. rw (flag-back (byteAt m 4) z) (cc (spelled-all 0 5 m n, v, e));
     back = λ w.
         let b : flagOf (eqb (byteAt m 4 % 2) 1) ≡ byteAt m 4 = byte-same _ m 4 w in
         rw b at (flag-small (eqb (byteAt m 4 % 2) 1));

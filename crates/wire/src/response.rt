@@ -4,6 +4,7 @@ ghost use mathlib.Core.Path.{_≡_};
 ghost use Rattle.wire.specs.Identity.{cleared};
 
 // The fields of 001 T5-18 behind its Status.
+#[repr(C)]
 pub struct Identity {
     pub vendor: u16,
     pub product: u16,

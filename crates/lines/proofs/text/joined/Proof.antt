@@ -24,4 +24,4 @@ joined-spec =
     (λ c. search needs)
     (λ c. search needs)
     (λ c. search needs)
-    (λ c. let d = c .args .t1 in let t = c .args .t2 in sym (ap (λ (l : List ℕ). l ++ t) (spelled-all 8 d (search needs)) ∙ ap (λ (l : List ℕ). spell d 0 8 [] ++ l) (spelled-all 5 t (search needs)))))
+    (λ c. let d = c .args .t1 in let t = c .args .t2 in sym (ap (λ (l : List ℕ). l ++ t) (spelled-all 0 8 d (search needs)) ∙ ap (λ (l : List ℕ). spell 0 d 0 8 [] ++ l) (spelled-all 0 5 t (search needs)))))

@@ -1,0 +1,140 @@
+-- The numbers of a session say that session, and numbers that are a session's are those of the session that they say: on every state that
+-- the library hands out, packing and unpacking are each other's inverse.
+use Prim.Native.Nat.{ℕ, zero, suc, _≤_}
+use mathlib.Core.Bool.{true}
+use mathlib.Core.Path.{_≡_, refl, sym, ap}
+use native.Mathlib.Omega.{arith}
+use borrow.Author.Tests.{eqb-true, eqb-false}
+use lib.Dec.{eqb}
+use Rattle.basis.specs.Flag.{byte-flag, flag-byte, byte-small}
+use Rattle.basis.specs.Pick.{pick, pick-all}
+use Rattle.silence.specs.Within.{Within}
+use Rattle.indoor_phases.specs.Phase.{reasonNumber}
+use Rattle.indoor_phases.specs.declared.phase.Reason.{Reason}
+use Rattle.indoor_phases.specs.declared.phase.Reason.the-variants.{Silence, Refused, NotNewer, TooLarge, WrongNumber, NotValid}
+use Rattle.indoor_phases.specs.declared.phase.Phase.{Phase}
+use Rattle.indoor_phases.specs.declared.phase.Phase.the-variants.{Identify, Initiate, Transfer, Validate, Done, Failed}
+use Rattle.indoor.specs.declared.session.Indoor.{Indoor}
+use Rattle.indoor_flat.specs.Place.{place, placeOf, reasonOf, phaseOf}
+use Rattle.indoor_flat.specs.Flat.{flat, placed, packOf, unpackOf, isSession}
+use Rattle.indoor_flat.specs.Whole.{Standing, Whole}
+use Rattle.indoor_flat.specs.declared.place.Place.{Place}
+use Rattle.indoor_flat.specs.declared.flat.FlatIndoor.{FlatIndoor}
+use Rattle.indoor_flat.proofs.Sessions.{session-whole, whole-session}
+
+reason-back : (reason : Reason) → reasonOf (reasonNumber reason) ≡ reason
+unfolding reasonOf pick
+reason-back Silence = refl
+reason-back Refused = refl
+reason-back NotNewer = refl
+reason-back TooLarge = refl
+reason-back WrongNumber = refl
+reason-back NotValid = refl
+
+phase-back : (p : Phase) → phaseOf (placeOf p) ≡ p
+unfolding placeOf phaseOf pick
+phase-back Identify = refl
+phase-back (Initiate wait) = refl
+phase-back (Transfer p) = rw (byte-flag (p .emptied))
+phase-back (Validate wait) = refl
+phase-back Done = refl
+phase-back (Failed reason) = rw (reason-back reason)
+
+pub unpack-pack : (s : Indoor) → unpackOf (packOf s) ≡ s
+unpack-pack s = rw (phase-back (s .stand .phase))
+
+number-back : (n : ℕ) → 40 ≤ n → n ≤ 45 → reasonNumber (reasonOf n) ≡ n
+unfolding reasonOf
+number-back n least most =
+    let P : Reason → Type 0 = λ x. reasonNumber x ≡ n in
+    pick-all P (eqb n 40) _ _ (λ t. sym (eqb-true n 40 t))
+    (λ a. pick-all P (eqb n 41) _ _ (λ t. sym (eqb-true n 41 t))
+    (λ b. pick-all P (eqb n 42) _ _ (λ t. sym (eqb-true n 42 t))
+    (λ c. pick-all P (eqb n 43) _ _ (λ t. sym (eqb-true n 43 t))
+    (λ d. pick-all P (eqb n 44) _ _ (λ t. sym (eqb-true n 44 t))
+    (λ e. omega (arith, eqb-false n 40 a, eqb-false n 41 b, eqb-false n 42 c, eqb-false n 43 d, eqb-false n 44 e))))))
+
+numbers-back : (phase emptied asked wait reason : ℕ) → Standing (place phase emptied asked wait reason)
+    → placeOf (phaseOf (place phase emptied asked wait reason)) ≡ place phase emptied asked wait reason
+unfolding placeOf phaseOf pick
+numbers-back zero emptied asked wait reason s =
+    let bare = s .transfer-alone (λ e. omega arith) in
+    rw (bare .0, bare .1, s .wait-alone (λ e. omega arith) (λ e. omega arith) (λ e. omega arith), s .failed-alone (λ e. omega arith))
+numbers-back (suc zero) emptied asked wait reason s =
+    let bare = s .transfer-alone (λ e. omega arith) in
+    rw (bare .0, bare .1, s .failed-alone (λ e. omega arith))
+numbers-back (suc (suc zero)) emptied asked wait reason s = rw (flag-byte emptied (s .flag), s .failed-alone (λ e. omega arith))
+numbers-back (suc (suc (suc zero))) emptied asked wait reason s =
+    let bare = s .transfer-alone (λ e. omega arith) in
+    rw (bare .0, bare .1, s .failed-alone (λ e. omega arith))
+numbers-back (suc (suc (suc (suc zero)))) emptied asked wait reason s =
+    let bare = s .transfer-alone (λ e. omega arith) in
+    rw (bare .0, bare .1, s .wait-alone (λ e. omega arith) (λ e. omega arith) (λ e. omega arith), s .failed-alone (λ e. omega arith))
+numbers-back (suc (suc (suc (suc (suc zero))))) emptied asked wait reason s =
+    let bare = s .transfer-alone (λ e. omega arith) in
+    let reasons = s .reasons refl in
+    rw (bare .0, bare .1, s .wait-alone (λ e. omega arith) (λ e. omega arith) (λ e. omega arith), number-back reason (reasons .0) (reasons .1))
+numbers-back (suc (suc (suc (suc (suc (suc phase)))))) emptied asked wait reason s = absurd (omega (arith, s .phases))
+
+pub pack-unpack : (f : FlatIndoor) → isSession f ≡ true → packOf (unpackOf f) ≡ f
+pack-unpack f e =
+    ap (λ (p : Place). flat (f .plan) p (f .silence) (f .resends)) (numbers-back (f .phase) (f .emptied) (f .asked) (f .wait) (f .reason) (session-whole f e .standing))
+
+reason-least : (reason : Reason) → 40 ≤ reasonNumber reason
+reason-least Silence = omega arith
+reason-least Refused = omega arith
+reason-least NotNewer = omega arith
+reason-least TooLarge = omega arith
+reason-least WrongNumber = omega arith
+reason-least NotValid = omega arith
+
+reason-most : (reason : Reason) → reasonNumber reason ≤ 45
+reason-most Silence = omega arith
+reason-most Refused = omega arith
+reason-most NotNewer = omega arith
+reason-most TooLarge = omega arith
+reason-most WrongNumber = omega arith
+reason-most NotValid = omega arith
+
+-- A phase that holds nothing, or a wait alone.
+wait-standing : (code wait : ℕ) → code ≤ 4 → ((code ≡ 1 → ⊥) → (code ≡ 3 → ⊥) → wait ≡ 0) → Standing (place code 0 0 wait 0)
+wait-standing code wait few none =
+    record {
+      phases = omega arith;
+      flag = omega arith;
+      transfer-alone = λ _. (refl, refl);
+      wait-alone = λ one _ three. none one three;
+      failed-alone = λ _. refl;
+      reasons = λ five. absurd (omega arith);
+    }
+
+phase-standing : (p : Phase) → Standing (placeOf p)
+unfolding placeOf
+phase-standing Identify = wait-standing 0 0 (omega arith) (λ _ _. refl)
+phase-standing (Initiate wait) = wait-standing 1 wait (omega arith) (λ not _. absurd (not refl))
+phase-standing (Transfer p) =
+    record {
+      phases = omega arith;
+      flag = byte-small (p .emptied);
+      transfer-alone = λ not. absurd (not refl);
+      wait-alone = λ _ not _. absurd (not refl);
+      failed-alone = λ _. refl;
+      reasons = λ five. absurd (omega arith);
+    }
+phase-standing (Validate wait) = wait-standing 3 wait (omega arith) (λ _ not. absurd (not refl))
+phase-standing Done = wait-standing 4 0 (omega arith) (λ _ _. refl)
+phase-standing (Failed reason) =
+    record {
+      phases = omega arith;
+      flag = omega arith;
+      transfer-alone = λ _. (refl, refl);
+      wait-alone = λ _ _ _. refl;
+      failed-alone = λ not. absurd (not refl);
+      reasons = λ _. (reason-least reason, reason-most reason);
+    }
+
+-- The numbers of every session with settings and a file's length that a start takes are a session's.
+pub pack-session : (s : Indoor) → Within (s .plan .settings .limit) (s .plan .settings .resends) → 1 ≤ s .plan .length → s .plan .length ≤ 1048575
+    → isSession (packOf s) ≡ true
+pack-session s within some most =
+    whole-session (packOf s) (record { within = within; some = some; most = most; standing = phase-standing (s .stand .phase) })

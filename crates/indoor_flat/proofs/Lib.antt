@@ -1,0 +1,4 @@
+pub mod Sessions
+pub mod Inverse
+pub mod Rows
+pub mod Unique

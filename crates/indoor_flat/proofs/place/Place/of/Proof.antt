@@ -1,0 +1,30 @@
+use Rattle.indoor_flat.specs.Place.{placeOf}
+use borrow.Author.Needs.{needs}
+use Rattle.indoor_flat.proofs.place.Place.of.Statement.{statement}
+use Rattle.indoor_flat.proofs.place.Place.of.Tie as tie
+
+pub of-spec : {M : Type 1} → statement M
+unfolding placeOf
+of-spec =
+    tie.close
+    (tie.spec
+    (λ c. search needs)
+    (λ c κs. search needs)
+    (λ c. search needs)
+    (λ c κs. search needs)
+    (λ c. search needs)
+    (λ c. search needs)
+    (λ c κs. search needs)
+    (λ c. search needs)
+    (λ c κs. search needs)
+    (λ c. search needs)
+    (λ c κs. search needs)
+    (λ c. search needs)
+    (λ c κs. search needs)
+    (λ c κs. search needs)
+    (λ c. rw (c .before .enum-told .given .1) (c .new .ensures))
+    (λ c. rw (c .before .before .phase .given .1) (c .new2 .ensures))
+    (λ c. rw (c .before .before .before .phase2 .given .1) (c .new3 .ensures))
+    (λ c. rw (c .before .before .phase3 .given .1) (c .new4 .ensures))
+    (λ c. rw (c .before .enum-told2 .given .1) (c .new5 .ensures))
+    (λ c. rw (c .before .before .before .phase4 .given .1, ← (c .before .number .ensures)) (c .new6 .ensures)))

@@ -1,0 +1,16 @@
+use Rattle.basis.specs.Pick.{tests}
+use Rattle.indoor_flat.specs.Place.{reasonOf}
+use Rattle.indoor_flat.proofs.place.reason_of.Statement.{statement}
+use Rattle.indoor_flat.proofs.place.reason_of.Tie as tie
+
+pub reason-of-spec : {M : Type 1} → statement M
+unfolding reasonOf
+reason-of-spec =
+    tie.close
+    (tie.spec
+    (λ c. search tests)
+    (λ c. search tests)
+    (λ c. search tests)
+    (λ c. search tests)
+    (λ c. search tests)
+    (λ c. search tests))

@@ -1,0 +1,57 @@
+-- A session of the indoor end as the numbers of include/harsolvek.h, and back.
+use Prim.Native.Nat.{ℕ}
+use mathlib.Core.Bool.{Bool, false}
+use lib.Dec.{eqb, ltb}
+use Rattle.basis.specs.Pick.{pick}
+use Rattle.silence.specs.Settings.{settingsOf, numberOf}
+use Rattle.indoor_phases.specs.Phase.{stands}
+use Rattle.indoor_phases.specs.declared.plan.Plan.{Plan}
+use Rattle.indoor.specs.Session.{indoor}
+use Rattle.indoor.specs.Start.{lengthMost}
+use Rattle.indoor.specs.declared.session.Indoor.{Indoor}
+use Rattle.indoor_flat.specs.Place.{place, placeOf, phaseOf, standsOf}
+use Rattle.indoor_flat.specs.declared.place.Place.{Place}
+use Rattle.indoor_flat.specs.declared.flat.FlatIndoor.{FlatIndoor}
+
+abbrev pub flat : Plan → Place → ℕ → ℕ → FlatIndoor
+flat plan p silence resends = record {
+  plan = plan;
+  phase = p .phase;
+  emptied = p .emptied;
+  asked = p .asked;
+  wait = p .wait;
+  reason = p .reason;
+  silence = silence;
+  resends = resends;
+}
+
+abbrev pub placed : FlatIndoor → Place
+placed f = place (f .phase) (f .emptied) (f .asked) (f .wait) (f .reason)
+
+abbrev pub packOf : Indoor → FlatIndoor
+packOf s = flat (s .plan) (placeOf (s .stand .phase)) (s .stand .silence) (s .stand .resends)
+
+abbrev pub unpackOf : FlatIndoor → Indoor
+unpackOf f = indoor (f .plan) (stands (phaseOf (placed f)) (f .silence) (f .resends))
+
+-- Numbers of a session: what a start takes, in a phase.
+unfoldable pub isSession : FlatIndoor → Bool
+isSession f =
+    pick (eqb (numberOf (settingsOf (f .plan .settings .limit) (f .plan .settings .resends))) 0)
+    (pick (eqb (f .plan .length) 0) false
+    (pick (ltb lengthMost (f .plan .length)) false
+    (standsOf (placed f))))
+    false
+
+-- All zero.
+abbrev pub none : FlatIndoor
+none =
+    flat
+    (record {
+      settings = record { limit = 0; resends = 0 };
+      release = record { vendor = 0; product = 0; versions = record { first = 0; second = 0; third = 0; fourth = 0 } };
+      length = 0;
+    })
+    (place 0 0 0 0 0)
+    0
+    0

@@ -1,0 +1,69 @@
+-- What a phase of the indoor end says, as the numbers of include/harsolvek.h, and back.
+use Prim.Native.Nat.{ℕ}
+use mathlib.Core.Bool.{Bool, true, false}
+use lib.Dec.{eqb, ltb, leb}
+use Rattle.basis.specs.Flag.{byteOf}
+use Rattle.basis.specs.Pick.{pick}
+use Rattle.indoor_phases.specs.Phase.{reasonNumber, progress}
+use Rattle.indoor_phases.specs.declared.phase.Reason.{Reason}
+use Rattle.indoor_phases.specs.declared.phase.Reason.the-variants as Why
+use Rattle.indoor_phases.specs.declared.phase.Phase.{Phase}
+use Rattle.indoor_phases.specs.declared.phase.Phase.the-variants.{Identify, Initiate, Transfer, Validate, Done, Failed}
+use Rattle.indoor_flat.specs.declared.place.Place.{Place}
+
+abbrev pub place : ℕ → ℕ → ℕ → ℕ → ℕ → Place
+place phase emptied asked wait reason = record { phase = phase; emptied = emptied; asked = asked; wait = wait; reason = reason }
+
+-- What a phase does not have is 0 there; a reason is document 01's number.
+unfoldable pub placeOf : Phase → Place
+placeOf Identify = place 0 0 0 0 0
+placeOf (Initiate wait) = place 1 0 0 wait 0
+placeOf (Transfer p) = place 2 (byteOf (p .emptied)) (p .asked) (p .wait) 0
+placeOf (Validate wait) = place 3 0 0 wait 0
+placeOf Done = place 4 0 0 0 0
+placeOf (Failed reason) = place 5 0 0 0 (reasonNumber reason)
+
+unfoldable pub reasonOf : ℕ → Reason
+reasonOf number =
+    pick (eqb number 40) Why.Silence
+    (pick (eqb number 41) Why.Refused
+    (pick (eqb number 42) Why.NotNewer
+    (pick (eqb number 43) Why.TooLarge
+    (pick (eqb number 44) Why.WrongNumber
+    Why.NotValid))))
+
+-- A code that is no phase's is read as Identify.
+unfoldable pub phaseOf : Place → Phase
+phaseOf p =
+    pick (eqb (p .phase) 1) (Initiate (p .wait))
+    (pick (eqb (p .phase) 2) (Transfer (progress (p .asked) (p .wait) (eqb (p .emptied) 1)))
+    (pick (eqb (p .phase) 3) (Validate (p .wait))
+    (pick (eqb (p .phase) 4) Done
+    (pick (eqb (p .phase) 5) (Failed (reasonOf (p .reason)))
+    Identify))))
+
+-- Failed keeps nothing but its reason, 40 to 45.
+unfoldable pub failsOf : Place → Bool
+failsOf p =
+    pick (eqb (p .emptied) 0)
+    (pick (eqb (p .asked) 0)
+    (pick (eqb (p .wait) 0)
+    (pick (ltb (p .reason) 40) false (leb (p .reason) 45))
+    false)
+    false)
+    false
+
+-- Numbers of a phase: a reason in Failed alone, the block asked for and a flag in Transfer alone, a wait in Initiate, Transfer and Validate.
+unfoldable pub standsOf : Place → Bool
+standsOf p =
+    pick (eqb (p .phase) 5) (failsOf p)
+    (pick (eqb (p .reason) 0)
+    (pick (eqb (p .phase) 2) (leb (p .emptied) 1)
+    (pick (eqb (p .emptied) 0)
+    (pick (eqb (p .asked) 0)
+    (pick (eqb (p .phase) 1) true
+    (pick (eqb (p .phase) 3) true
+    (pick (eqb (p .wait) 0) (leb (p .phase) 4) false)))
+    false)
+    false))
+    false)

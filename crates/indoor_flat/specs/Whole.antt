@@ -1,0 +1,23 @@
+-- Which numbers are a session's, in the paper's own numbers (include/harsolvek.h; 01, Sizes and numbers; 01, The indoor end's phases).
+use Prim.Native.Nat.{_≤_}
+use mathlib.Core.Path.{_≡_}
+use Rattle.silence.specs.Within.{Within}
+use Rattle.indoor_flat.specs.Flat.{placed}
+use Rattle.indoor_flat.specs.declared.place.Place.{Place}
+use Rattle.indoor_flat.specs.declared.flat.FlatIndoor.{FlatIndoor}
+
+-- Identify 0, Initiate 1, Transfer 2, Validate 3, Done 4, Failed 5: the block asked for and a flag in Transfer alone, a wait in Initiate,
+-- Transfer and Validate alone, a reason 40 to 45 in Failed alone.
+pub record Standing (p : Place) : Type 0 where
+  pub phases : p .phase ≤ 5
+  pub flag : p .emptied ≤ 1
+  pub transfer-alone : (p .phase ≡ 2 → ⊥) → (p .emptied ≡ 0) × (p .asked ≡ 0)
+  pub wait-alone : (p .phase ≡ 1 → ⊥) → (p .phase ≡ 2 → ⊥) → (p .phase ≡ 3 → ⊥) → p .wait ≡ 0
+  pub failed-alone : (p .phase ≡ 5 → ⊥) → p .reason ≡ 0
+  pub reasons : p .phase ≡ 5 → (40 ≤ p .reason) × (p .reason ≤ 45)
+
+pub record Whole (f : FlatIndoor) : Type 0 where
+  pub within : Within (f .plan .settings .limit) (f .plan .settings .resends)
+  pub some : 1 ≤ f .plan .length
+  pub most : f .plan .length ≤ 1048575
+  pub standing : Standing (placed f)

@@ -1,0 +1,58 @@
+// The numbers of a session, in the order of include/harsolvek.h.
+use indoor_phases::plan::Plan;
+use indoor_phases::plan::Release;
+use silence::Settings;
+use wire::request::Versions;
+ghost use mathlib.Core.Path.{_≡_};
+ghost use Rattle.indoor_flat.specs.Flat.{none};
+
+// `emptied` is a flag; what a phase does not have is 0 there.
+#[repr(C)]
+pub struct FlatIndoor {
+    pub plan: Plan,
+    pub phase: u8,
+    pub emptied: u8,
+    pub asked: u16,
+    pub wait: u16,
+    pub reason: u8,
+    pub silence: u16,
+    pub resends: u8,
+}
+
+impl FlatIndoor {
+    // All zero: what a refused start hands out, and no session.
+    pub fn none() -> FlatIndoor
+        ensures { λ r. ⌜ r ≡ none ⌝ }
+    {
+        let settings = Settings {
+            limit: 0,
+            resends: 0,
+        };
+        let versions = Versions {
+            first: 0,
+            second: 0,
+            third: 0,
+            fourth: 0,
+        };
+        let release = Release {
+            vendor: 0,
+            product: 0,
+            versions,
+        };
+        let plan = Plan {
+            settings,
+            release,
+            length: 0,
+        };
+        FlatIndoor {
+            plan,
+            phase: 0,
+            emptied: 0,
+            asked: 0,
+            wait: 0,
+            reason: 0,
+            silence: 0,
+            resends: 0,
+        }
+    }
+}

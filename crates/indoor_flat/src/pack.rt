@@ -1,0 +1,27 @@
+// A session as its numbers.
+use crate::flat::FlatIndoor;
+use crate::place::Place;
+use indoor::Indoor;
+ghost use mathlib.Core.Path.{_≡_};
+ghost use Rattle.indoor_flat.specs.Flat.{packOf};
+
+impl FlatIndoor {
+    pub fn pack(session: Indoor) -> FlatIndoor
+        ensures { λ r. ⌜ r ≡ packOf session ⌝ }
+    {
+        let plan = session.plan;
+        let stand = session.stand;
+        let phase = stand.phase;
+        let place = Place::of(phase);
+        FlatIndoor {
+            plan,
+            phase: place.phase,
+            emptied: place.emptied,
+            asked: place.asked,
+            wait: place.wait,
+            reason: place.reason,
+            silence: stand.silence,
+            resends: stand.resends,
+        }
+    }
+}

@@ -1,0 +1,155 @@
+// What a phase says, as numbers, and back.
+use indoor_phases::phase::Phase;
+use indoor_phases::phase::Progress;
+use indoor_phases::phase::Reason;
+ghost use mathlib.Core.Path.{_≡_};
+ghost use Rattle.indoor_flat.specs.Place.{place, placeOf, phaseOf, reasonOf, failsOf, standsOf};
+
+pub(crate) struct Place {
+    pub phase: u8,
+    pub emptied: u8,
+    pub asked: u16,
+    pub wait: u16,
+    pub reason: u8,
+}
+
+const IDENTIFY: u8 = 0;
+
+const INITIATE: u8 = 1;
+
+const TRANSFER: u8 = 2;
+
+const VALIDATE: u8 = 3;
+
+const DONE: u8 = 4;
+
+const FAILED: u8 = 5;
+
+// 40 to 45 (01, Numbers we answer).
+const REASON_LEAST: u8 = 40;
+
+const REASON_MOST: u8 = 45;
+
+impl Place {
+    fn new(phase: u8, emptied: u8, asked: u16, wait: u16, reason: u8) -> Place
+        ensures { λ r. ⌜ r ≡ place phase emptied asked wait reason ⌝ }
+    {
+        Place {
+            phase,
+            emptied,
+            asked,
+            wait,
+            reason,
+        }
+    }
+
+    pub(crate) fn of(phase: Phase) -> Place
+        ensures { λ r. ⌜ r ≡ placeOf phase ⌝ }
+    {
+        match phase {
+            Phase::Identify => Place::new(IDENTIFY, 0, 0, 0, 0),
+            Phase::Initiate { wait } => Place::new(INITIATE, 0, 0, wait, 0),
+            Phase::Transfer(p) => Place::new(TRANSFER, p.emptied as u8, p.asked, p.wait, 0),
+            Phase::Validate { wait } => Place::new(VALIDATE, 0, 0, wait, 0),
+            Phase::Done => Place::new(DONE, 0, 0, 0, 0),
+            Phase::Failed(reason) => Place::new(FAILED, 0, 0, 0, reason.number()),
+        }
+    }
+
+    // A code that is no phase's is read as Identify; `stands` tells the two apart.
+    pub(crate) fn phase(self) -> Phase
+        ensures { λ r. ⌜ r ≡ phaseOf self ⌝ }
+    {
+        if self.phase == INITIATE {
+            return Phase::Initiate { wait: self.wait };
+        }
+        if self.phase == TRANSFER {
+            return Phase::Transfer(Progress {
+                asked: self.asked,
+                wait: self.wait,
+                emptied: self.emptied == 1,
+            });
+        }
+        if self.phase == VALIDATE {
+            return Phase::Validate { wait: self.wait };
+        }
+        if self.phase == DONE {
+            return Phase::Done;
+        }
+        if self.phase == FAILED {
+            return Phase::Failed(reason_of(self.reason));
+        }
+        Phase::Identify
+    }
+
+    // Whether the numbers are some phase's.
+    pub(crate) fn stands(self) -> bool
+        ensures { λ r. ⌜ r ≡ standsOf self ⌝ }
+    {
+        if self.phase == FAILED {
+            return self.fails();
+        }
+        if self.reason != 0 {
+            return false;
+        }
+        if self.phase == TRANSFER {
+            return self.emptied <= 1;
+        }
+        if self.emptied != 0 {
+            return false;
+        }
+        if self.asked != 0 {
+            return false;
+        }
+        if self.phase == INITIATE {
+            return true;
+        }
+        if self.phase == VALIDATE {
+            return true;
+        }
+        if self.wait != 0 {
+            return false;
+        }
+        self.phase <= DONE
+    }
+
+    // Failed keeps nothing but its reason.
+    fn fails(self) -> bool
+        ensures { λ r. ⌜ r ≡ failsOf self ⌝ }
+    {
+        if self.emptied != 0 {
+            return false;
+        }
+        if self.asked != 0 {
+            return false;
+        }
+        if self.wait != 0 {
+            return false;
+        }
+        if self.reason < REASON_LEAST {
+            return false;
+        }
+        self.reason <= REASON_MOST
+    }
+}
+
+fn reason_of(number: u8) -> Reason
+    ensures { λ r. ⌜ r ≡ reasonOf number ⌝ }
+{
+    if number == 40 {
+        return Reason::Silence;
+    }
+    if number == 41 {
+        return Reason::Refused;
+    }
+    if number == 42 {
+        return Reason::NotNewer;
+    }
+    if number == 43 {
+        return Reason::TooLarge;
+    }
+    if number == 44 {
+        return Reason::WrongNumber;
+    }
+    Reason::NotValid
+}

@@ -1,0 +1,58 @@
+// The session that the numbers say, and whether they are a session's at all: settings and a file's length that a start takes, in a phase.
+use crate::flat::FlatIndoor;
+use crate::place::Place;
+use indoor::Indoor;
+use indoor_phases::phase::Stand;
+use silence::Settings;
+ghost use mathlib.Core.Path.{_≡_};
+ghost use Rattle.indoor_flat.specs.Flat.{placed, unpackOf, isSession};
+
+// The 20 bits of MaxImageSize (001 T5-20; 01, Sizes and numbers).
+const LENGTH_MOST: u32 = 1048575;
+
+impl FlatIndoor {
+    pub fn unpack(self) -> Indoor
+        ensures { λ r. ⌜ r ≡ unpackOf self ⌝ }
+    {
+        let plan = self.plan;
+        let place = self.place();
+        let phase = place.phase();
+        let stand = Stand {
+            phase,
+            silence: self.silence,
+            resends: self.resends,
+        };
+        Indoor { plan, stand }
+    }
+
+    pub fn is_session(self) -> bool
+        ensures { λ r. ⌜ r ≡ isSession self ⌝ }
+    {
+        let plan = self.plan;
+        let settings = plan.settings;
+        let checked = Settings::new(settings.limit, settings.resends);
+        if checked.number() != 0 {
+            return false;
+        }
+        if plan.length == 0 {
+            return false;
+        }
+        if LENGTH_MOST < plan.length {
+            return false;
+        }
+        let place = self.place();
+        place.stands()
+    }
+
+    fn place(self) -> Place
+        ensures { λ r. ⌜ r ≡ placed self ⌝ }
+    {
+        Place {
+            phase: self.phase,
+            emptied: self.emptied,
+            asked: self.asked,
+            wait: self.wait,
+            reason: self.reason,
+        }
+    }
+}

@@ -1,0 +1,158 @@
+-- The indoor end for C keeps step with the proved session: on a session's numbers a call is the session's own through the conversion, and
+-- numbers that are no session's get 29. Every state that comes of a start that was taken is a session.
+use Prim.Native.Nat.{ℕ}
+use mathlib.Core.Bool.{true, false}
+use mathlib.Core.Path.{_≡_, refl, sym, _∙_, ap, subst}
+use mathlib.Core.List.{List}
+use native.Mathlib.Omega.{arith}
+use borrow.Author.Tests.{eqb-false, ltb-false}
+use lib.Dec.{eqb, ltb}
+use lib.ListN.{length}
+use Rattle.basis.specs.Pick.{pick-yes, pick-no, pick-all}
+use Rattle.basis.specs.Left.{Left, left}
+use Rattle.silence.specs.Within.{Within}
+use Rattle.silence.specs.Settings as silent
+use Rattle.silence.specs.declared.Settings as silence
+use Rattle.silence.specs.declared.Checked.{Checked}
+use Rattle.silence.specs.declared.Checked.the-variants as Che
+use Rattle.silence.proofs.Laws.{made-within, within-made}
+use Rattle.indoor_phases.specs.declared.plan.Release.{Release}
+use Rattle.wire.specs.Codes.{longest}
+use Rattle.indoor_phases.specs.Answer.{numberOf}
+use Rattle.indoor.specs.Session as session
+use Rattle.indoor.specs.Start as start
+use Rattle.indoor.specs.Response as inner
+use Rattle.indoor.specs.Time as time
+use Rattle.indoor.specs.declared.session.Indoor.{Indoor}
+use Rattle.indoor.specs.declared.session.Outcome.{Outcome}
+use Rattle.indoor.specs.declared.session.Started.{Started}
+use Rattle.indoor.specs.declared.session.Started.the-variants.{Made, Settings, FileSize, BufferShort}
+use Rattle.indoor.proofs.Laws.{plan-stays, time-plan-stays}
+use Rattle.indoor_flat.specs.Flat.{packOf, unpackOf, isSession, none}
+use Rattle.indoor_flat.specs.declared.flat.FlatIndoor.{FlatIndoor}
+use Rattle.indoor_flat.proofs.Sessions.{session-whole}
+use Rattle.indoor_flat.proofs.Inverse.{unpack-pack, pack-unpack, pack-session}
+use Rattle.link.specs.Indoor.{answers, begunOf, startOf, responseOf, timeOf}
+use Rattle.link.specs.Handed.{HandedIndoor, starts, hears, passes}
+
+settings-same : (a b : silence.Settings) → Che.Made a ≡ Che.Made b → a ≡ b
+settings-same a b e = cc
+
+-- Settings that were made are within the limits.
+within-own : (limit resends : ℕ) (settings : silence.Settings) → silent.settingsOf limit resends ≡ Che.Made settings
+    → Within (settings .limit) (settings .resends)
+within-own limit resends settings e =
+    let within = made-within limit resends settings e in
+    subst (λ (s : silence.Settings). Within (s .limit) (s .resends)) (settings-same _ settings (sym (within-made limit resends within) ∙ e)) within
+
+-- What a start leaves where it is taken.
+abbrev Begun : Left Started → Type 0
+Begun x = session.numberOf (x .answer) ≡ 0 → isSession (begunOf (x .answer) (session.numberOf (x .answer)) .state) ≡ true
+
+module _ (release : Release) (file out : List ℕ) where
+  begins : (settings : silence.Settings) → Within (settings .limit) (settings .resends) → Begun (start.beginOf settings release file out)
+  unfolding start.beginOf begunOf
+  begins settings within =
+      pick-all Begun (eqb (length file) 0) _ _ (λ _ e. absurd (omega arith))
+      (λ some. pick-all Begun (ltb start.lengthMost (length file)) _ _ (λ _ e. absurd (omega arith))
+      (λ most. pick-all Begun (ltb (length out) longest) _ _ (λ _ e. absurd (omega arith))
+      (λ _ _.
+      let not = eqb-false (length file) 0 some in
+      let few = ltb-false start.lengthMost (length file) most in
+      pack-session _ within (omega (arith, not)) few)))
+
+  checked-begins : (limit resends : ℕ) (x : Checked) → silent.settingsOf limit resends ≡ x → Begun (start.startedOf x release file out)
+  unfolding start.startedOf
+  checked-begins limit resends (Che.Made settings) e = begins settings (within-own limit resends settings e)
+  checked-begins limit resends Che.Refused e = λ z. absurd (omega arith)
+
+begun-number : (x : Started) (n : ℕ) → begunOf x n .number ≡ n
+unfolding begunOf
+begun-number (Made state written) n = refl
+begun-number Settings n = refl
+begun-number FileSize n = refl
+begun-number BufferShort n = refl
+
+pub start-session : (settings : silence.Settings) (release : Release) (file out : List ℕ) → startOf settings release file out .answer .number ≡ 0
+    → isSession (startOf settings release file out .answer .state) ≡ true
+start-session settings release file out e =
+    let x = start.startOf (settings .limit) (settings .resends) release file out .answer in
+    checked-begins release file out (settings .limit) (settings .resends) (silent.settingsOf (settings .limit) (settings .resends)) refl
+    (sym (begun-number x (session.numberOf x)) ∙ e)
+
+-- A start that is taken hands out the numbers of its session; a refused one hands out none, its number, and the buffer as it was.
+module _ (settings : silence.Settings) (release : Release) (file out : List ℕ) where
+  abbrev started : Left Started
+  started = start.startOf (settings .limit) (settings .resends) release file out
+
+  pub start-taken : (s : Indoor) (written : ℕ) (m : List ℕ) → started ≡ left (Made s written) m
+      → startOf settings release file out ≡ left (answers (packOf s) written 0) m
+  unfolding begunOf
+  start-taken s written m e = rw e
+
+  pub start-29 : started ≡ left Settings out → startOf settings release file out ≡ left (answers none 0 29) out
+  unfolding begunOf
+  start-29 e = rw e
+
+  pub start-46 : started ≡ left FileSize out → startOf settings release file out ≡ left (answers none 0 46) out
+  unfolding begunOf
+  start-46 e = rw e
+
+  pub start-27 : started ≡ left BufferShort out → startOf settings release file out ≡ left (answers none 0 27) out
+  unfolding begunOf
+  start-27 e = rw e
+
+-- The numbers of a session with the plan of one that is.
+keeps-session : (f : FlatIndoor) (next : Indoor) → isSession f ≡ true → next .plan ≡ f .plan → isSession (packOf next) ≡ true
+keeps-session f next e plan =
+    let w = session-whole f e in
+    pack-session next (rw plan (w .within)) (rw plan (w .some)) (rw plan (w .most))
+
+module _ (f : FlatIndoor) (file message out : List ℕ) where
+  abbrev heard : Left Outcome
+  heard = inner.responseOf (unpackOf f) file message out
+
+  pub response-through : isSession f ≡ true → responseOf f file message out
+      ≡ left (answers (packOf (heard .answer .state)) (heard .answer .written) (numberOf (heard .answer .answer))) (heard .memory)
+  unfolding responseOf
+  response-through e = pick-yes _ _ _ e
+
+  pub response-29 : isSession f ≡ false → responseOf f file message out ≡ left (answers f 0 29) out
+  unfolding responseOf
+  response-29 e = pick-no _ _ _ e
+
+  pub response-next : isSession f ≡ true → unpackOf (responseOf f file message out .answer .state) ≡ heard .answer .state
+  response-next e = ap (λ x. unpackOf (x .answer .state)) (response-through e) ∙ unpack-pack (heard .answer .state)
+
+  pub response-session : isSession f ≡ true → isSession (responseOf f file message out .answer .state) ≡ true
+  response-session e =
+      ap (λ x. isSession (x .answer .state)) (response-through e) ∙ keeps-session f (heard .answer .state) e (plan-stays (unpackOf f) file message out)
+
+module _ (f : FlatIndoor) (file : List ℕ) (elapsed : ℕ) (out : List ℕ) where
+  abbrev passed : Left Outcome
+  passed = time.timeOf (unpackOf f) file elapsed out
+
+  pub time-through : isSession f ≡ true → timeOf f file elapsed out
+      ≡ left (answers (packOf (passed .answer .state)) (passed .answer .written) (numberOf (passed .answer .answer))) (passed .memory)
+  unfolding timeOf
+  time-through e = pick-yes _ _ _ e
+
+  pub time-29 : isSession f ≡ false → timeOf f file elapsed out ≡ left (answers f 0 29) out
+  unfolding timeOf
+  time-29 e = pick-no _ _ _ e
+
+  pub time-next : isSession f ≡ true → unpackOf (timeOf f file elapsed out .answer .state) ≡ passed .answer .state
+  time-next e = ap (λ x. unpackOf (x .answer .state)) (time-through e) ∙ unpack-pack (passed .answer .state)
+
+  pub time-session : isSession f ≡ true → isSession (timeOf f file elapsed out .answer .state) ≡ true
+  time-session e =
+      ap (λ x. isSession (x .answer .state)) (time-through e) ∙ keeps-session f (passed .answer .state) e (time-plan-stays (unpackOf f) file elapsed out)
+
+-- Every state that is handed out is a session, and the conversions are each other's inverse on it.
+pub handed-session : {f : FlatIndoor} → HandedIndoor f → isSession f ≡ true
+handed-session (starts settings release file out e) = start-session settings release file out e
+handed-session (hears {f = f} h file message out) = response-session f file message out (handed-session h)
+handed-session (passes {f = f} h file elapsed out) = time-session f file elapsed out (handed-session h)
+
+pub handed-inverse : {f : FlatIndoor} → HandedIndoor f → packOf (unpackOf f) ≡ f
+handed-inverse {f} h = pack-unpack f (handed-session h)

@@ -1,0 +1,4 @@
+pub mod Receivers
+pub mod Indoors
+pub mod Mailboxes
+pub mod Unique

@@ -1,0 +1,118 @@
+-- The receiver for C keeps step with the proved session: on a session's numbers a call is the session's own through the conversion, and
+-- numbers that are no session's get 29. Every state that comes of a start that was taken is a session.
+use Prim.Native.Nat.{ℕ, _≤_}
+use mathlib.Core.Bool.{true, false}
+use mathlib.Core.Path.{_≡_, refl, _∙_, ap}
+use mathlib.Core.List.{List}
+use Rattle.basis.specs.Pick.{pick-yes, pick-no}
+use Rattle.basis.specs.Left.{Left, left}
+use Rattle.silence.specs.Within.{Within}
+use Rattle.silence.specs.declared.Settings.{Settings}
+use Rattle.wire.specs.declared.response.Identity.{Identity}
+use Rattle.receiver_phases.specs.Answer.{numberOf}
+use Rattle.receiver.specs.Session as session
+use Rattle.receiver.specs.Request as inner
+use Rattle.receiver.specs.Time as time
+use Rattle.receiver.specs.Sum as sum
+use Rattle.receiver.specs.declared.session.Receiver.{Receiver}
+use Rattle.receiver.specs.declared.session.Started.the-variants.{Refused}
+use Rattle.receiver.specs.declared.session.Outcome.{Outcome}
+use Rattle.receiver.specs.declared.sum.Summed.the-variants.{Sum, ImageLength}
+use Rattle.receiver.proofs.Laws.{settings-stay}
+use Rattle.receiver.proofs.TimeLaws.{time-settings}
+use Rattle.receiver.proofs.SessionLaws.{fresh, start-made}
+use Rattle.receiver_flat.specs.Flat.{packOf, unpackOf, isSession, none}
+use Rattle.receiver_flat.specs.Verdict.{verdictOf}
+use Rattle.receiver_flat.specs.declared.flat.FlatReceiver.{FlatReceiver}
+use Rattle.receiver_flat.proofs.Sessions.{taken-within, session-whole}
+use Rattle.receiver_flat.proofs.Inverse.{unpack-pack, pack-unpack, pack-session}
+use Rattle.link.specs.Receiver.{answers, called, madeOf, startOf, requestOf, timeOf, sums, summedOf, sumOf}
+use Rattle.link.specs.Handed.{HandedReceiver, starts, asks, passes}
+
+module _ (settings : Settings) (identity : Identity) (capacity : ℕ) where
+  -- A start that is taken hands out the numbers of the fresh session.
+  pub start-taken : Within (settings .limit) (settings .resends) → capacity ≤ 1048575
+      → startOf settings identity capacity ≡ answers (packOf (fresh (settings .limit) (settings .resends) identity capacity)) 0 0
+  unfolding madeOf
+  start-taken within room = rw (start-made (settings .limit) (settings .resends) identity capacity within room)
+
+  -- A refused start hands out no session: 29 and zeros.
+  pub start-refused : session.startOf (settings .limit) (settings .resends) identity capacity ≡ Refused → startOf settings identity capacity ≡ answers none 0 29
+  unfolding madeOf
+  start-refused e = rw e
+
+-- The numbers of a session with the settings and the capacity of one that is.
+keeps-session : (f : FlatReceiver) (next : Receiver) → isSession f ≡ true → next .settings ≡ f .settings → next .capacity ≡ f .capacity
+    → isSession (packOf next) ≡ true
+keeps-session f next e settings capacity =
+    let w = session-whole f e in
+    pack-session next (rw settings (w .within)) (rw capacity (w .room))
+
+module _ (f : FlatReceiver) (image message : List ℕ) (readiness verdict later : ℕ) (out : List ℕ) where
+  abbrev asked : inner.Effect
+  asked = inner.requestOf (unpackOf f) image message readiness (verdictOf verdict later) out
+
+  pub request-through : isSession f ≡ true → requestOf f image message readiness verdict later out
+      ≡ called (answers (packOf (asked .outcome .state)) (asked .outcome .written) (numberOf (asked .outcome .answer))) (asked .image) (asked .out)
+  unfolding requestOf
+  request-through e = pick-yes _ _ _ e
+
+  pub request-29 : isSession f ≡ false → requestOf f image message readiness verdict later out ≡ called (answers f 0 29) image out
+  unfolding requestOf
+  request-29 e = pick-no _ _ _ e
+
+  pub request-next : isSession f ≡ true → unpackOf (requestOf f image message readiness verdict later out .outcome .state) ≡ asked .outcome .state
+  request-next e = ap (λ c. unpackOf (c .outcome .state)) (request-through e) ∙ unpack-pack (asked .outcome .state)
+
+  pub request-session : isSession f ≡ true → isSession (requestOf f image message readiness verdict later out .outcome .state) ≡ true
+  request-session e =
+      let stays = settings-stay (unpackOf f) image message readiness (verdictOf verdict later) out in
+      ap (λ c. isSession (c .outcome .state)) (request-through e) ∙ keeps-session f (asked .outcome .state) e (stays .0) (stays .2)
+
+module _ (f : FlatReceiver) (elapsed : ℕ) (out : List ℕ) where
+  abbrev passed : Left Outcome
+  passed = time.timeOf (unpackOf f) elapsed out
+
+  pub time-through : isSession f ≡ true → timeOf f elapsed out
+      ≡ left (answers (packOf (passed .answer .state)) (passed .answer .written) (numberOf (passed .answer .answer))) (passed .memory)
+  unfolding timeOf
+  time-through e = pick-yes _ _ _ e
+
+  pub time-29 : isSession f ≡ false → timeOf f elapsed out ≡ left (answers f 0 29) out
+  unfolding timeOf
+  time-29 e = pick-no _ _ _ e
+
+  pub time-next : isSession f ≡ true → unpackOf (timeOf f elapsed out .answer .state) ≡ passed .answer .state
+  time-next e = ap (λ x. unpackOf (x .answer .state)) (time-through e) ∙ unpack-pack (passed .answer .state)
+
+  pub time-session : isSession f ≡ true → isSession (timeOf f elapsed out .answer .state) ≡ true
+  time-session e =
+      let stays = time-settings (unpackOf f) elapsed out in
+      ap (λ x. isSession (x .answer .state)) (time-through e)
+      ∙ keeps-session f (passed .answer .state) e (stays .0) (stays .2)
+
+module _ (f : FlatReceiver) (image : List ℕ) where
+  pub sum-through : isSession f ≡ true → sumOf f image ≡ summedOf (sum.sumOf (unpackOf f) image)
+  unfolding sumOf
+  sum-through e = pick-yes _ _ _ e
+
+  pub sum-29 : isSession f ≡ false → sumOf f image ≡ sums 0 29
+  unfolding sumOf
+  sum-29 e = pick-no _ _ _ e
+
+-- A sum is handed out as it is, and a refused one is 0.
+pub sum-rows : (s : ℕ) → (summedOf (Sum s) ≡ sums s 0) × (summedOf ImageLength ≡ sums 0 28)
+sum-rows s = (refl, refl)
+
+-- Every state that is handed out is a session, and the conversions are each other's inverse on it.
+pub handed-session : {f : FlatReceiver} → HandedReceiver f → isSession f ≡ true
+handed-session (starts settings identity capacity e) =
+    let taken = taken-within (settings .limit) (settings .resends) identity capacity e in
+    let made = fresh (settings .limit) (settings .resends) identity capacity in
+    ap (λ o. isSession (o .state)) (start-taken settings identity capacity (taken .0) (taken .1)) ∙ pack-session made (taken .0) (taken .1)
+handed-session (asks {f = f} h image message readiness verdict later out) =
+    request-session f image message readiness verdict later out (handed-session h)
+handed-session (passes {f = f} h elapsed out) = time-session f elapsed out (handed-session h)
+
+pub handed-inverse : {f : FlatReceiver} → HandedReceiver f → packOf (unpackOf f) ≡ f
+handed-inverse {f} h = pack-unpack f (handed-session h)

@@ -1,0 +1,17 @@
+use Rattle.basis.specs.Pick.{pick}
+use borrow.Author.Needs.{needs}
+use Rattle.link.proofs.mailbox_calls.harsolvek_mailbox_failure.Statement.{statement}
+use Rattle.link.proofs.mailbox_calls.harsolvek_mailbox_failure.Tie as tie
+
+pub harsolvek-mailbox-failure-spec : {M : Type 1} → statement M
+unfolding pick
+harsolvek-mailbox-failure-spec =
+    tie.close
+    (tie.spec
+    (λ c κs. search needs)
+    (λ c κs. search needs)
+    (λ c κs. search needs)
+    (λ c κs. search needs)
+    (λ c. rw (c .flat .ensures, ← (c .before .before .before .before .is-mailbox .ensures), c .before .before .before .if1 .taken, c .before .report-failure .ensures, c .before .before .unpack .ensures))
+    (λ c κs. search needs)
+    (λ c. rw (c .no-mailbox .ensures, ← (c .before .before .is-mailbox .ensures), c .before .if1 .left)))

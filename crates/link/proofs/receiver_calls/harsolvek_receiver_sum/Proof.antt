@@ -1,0 +1,18 @@
+use Rattle.basis.specs.Pick.{pick}
+use Rattle.link.specs.Receiver.{sumOf}
+use borrow.Author.Needs.{needs}
+use Rattle.link.proofs.receiver_calls.harsolvek_receiver_sum.Statement.{statement}
+use Rattle.link.proofs.receiver_calls.harsolvek_receiver_sum.Tie as tie
+
+pub harsolvek-receiver-sum-spec : {M : Type 1} → statement M
+unfolding sumOf pick
+harsolvek-receiver-sum-spec =
+    tie.close
+    (tie.spec
+    (λ c κs. search needs)
+    (λ c κs. search needs)
+    (λ c κs. search needs)
+    (λ c κs. search needs)
+    (λ c κs. search needs)
+    (λ c. rw (← (c .before .before .before .before .before .is-session .ensures), c .before .before .before .before .if1 .taken, c .value .ensures, c .before .number .ensures, c .before .before .sum .ensures, c .before .before .before .unpack .ensures))
+    (λ c. rw (← (c .before .is-session .ensures), c .if1 .left)))

@@ -1,0 +1,4 @@
+pub mod Receiver
+pub mod Indoor
+pub mod Mailbox
+pub mod Handed

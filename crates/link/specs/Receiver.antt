@@ -1,0 +1,81 @@
+-- What the receiver's calls for C return and leave: what the session's own do, on the state that the numbers say, and 29 where they are no
+-- session's.
+use Prim.Native.Nat.{ℕ}
+use mathlib.Core.List.{List}
+use Rattle.basis.specs.Pick.{pick}
+use Rattle.basis.specs.Left.{Left, left}
+use Rattle.silence.specs.declared.Settings.{Settings}
+use Rattle.wire.specs.declared.response.Identity.{Identity}
+use Rattle.receiver_phases.specs.Answer.{numberOf}
+use Rattle.receiver.specs.Session as session
+use Rattle.receiver.specs.Request as request
+use Rattle.receiver.specs.Time as time
+use Rattle.receiver.specs.Sum as sum
+use Rattle.receiver.specs.declared.session.Started.{Started}
+use Rattle.receiver.specs.declared.session.Started.the-variants.{Made, Refused}
+use Rattle.receiver.specs.declared.session.Outcome.{Outcome}
+use Rattle.receiver.specs.declared.sum.Summed.{Summed}
+use Rattle.receiver.specs.declared.sum.Summed.the-variants.{Sum, ImageLength}
+use Rattle.receiver_flat.specs.Flat.{packOf, unpackOf, isSession, none}
+use Rattle.receiver_flat.specs.Verdict.{verdictOf}
+use Rattle.receiver_flat.specs.declared.flat.FlatReceiver.{FlatReceiver}
+use Rattle.link.specs.declared.receiver_calls.ReceiverOutcome.{ReceiverOutcome}
+use Rattle.link.specs.declared.receiver_calls.ImageSum.{ImageSum}
+
+abbrev pub answers : FlatReceiver → ℕ → ℕ → ReceiverOutcome
+answers state written number = record { state = state; written = written; number = number }
+
+abbrev pub sums : ℕ → ℕ → ImageSum
+sums sum number = record { sum = sum; number = number }
+
+abbrev pub flatOf : Outcome → ReceiverOutcome
+flatOf o = answers (packOf (o .state)) (o .written) (numberOf (o .answer))
+
+-- 29, and nothing changes.
+abbrev pub noSession : FlatReceiver → ReceiverOutcome
+noSession f = answers f 0 29
+
+-- A refused start hands out no session.
+unfoldable pub madeOf : Started → FlatReceiver
+madeOf (Made r) = packOf r
+madeOf Refused = none
+
+abbrev pub begunOf : Started → ReceiverOutcome
+begunOf started = answers (madeOf started) 0 (session.numberOf started)
+
+abbrev pub startOf : Settings → Identity → ℕ → ReceiverOutcome
+startOf settings identity capacity = begunOf (session.startOf (settings .limit) (settings .resends) identity capacity)
+
+-- The outcome, the image and the output buffer.
+pub record Called : Type 0 where
+  pub outcome : ReceiverOutcome
+  pub image : List ℕ
+  pub out : List ℕ
+
+abbrev pub called : ReceiverOutcome → List ℕ → List ℕ → Called
+called outcome image out = record { outcome = outcome; image = image; out = out }
+
+abbrev pub requestedOf : request.Effect → Called
+requestedOf e = called (flatOf (e .outcome)) (e .image) (e .out)
+
+unfoldable pub requestOf : FlatReceiver → List ℕ → List ℕ → ℕ → ℕ → ℕ → List ℕ → Called
+requestOf f image message readiness verdict later out =
+    pick (isSession f) (requestedOf (request.requestOf (unpackOf f) image message readiness (verdictOf verdict later) out))
+    (called (noSession f) image out)
+
+abbrev pub passedOf : Left Outcome → Left ReceiverOutcome
+passedOf x = left (flatOf (x .answer)) (x .memory)
+
+unfoldable pub timeOf : FlatReceiver → ℕ → List ℕ → Left ReceiverOutcome
+timeOf f elapsed out = pick (isSession f) (passedOf (time.timeOf (unpackOf f) elapsed out)) (left (noSession f) out)
+
+-- A refused sum is 0.
+abbrev pub valueOf : Summed → ℕ
+valueOf (Sum s) = s
+valueOf ImageLength = 0
+
+abbrev pub summedOf : Summed → ImageSum
+summedOf s = sums (valueOf s) (sum.numberOf s)
+
+unfoldable pub sumOf : FlatReceiver → List ℕ → ImageSum
+sumOf f image = pick (isSession f) (summedOf (sum.sumOf (unpackOf f) image)) (sums 0 29)

@@ -1,0 +1,124 @@
+// The indoor end's calls for C: each is the session's own, on the state that the numbers say.
+use crate::NO_SUCH_STATE;
+use indoor::Indoor;
+use indoor::Outcome;
+use indoor::Started;
+use indoor_flat::FlatIndoor;
+use indoor_phases::plan::Release;
+use silence::Settings;
+ghost use mathlib.Core.Path.{_≡_};
+ghost use Rattle.basis.specs.Left.{left};
+ghost use Rattle.indoor_flat.specs.Flat.{none};
+ghost use Rattle.link.specs.Indoor.{answers, flatOf, noSession, madeOf, begunOf, startOf, responseOf, timeOf};
+
+#[repr(C)]
+pub struct IndoorOutcome {
+    pub state: FlatIndoor,
+    pub written: usize,
+    pub number: u8,
+}
+
+fn flat(outcome: Outcome) -> IndoorOutcome
+    ensures { λ r. ⌜ r ≡ flatOf outcome ⌝ }
+{
+    let session = outcome.state;
+    let answer = outcome.answer;
+    let state = FlatIndoor::pack(session);
+    let number = answer.number();
+    IndoorOutcome {
+        state,
+        written: outcome.written,
+        number,
+    }
+}
+
+fn no_session(state: FlatIndoor) -> IndoorOutcome
+    ensures { λ r. ⌜ r ≡ noSession state ⌝ }
+{
+    IndoorOutcome {
+        state,
+        written: 0,
+        number: NO_SUCH_STATE,
+    }
+}
+
+#[no_mangle]
+pub extern "C" fn harsolvek_indoor_start(
+    settings: Settings,
+    release: Release,
+    file: &[u8],
+    out: &mut [u8],
+) -> IndoorOutcome
+    ensures { λ r. ⌜ left r (now (out .exit)) ≡ startOf settings release (now (file .entry)) (now (out .entry)) ⌝ }
+{
+    let started = Indoor::start(settings.limit, settings.resends, release, file, out);
+    let number = started.number();
+    begun(started, number)
+}
+
+fn begun(started: Started, number: u8) -> IndoorOutcome
+    ensures { λ r. ⌜ r ≡ begunOf started number ⌝ }
+{
+    match started {
+        Started::Made { state, written } => made(state, written, number),
+        Started::Settings => refused(number),
+        Started::FileSize => refused(number),
+        Started::BufferShort => refused(number),
+    }
+}
+
+fn made(session: Indoor, written: usize, number: u8) -> IndoorOutcome
+    ensures { λ r. ⌜ r ≡ madeOf session written number ⌝ }
+{
+    let state = FlatIndoor::pack(session);
+    IndoorOutcome {
+        state,
+        written,
+        number,
+    }
+}
+
+fn refused(number: u8) -> IndoorOutcome
+    ensures { λ r. ⌜ r ≡ answers none 0 number ⌝ }
+{
+    let state = FlatIndoor::none();
+    IndoorOutcome {
+        state,
+        written: 0,
+        number,
+    }
+}
+
+#[no_mangle]
+pub extern "C" fn harsolvek_indoor_response(
+    state: FlatIndoor,
+    file: &[u8],
+    response: &[u8],
+    out: &mut [u8],
+) -> IndoorOutcome
+    ensures { λ r. ⌜ left r (now (out .exit)) ≡ responseOf state (now (file .entry)) (now (response .entry)) (now (out .entry)) ⌝ }
+{
+    if state.is_session() {
+        let session = state.unpack();
+        let outcome = session.response(file, response, out);
+        return flat(outcome);
+    }
+    no_session(state)
+}
+
+#[no_mangle]
+pub extern "C" fn harsolvek_indoor_time(
+    state: FlatIndoor,
+    file: &[u8],
+    elapsed: u16,
+    out: &mut [u8],
+) -> IndoorOutcome
+    ensures { λ r. ⌜ left r (now (out .exit)) ≡ timeOf state (now (file .entry)) elapsed (now (out .entry)) ⌝ }
+{
+    if state.is_session() {
+        let session = state.unpack();
+        let outcome = session.time(file, elapsed, out);
+        return flat(outcome);
+    }
+    no_session(state)
+}

@@ -1,0 +1,154 @@
+// The mailbox's calls for C: each is the mailbox's own, on the state that the numbers say.
+use crate::NO_SUCH_STATE;
+use mailbox::Mailbox;
+use mailbox::Outcome;
+use mailbox_flat::FlatMailbox;
+use mailbox_state::connectors::Connectors;
+use mailbox_state::connectors::Counted;
+ghost use mathlib.Core.Path.{_≡_};
+ghost use Rattle.link.specs.Mailbox.{answers, flatOf, noMailbox, madeOf, packedFresh, freshOf, writeOf, successOf, failureOf, changeOf, cciOf, messageOf};
+
+#[repr(C)]
+pub struct MailboxOutcome {
+    pub state: FlatMailbox,
+    pub number: u8,
+}
+
+#[repr(C)]
+pub struct MailboxCci {
+    pub cci: u32,
+    pub number: u8,
+}
+
+#[repr(C)]
+pub struct MessageIn {
+    pub bytes: [u8; 256],
+    pub number: u8,
+}
+
+fn flat(outcome: Outcome) -> MailboxOutcome
+    ensures { λ r. ⌜ r ≡ flatOf outcome ⌝ }
+{
+    let mailbox = outcome.state;
+    let answer = outcome.answer;
+    let state = FlatMailbox::pack(mailbox);
+    let number = answer.number();
+    MailboxOutcome { state, number }
+}
+
+fn no_mailbox(state: FlatMailbox) -> MailboxOutcome
+    ensures { λ r. ⌜ r ≡ noMailbox state ⌝ }
+{
+    MailboxOutcome {
+        state,
+        number: NO_SUCH_STATE,
+    }
+}
+
+#[no_mangle]
+pub extern "C" fn harsolvek_mailbox_fresh(connectors: u8) -> MailboxOutcome
+    ensures { λ r. ⌜ r ≡ freshOf connectors ⌝ }
+{
+    let counted = Connectors::new(connectors);
+    let number = counted.number();
+    let state = made(counted);
+    MailboxOutcome { state, number }
+}
+
+fn made(counted: Counted) -> FlatMailbox
+    ensures { λ r. ⌜ r ≡ madeOf counted ⌝ }
+{
+    match counted {
+        Counted::Made(connectors) => fresh(connectors),
+        Counted::Refused => FlatMailbox::none(),
+    }
+}
+
+fn fresh(connectors: Connectors) -> FlatMailbox
+    ensures { λ r. ⌜ r ≡ packedFresh connectors ⌝ }
+{
+    let mailbox = Mailbox::fresh(connectors);
+    FlatMailbox::pack(mailbox)
+}
+
+#[no_mangle]
+pub extern "C" fn harsolvek_mailbox_write(state: FlatMailbox, control: &[u8]) -> MailboxOutcome
+    ensures { λ r. ⌜ r ≡ writeOf state (now (control .entry)) ⌝ }
+{
+    if state.is_mailbox() {
+        let mailbox = state.unpack();
+        let outcome = mailbox.write(control);
+        return flat(outcome);
+    }
+    no_mailbox(state)
+}
+
+#[no_mangle]
+pub extern "C" fn harsolvek_mailbox_success(state: FlatMailbox, bytes: &[u8]) -> MailboxOutcome
+    ensures { λ r. ⌜ r ≡ successOf state (now (bytes .entry)) ⌝ }
+{
+    if state.is_mailbox() {
+        let mailbox = state.unpack();
+        let outcome = mailbox.report_success(bytes);
+        return flat(outcome);
+    }
+    no_mailbox(state)
+}
+
+#[no_mangle]
+pub extern "C" fn harsolvek_mailbox_failure(state: FlatMailbox) -> MailboxOutcome
+    ensures { λ r. ⌜ r ≡ failureOf state ⌝ }
+{
+    if state.is_mailbox() {
+        let mailbox = state.unpack();
+        let outcome = mailbox.report_failure();
+        return flat(outcome);
+    }
+    no_mailbox(state)
+}
+
+#[no_mangle]
+pub extern "C" fn harsolvek_mailbox_change(
+    state: FlatMailbox,
+    connector: u8,
+    reason: u16,
+) -> MailboxOutcome
+    ensures { λ r. ⌜ r ≡ changeOf state connector reason ⌝ }
+{
+    if state.is_mailbox() {
+        let mailbox = state.unpack();
+        let outcome = mailbox.change(connector, reason);
+        return flat(outcome);
+    }
+    no_mailbox(state)
+}
+
+#[no_mangle]
+pub extern "C" fn harsolvek_mailbox_cci(state: FlatMailbox) -> MailboxCci
+    ensures { λ r. ⌜ r ≡ cciOf state ⌝ }
+{
+    if state.is_mailbox() {
+        let mailbox = state.unpack();
+        let cci = mailbox.cci();
+        return MailboxCci { cci, number: 0 };
+    }
+    MailboxCci {
+        cci: 0,
+        number: NO_SUCH_STATE,
+    }
+}
+
+#[no_mangle]
+pub extern "C" fn harsolvek_mailbox_message_in(state: FlatMailbox) -> MessageIn
+    ensures { λ r. ⌜ r ≡ messageOf state ⌝ }
+{
+    if state.is_mailbox() {
+        let mailbox = state.unpack();
+        let bytes = mailbox.message_in();
+        return MessageIn { bytes, number: 0 };
+    }
+    MessageIn {
+        bytes: [0; 256],
+        number: NO_SUCH_STATE,
+    }
+}

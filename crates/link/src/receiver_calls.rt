@@ -1,0 +1,140 @@
+// The receiver's calls for C: each is the session's own, on the state that the numbers say.
+use crate::NO_SUCH_STATE;
+use receiver::Outcome;
+use receiver::Receiver;
+use receiver::Started;
+use receiver::Summed;
+use receiver_flat::FlatReceiver;
+use receiver_flat::verdict_of;
+use silence::Settings;
+use wire::response::Identity;
+ghost use mathlib.Core.Path.{_≡_};
+ghost use Rattle.basis.specs.Left.{left};
+ghost use Rattle.link.specs.Receiver.{answers, called, flatOf, noSession, madeOf, startOf, requestOf, timeOf, valueOf, sumOf};
+
+#[repr(C)]
+pub struct ReceiverOutcome {
+    pub state: FlatReceiver,
+    pub written: usize,
+    pub number: u8,
+}
+
+#[repr(C)]
+pub struct ImageSum {
+    pub sum: u16,
+    pub number: u8,
+}
+
+fn flat(outcome: Outcome) -> ReceiverOutcome
+    ensures { λ r. ⌜ r ≡ flatOf outcome ⌝ }
+{
+    let session = outcome.state;
+    let answer = outcome.answer;
+    let state = FlatReceiver::pack(session);
+    let number = answer.number();
+    ReceiverOutcome {
+        state,
+        written: outcome.written,
+        number,
+    }
+}
+
+fn no_session(state: FlatReceiver) -> ReceiverOutcome
+    ensures { λ r. ⌜ r ≡ noSession state ⌝ }
+{
+    ReceiverOutcome {
+        state,
+        written: 0,
+        number: NO_SUCH_STATE,
+    }
+}
+
+#[no_mangle]
+pub extern "C" fn harsolvek_receiver_start(
+    settings: Settings,
+    identity: Identity,
+    capacity: usize,
+) -> ReceiverOutcome
+    ensures { λ r. ⌜ r ≡ startOf settings identity capacity ⌝ }
+{
+    let started = Receiver::new(settings.limit, settings.resends, identity, capacity);
+    let number = started.number();
+    let state = made(started);
+    ReceiverOutcome {
+        state,
+        written: 0,
+        number,
+    }
+}
+
+fn made(started: Started) -> FlatReceiver
+    ensures { λ r. ⌜ r ≡ madeOf started ⌝ }
+{
+    match started {
+        Started::Made(session) => FlatReceiver::pack(session),
+        Started::Refused => FlatReceiver::none(),
+    }
+}
+
+#[no_mangle]
+pub extern "C" fn harsolvek_receiver_request(
+    state: FlatReceiver,
+    image: &mut [u8],
+    request: &[u8],
+    readiness: u8,
+    verdict: u8,
+    later: u8,
+    out: &mut [u8],
+) -> ReceiverOutcome
+    ensures { λ r. ⌜ called r (now (image .exit)) (now (out .exit)) ≡ requestOf state (now (image .entry)) (now (request .entry)) readiness verdict later (now (out .entry)) ⌝ }
+{
+    if state.is_session() {
+        let session = state.unpack();
+        let said = verdict_of(verdict, later);
+        let outcome = session.request(image, request, readiness, said, out);
+        return flat(outcome);
+    }
+    no_session(state)
+}
+
+#[no_mangle]
+pub extern "C" fn harsolvek_receiver_time(
+    state: FlatReceiver,
+    elapsed: u16,
+    out: &mut [u8],
+) -> ReceiverOutcome
+    ensures { λ r. ⌜ left r (now (out .exit)) ≡ timeOf state elapsed (now (out .entry)) ⌝ }
+{
+    if state.is_session() {
+        let session = state.unpack();
+        let outcome = session.time(elapsed, out);
+        return flat(outcome);
+    }
+    no_session(state)
+}
+
+#[no_mangle]
+pub extern "C" fn harsolvek_receiver_sum(state: FlatReceiver, image: &[u8]) -> ImageSum
+    ensures { λ r. ⌜ r ≡ sumOf state (now (image .entry)) ⌝ }
+{
+    if state.is_session() {
+        let session = state.unpack();
+        let summed = session.sum(image);
+        let number = summed.number();
+        let sum = value(summed);
+        return ImageSum { sum, number };
+    }
+    ImageSum {
+        sum: 0,
+        number: NO_SUCH_STATE,
+    }
+}
+
+fn value(summed: Summed) -> u16
+    ensures { λ r. ⌜ r ≡ valueOf summed ⌝ }
+{
+    match summed {
+        Summed::Sum(sum) => sum,
+        Summed::ImageLength => 0,
+    }
+}

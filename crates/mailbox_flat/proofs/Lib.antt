@@ -1,0 +1,5 @@
+pub mod Flags
+pub mod Mailboxes
+pub mod Inverse
+pub mod Rows
+pub mod Unique

@@ -1,0 +1,25 @@
+-- The codes of include/harsolvek.h, in its own numbers, and which byte is which connector's.
+use Prim.Native.Nat.{ℕ, zero, suc}
+use mathlib.Core.Bool.{Bool, false}
+use mathlib.Core.Path.{_≡_, refl}
+use mathlib.Core.List.{List, [], _∷_, map}
+use lib.ListN.{getD}
+use Rattle.basis.specs.Flag.{byteOf}
+use Rattle.mailbox_state.specs.declared.told.Command.{Command}
+use Rattle.mailbox_state.specs.declared.told.Told.{Told}
+use Rattle.mailbox_state.specs.declared.told.Told.the-variants.{Nothing, ResetDone, Busy, Completed, Failed, NotSupported, Cancelled, Acknowledged}
+use Rattle.mailbox_flat.specs.Waiting.{bytesOf}
+use Rattle.mailbox_flat.specs.Telling.{tellingOf}
+
+pub told-rows : (command : Command) (length : ℕ)
+    → map (λ (x : Told). tellingOf x .told) (Nothing ∷ ResetDone ∷ Busy command ∷ Completed length ∷ Failed ∷ NotSupported ∷ Cancelled ∷ Acknowledged ∷ [])
+    ≡ 0 ∷ 1 ∷ 2 ∷ 3 ∷ 4 ∷ 5 ∷ 6 ∷ 7 ∷ []
+unfolding tellingOf
+told-rows command length = refl
+
+-- Connector c waits if waiting[c - 1] is 1.
+pub waiting-row : (w : List Bool) (i : ℕ) → getD (bytesOf w) i 0 ≡ byteOf (getD w i false)
+unfolding bytesOf
+waiting-row [] i = refl
+waiting-row (x ∷ w) zero = refl
+waiting-row (x ∷ w) (suc i) = waiting-row w i

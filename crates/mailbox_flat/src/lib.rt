@@ -1,0 +1,9 @@
+// A mailbox as plain numbers for C, and back (include/harsolvek.h).
+mod flat;
+mod notifying;
+mod pack;
+mod telling;
+mod unpack;
+mod waiting;
+
+pub use flat::FlatMailbox;

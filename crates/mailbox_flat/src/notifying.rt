@@ -1,0 +1,44 @@
+// Notifications as a flag and a mask, and back. There is a mask only while they are on.
+use mailbox_state::stand::Notifications;
+ghost use mathlib.Core.Path.{_≡_};
+ghost use Rattle.mailbox_flat.specs.Notifying.{onOf, maskOf, notificationsOf, notifiesOf};
+
+pub(crate) fn on_of(notifications: Notifications) -> u8
+    ensures { λ r. ⌜ r ≡ onOf notifications ⌝ }
+{
+    match notifications {
+        Notifications::Off => 0,
+        Notifications::On { mask: _ } => 1,
+    }
+}
+
+pub(crate) fn mask_of(notifications: Notifications) -> u16
+    ensures { λ r. ⌜ r ≡ maskOf notifications ⌝ }
+{
+    match notifications {
+        Notifications::Off => 0,
+        Notifications::On { mask } => mask,
+    }
+}
+
+pub(crate) fn notifications_of(on: u8, mask: u16) -> Notifications
+    ensures { λ r. ⌜ r ≡ notificationsOf on mask ⌝ }
+{
+    if on == 1 {
+        return Notifications::On { mask };
+    }
+    Notifications::Off
+}
+
+// Whether the numbers are some notifications'.
+pub(crate) fn notifies(on: u8, mask: u16) -> bool
+    ensures { λ r. ⌜ r ≡ notifiesOf on mask ⌝ }
+{
+    if on == 1 {
+        return true;
+    }
+    if on != 0 {
+        return false;
+    }
+    mask == 0
+}

@@ -1,0 +1,73 @@
+// The mailbox that the numbers say, and whether they are a mailbox's at all: a count of connectors that a mailbox may have, and what each
+// of the others may be.
+use crate::flat::FlatMailbox;
+use crate::notifying::notifications_of;
+use crate::notifying::notifies;
+use crate::telling::Telling;
+use crate::waiting::are_flags;
+use crate::waiting::flags_of;
+use mailbox::Mailbox;
+use mailbox_state::connectors::Connectors;
+use mailbox_state::stand::Changes;
+use mailbox_state::stand::Stand;
+ghost use mathlib.Core.Path.{_≡_};
+ghost use Rattle.mailbox_flat.specs.Flat.{stated, unpackOf, saysOf, isMailbox};
+
+impl FlatMailbox {
+    pub fn unpack(self) -> Mailbox
+        ensures { λ r. ⌜ r ≡ unpackOf self ⌝ }
+    {
+        let message = self.message_in;
+        let bytes = self.waiting;
+        let waiting = flags_of(bytes);
+        let notifications = notifications_of(self.notifications, self.mask);
+        let telling = self.telling();
+        let told = telling.told();
+        let changes = Changes {
+            shown: self.shown,
+            waiting,
+        };
+        let stand = Stand {
+            connectors: self.connectors,
+            notifications,
+            told,
+            changes,
+        };
+        Mailbox { stand, message }
+    }
+
+    pub fn is_mailbox(self) -> bool
+        ensures { λ r. ⌜ r ≡ isMailbox self ⌝ }
+    {
+        let counted = Connectors::new(self.connectors);
+        if counted.number() != 0 {
+            return false;
+        }
+        let bytes = self.waiting;
+        if are_flags(bytes) {
+            return self.says();
+        }
+        false
+    }
+
+    fn says(self) -> bool
+        ensures { λ r. ⌜ r ≡ saysOf self ⌝ }
+    {
+        let telling = self.telling();
+        if notifies(self.notifications, self.mask) {
+            return telling.tells();
+        }
+        false
+    }
+
+    fn telling(self) -> Telling
+        ensures { λ r. ⌜ r ≡ stated self ⌝ }
+    {
+        let command = self.command;
+        Telling {
+            told: self.told,
+            length: self.length,
+            command,
+        }
+    }
+}

@@ -1,0 +1,49 @@
+// The connectors that wait, a byte for each, and back.
+ghost use mathlib.Core.Path.{_≡_};
+ghost use Rattle.mailbox_flat.specs.Waiting.{bytesOf, flagsOf, areFlags};
+
+const PLACES: usize = 8;
+
+pub(crate) fn bytes_of(w: [bool; 8]) -> [u8; 8]
+    ensures { λ r. ⌜ r ≡ bytesOf w ⌝ }
+{
+    [
+        w[0] as u8,
+        w[1] as u8,
+        w[2] as u8,
+        w[3] as u8,
+        w[4] as u8,
+        w[5] as u8,
+        w[6] as u8,
+        w[7] as u8,
+    ]
+}
+
+pub(crate) fn flags_of(b: [u8; 8]) -> [bool; 8]
+    ensures { λ r. ⌜ r ≡ flagsOf b ⌝ }
+{
+    [
+        b[0] == 1,
+        b[1] == 1,
+        b[2] == 1,
+        b[3] == 1,
+        b[4] == 1,
+        b[5] == 1,
+        b[6] == 1,
+        b[7] == 1,
+    ]
+}
+
+// Whether each is 0 or 1.
+pub(crate) fn are_flags(b: [u8; 8]) -> bool
+    ensures { λ r. ⌜ r ≡ areFlags b ⌝ }
+{
+    let mut place: usize = 0;
+    while place < PLACES {
+        if 1 < b[place] {
+            return false;
+        }
+        place += 1;
+    }
+    true
+}

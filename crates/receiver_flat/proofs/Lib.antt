@@ -1,0 +1,5 @@
+pub mod Inverse
+pub mod Sessions
+pub mod Verdicts
+pub mod Rows
+pub mod Unique

@@ -1,0 +1,93 @@
+-- Numbers are taken for a session's exactly where they are one in the paper's own numbers.
+use Prim.Native.Nat.{ℕ, _≤_}
+use mathlib.Core.Bool.{Bool, true, false, true≢false}
+use mathlib.Core.Path.{_≡_, refl, sym}
+use native.Mathlib.Omega.{arith}
+use borrow.Author.Tests.{ltb-false, leb-true, eqb-true, eqb-false}
+use lib.Dec.{eqb, leb, ltb}
+use Rattle.basis.specs.Pick.{pick-all, pick-both, tests}
+use Rattle.silence.specs.Within.{Within}
+use Rattle.silence.specs.Settings as silent
+use Rattle.silence.specs.declared.Checked.{Checked}
+use Rattle.silence.specs.declared.Checked.the-variants as Che
+use Rattle.silence.proofs.Laws.{made-within}
+use Rattle.wire.specs.declared.response.Identity.{Identity}
+use Rattle.receiver_phases.specs.declared.phase.Accepted.{Accepted}
+use Rattle.receiver.specs.Session.{capacityMost, freshOf, startOf, numberOf}
+use Rattle.receiver.specs.declared.session.Started.{Started}
+use Rattle.receiver.specs.declared.session.Started.the-variants as Sta
+use Rattle.receiver.proofs.SessionLaws.{start-made}
+use Rattle.receiver_flat.specs.Flat.{standsOf, isSession, none}
+use Rattle.receiver_flat.specs.Whole.{Standing, Whole}
+use Rattle.receiver_flat.specs.declared.flat.FlatReceiver.{FlatReceiver}
+
+module _ (limit resends : ℕ) (identity : Identity) (capacity : ℕ) where
+  fresh-within : (x : Checked) → silent.settingsOf limit resends ≡ x → numberOf (freshOf x identity capacity) ≡ 0 → Within limit resends
+  unfolding freshOf
+  fresh-within (Che.Made s) p e = made-within limit resends s p
+  fresh-within Che.Refused p e = absurd (omega arith)
+
+  -- What a start takes is within the limits.
+  pub taken-within : numberOf (startOf limit resends identity capacity) ≡ 0 → Within limit resends × (capacity ≤ 1048575)
+  unfolding startOf
+  taken-within =
+      pick-all (λ (x : Started). numberOf x ≡ 0 → Within limit resends × (capacity ≤ 1048575)) (ltb capacityMost capacity) _ _
+      (λ _ e. absurd (omega arith))
+      (λ t e. (fresh-within (silent.settingsOf limit resends) refl e, ltb-false capacityMost capacity t))
+
+module _ (code : ℕ) (accepted : Accepted) (short : ℕ) where
+  stands-standing : standsOf code accepted short ≡ true → Standing code accepted short
+  unfolding standsOf
+  stands-standing =
+      let P : Bool → Type 0 = λ b. b ≡ true → Standing code accepted short in
+      pick-all P (eqb code 1) _ _
+      (λ t e.
+      let one = eqb-true code 1 t in
+      record { phases = omega arith; flag = leb-true short 1 e; transfer-alone = λ not. absurd (not one); idle-empty = λ z. absurd (omega arith) })
+      (λ _. pick-all P (eqb short 0) _ _
+      (λ t.
+      let none = eqb-true short 0 t in
+      pick-all P (eqb code 0) _ _
+      (λ z e.
+      let zero = eqb-true code 0 z in
+      let both = pick-both (eqb (accepted .blocks) 0) (eqb (accepted .bytes) 0) e in
+      record {
+        phases = omega arith;
+        flag = omega arith;
+        transfer-alone = λ _. none;
+        idle-empty = λ _. (eqb-true (accepted .blocks) 0 (both .0), eqb-true (accepted .bytes) 0 (both .1));
+      })
+      (λ z e.
+      let few = leb-true code 3 e in
+      record { phases = few; flag = omega arith; transfer-alone = λ _. none; idle-empty = λ zero. absurd (eqb-false code 0 z zero) }))
+      (λ _ e. absurd (true≢false (sym e))))
+
+  standing-stands : Standing code accepted short → standsOf code accepted short ≡ true
+  unfolding standsOf
+  standing-stands s =
+      let P : Bool → Type 0 = λ b. b ≡ true in
+      let few = s .phases in
+      pick-all P (eqb code 1) _ _ (λ t. let flag = s .flag in search tests)
+      (λ t. let none = s .transfer-alone (eqb-false code 1 t) in pick-all P (eqb short 0) _ _
+      (λ _. pick-all P (eqb code 0) _ _
+      (λ z. let both = s .idle-empty (eqb-true code 0 z) in let blocks = both .0 in let bytes = both .1 in search tests)
+      (λ z. search tests))
+      (λ n. absurd (eqb-false short 0 n none)))
+
+pub session-whole : (f : FlatReceiver) → isSession f ≡ true → Whole f
+unfolding isSession
+session-whole f e =
+    let both = pick-both _ (standsOf (f .phase) (f .accepted) (f .«last_short»)) e in
+    let taken = taken-within (f .settings .limit) (f .settings .resends) (f .identity) (f .capacity) (eqb-true _ 0 (both .0)) in
+    record { within = taken .0; room = taken .1; standing = stands-standing (f .phase) (f .accepted) (f .«last_short») (both .1) }
+
+pub whole-session : (f : FlatReceiver) → Whole f → isSession f ≡ true
+unfolding isSession
+whole-session f w =
+    let made = start-made (f .settings .limit) (f .settings .resends) (f .identity) (f .capacity) (w .within) (w .room) in
+    let stands = standing-stands (f .phase) (f .accepted) (f .«last_short») (w .standing) in
+    rw (made, stands) (search tests)
+
+-- All zero is no session: its silence limit is 0.
+pub none-session : isSession none ≡ true → ⊥
+none-session e = let low = session-whole none e .within .low in omega arith

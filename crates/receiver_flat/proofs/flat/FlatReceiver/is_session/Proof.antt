@@ -1,0 +1,17 @@
+use Rattle.basis.specs.Pick.{tests}
+use Rattle.receiver_flat.specs.Flat.{isSession}
+use borrow.Author.Needs.{needs}
+use Rattle.receiver_flat.proofs.flat.FlatReceiver.is_session.Statement.{statement}
+use Rattle.receiver_flat.proofs.flat.FlatReceiver.is_session.Tie as tie
+
+pub is-session-spec : {M : Type 1} → statement M
+unfolding isSession
+is-session-spec =
+    tie.close
+    (tie.spec
+    (λ c. search needs)
+    (λ c κs. search needs)
+    (λ c κs. search needs)
+    (λ c. search (← (c .before .before .new .ensures), ← (c .before .number .ensures), tests))
+    (λ c κs. search needs)
+    (λ c. search (← (c .before .before .before .new .ensures), ← (c .before .before .number .ensures), c .stands .ensures, tests)))

@@ -1,0 +1,9 @@
+-- The verdict that a code says, 1 good, 2 bad, 3 later; any other is a later verdict without a wait, which is out of range (26).
+use Prim.Native.Nat.{ℕ}
+use lib.Dec.{eqb}
+use Rattle.basis.specs.Pick.{pick}
+use Rattle.receiver_phases.specs.declared.verdict.Verdict.{Verdict}
+use Rattle.receiver_phases.specs.declared.verdict.Verdict.the-variants.{Good, Bad, Later}
+
+unfoldable pub verdictOf : ℕ → ℕ → Verdict
+verdictOf code later = pick (eqb code 1) Good (pick (eqb code 2) Bad (pick (eqb code 3) (Later later) (Later 0)))

@@ -1,0 +1,85 @@
+// The session that the numbers say, and whether they are a session's at all: one that a start makes of the same settings, identity and
+// capacity, in a phase.
+use crate::flat;
+use crate::flat::FlatReceiver;
+use receiver::Receiver;
+use receiver_phases::phase::Accepted;
+use receiver_phases::phase::Phase;
+use receiver_phases::phase::Progress;
+ghost use mathlib.Core.Path.{_≡_};
+ghost use Rattle.receiver_flat.specs.Flat.{phaseOf, unpackOf, standsOf, isSession};
+
+impl FlatReceiver {
+    pub fn unpack(self) -> Receiver
+        ensures { λ r. ⌜ r ≡ unpackOf self ⌝ }
+    {
+        let settings = self.settings;
+        let identity = self.identity;
+        let accepted = self.accepted;
+        let phase = phase_of(self.phase, accepted, self.last_short);
+        Receiver {
+            settings,
+            identity,
+            capacity: self.capacity,
+            phase,
+            silence: self.silence,
+            resends: self.resends,
+        }
+    }
+
+    pub fn is_session(self) -> bool
+        ensures { λ r. ⌜ r ≡ isSession self ⌝ }
+    {
+        let settings = self.settings;
+        let identity = self.identity;
+        let accepted = self.accepted;
+        let started = Receiver::new(
+            settings.limit,
+            settings.resends,
+            identity,
+            self.capacity as usize,
+        );
+        if started.number() != 0 {
+            return false;
+        }
+        stands(self.phase, accepted, self.last_short)
+    }
+}
+
+// A code that is no phase's is read as Idle; `stands` tells the two apart.
+fn phase_of(code: u8, accepted: Accepted, short: u8) -> Phase
+    ensures { λ r. ⌜ r ≡ phaseOf code accepted short ⌝ }
+{
+    if code == flat::TRANSFER {
+        return Phase::Transfer(Progress {
+            accepted,
+            short: short == 1,
+        });
+    }
+    if code == flat::AWAIT {
+        return Phase::Await(accepted);
+    }
+    if code == flat::GOOD {
+        return Phase::Good(accepted);
+    }
+    Phase::Idle
+}
+
+// Whether the numbers are some phase's.
+fn stands(code: u8, accepted: Accepted, short: u8) -> bool
+    ensures { λ r. ⌜ r ≡ standsOf code accepted short ⌝ }
+{
+    if code == flat::TRANSFER {
+        return short <= 1;
+    }
+    if short != 0 {
+        return false;
+    }
+    if code != flat::IDLE {
+        return code <= flat::GOOD;
+    }
+    if accepted.blocks != 0 {
+        return false;
+    }
+    accepted.bytes == 0
+}

@@ -1,0 +1,20 @@
+// The verdict that a code says: 1 good, 2 bad, 3 later. Any other is a later verdict without a wait, which is refused (26); 0 among them,
+// so that a verdict that was forgotten is never a good one.
+use receiver_phases::verdict::Verdict;
+ghost use mathlib.Core.Path.{_≡_};
+ghost use Rattle.receiver_flat.specs.Verdict.{verdictOf};
+
+pub fn verdict_of(code: u8, later: u8) -> Verdict
+    ensures { λ r. ⌜ r ≡ verdictOf code later ⌝ }
+{
+    if code == 1 {
+        return Verdict::Good;
+    }
+    if code == 2 {
+        return Verdict::Bad;
+    }
+    if code == 3 {
+        return Verdict::Later(later);
+    }
+    Verdict::Later(0)
+}

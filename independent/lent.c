@@ -1,0 +1,85 @@
+#include "lent.h"
+
+#include <stdio.h>
+#include <string.h>
+
+void lent_lay(lent *memory, uint8_t *arenas, size_t size, size_t shift)
+{
+    memory->library = arenas + LENT_GUARD + shift;
+    memory->second = memory->library + size;
+    memory->before = memory->second + size;
+}
+
+void lent_fill(const lent *memory, size_t length, uint8_t byte)
+{
+    memset(memory->before - LENT_GUARD, byte, LENT_GUARD + length + LENT_GUARD);
+    memcpy(memory->library - LENT_GUARD, memory->before - LENT_GUARD,
+           LENT_GUARD + length + LENT_GUARD);
+    memcpy(memory->second - LENT_GUARD, memory->before - LENT_GUARD,
+           LENT_GUARD + length + LENT_GUARD);
+}
+
+void lent_spread(const lent *memory, size_t length)
+{
+    memcpy(memory->library, memory->before, length);
+    memcpy(memory->second, memory->before, length);
+}
+
+void lent_wipe(const lent *memory, size_t length, uint8_t byte)
+{
+    memset(memory->before, byte, length);
+    lent_spread(memory, length);
+}
+
+/* Whether the library's copy is as before, but for `count` bytes at `at`. */
+static int as_before(const lent *memory, size_t length, size_t at, size_t count)
+{
+    size_t rest = at + count;
+    if (at > length || count > length - at) {
+        return 0;
+    }
+    if (memcmp(memory->library - LENT_GUARD, memory->before - LENT_GUARD, LENT_GUARD + at) != 0) {
+        return 0;
+    }
+    return memcmp(memory->library + rest, memory->before + rest, length - rest + LENT_GUARD) == 0;
+}
+
+int lent_kept(const lent *memory, size_t length, size_t at, size_t count)
+{
+    if (memcmp(memory->library - LENT_GUARD, memory->second - LENT_GUARD,
+               LENT_GUARD + length + LENT_GUARD) != 0) {
+        return 0;
+    }
+    if (!as_before(memory, length, at, count)) {
+        return 0;
+    }
+    memcpy(memory->before + at, memory->library + at, count);
+    return 1;
+}
+
+int lent_held(const lent *memory, size_t length, size_t at, size_t count)
+{
+    if (!as_before(memory, length, at, count)) {
+        return 0;
+    }
+    memcpy(memory->library + at, memory->before + at, count);
+    return 1;
+}
+
+uint8_t *lent_or_null(uint8_t *bytes, size_t length, int null)
+{
+    return length == 0 && null ? NULL : bytes;
+}
+
+void lent_print(const char *name, const uint8_t *bytes, size_t length)
+{
+    size_t end = length;
+    while (end > 0 && bytes[end - 1] == 0) {
+        end--;
+    }
+    printf("  %s, %lu bytes:", name, (unsigned long)length);
+    for (size_t i = 0; i < end; i++) {
+        printf(" %02X", (unsigned)bytes[i]);
+    }
+    printf("%s\n", end < length ? ", zeros" : "");
+}

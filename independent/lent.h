@@ -1,0 +1,51 @@
+/*
+ * Memory that is lent: a copy for each implementation and one of what it held before the call, each
+ * between guards that nobody may write.
+ */
+#ifndef LENT_H
+#define LENT_H
+
+#include <stddef.h>
+#include <stdint.h>
+
+#define LENT_GUARD 64u
+
+/* The lent memory begins at any of so many places, so that it is not always aligned. */
+#define LENT_SHIFTS 16u
+
+#define LENT_SIZE(most) (LENT_GUARD + LENT_SHIFTS + (most) + LENT_GUARD)
+
+typedef struct lent {
+    uint8_t *library;
+    uint8_t *second;
+    uint8_t *before;
+} lent;
+
+/* Lays out three arenas of LENT_SIZE(most) bytes each, one behind the other. */
+void lent_lay(lent *memory, uint8_t *arenas, size_t size, size_t shift);
+
+/* Fills `length` bytes and both guards. */
+void lent_fill(const lent *memory, size_t length, uint8_t byte);
+
+/* Hands what stands in `before` to both. */
+void lent_spread(const lent *memory, size_t length);
+
+/* Takes the last message out of the first `length` bytes, so that one that is only claimed to be
+ * written is seen. */
+void lent_wipe(const lent *memory, size_t length, uint8_t byte);
+
+/* Whether both copies and their guards are the same and, but for `count` bytes at `at`, as before.
+ * Takes these into `before`. */
+int lent_kept(const lent *memory, size_t length, size_t at, size_t count);
+
+/* Whether the library's copy and its guards are, but for `count` bytes at `at`, as before. Puts
+ * these back: the library alone was called. */
+int lent_held(const lent *memory, size_t length, size_t at, size_t count);
+
+/* What the library is lent: null for nothing at times, which its header allows. */
+uint8_t *lent_or_null(uint8_t *bytes, size_t length, int null);
+
+/* Prints `length` bytes in hex behind their name, but for the zeros at their end. */
+void lent_print(const char *name, const uint8_t *bytes, size_t length);
+
+#endif
