@@ -15,10 +15,9 @@ struct name {
     long due;
 };
 
-#define NAME(name, due)                                                                            \
-    {                                                                                              \
-#name, (long)(name), due                                                                   \
-    }
+/* clang-format off */
+#define NAME(name, due) {#name, (long)(name), due}
+/* clang-format on */
 
 static const struct name names[] = {
     /* 01, Numbers we answer. */
