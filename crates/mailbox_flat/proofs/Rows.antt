@@ -1,15 +1,17 @@
--- The codes of include/harsolvek.h, in its own numbers, and which byte is which connector's.
+-- The codes of include/harsolvek.h, in its own numbers, which byte is which connector's, and what a refused count hands out.
 use Prim.Native.Nat.{ℕ, zero, suc}
 use mathlib.Core.Bool.{Bool, false}
 use mathlib.Core.Path.{_≡_, refl}
 use mathlib.Core.List.{List, [], _∷_, map}
-use lib.ListN.{getD}
+use lib.ListN.{getD, replicate}
 use Rattle.basis.specs.Flag.{byteOf}
 use Rattle.mailbox_state.specs.declared.told.Command.{Command}
 use Rattle.mailbox_state.specs.declared.told.Told.{Told}
 use Rattle.mailbox_state.specs.declared.told.Told.the-variants.{Nothing, ResetDone, Busy, Completed, Failed, NotSupported, Cancelled, Acknowledged}
 use Rattle.mailbox_flat.specs.Waiting.{bytesOf}
 use Rattle.mailbox_flat.specs.Telling.{tellingOf}
+use Rattle.mailbox_flat.specs.Flat.{none}
+use Rattle.mailbox_flat.specs.declared.flat.FlatMailbox.{FlatMailbox}
 
 pub told-rows : (command : Command) (length : ℕ)
     → map (λ (x : Told). tellingOf x .told) (Nothing ∷ ResetDone ∷ Busy command ∷ Completed length ∷ Failed ∷ NotSupported ∷ Cancelled ∷ Acknowledged ∷ [])
@@ -23,3 +25,11 @@ unfolding bytesOf
 waiting-row [] i = refl
 waiting-row (x ∷ w) zero = refl
 waiting-row (x ∷ w) (suc i) = waiting-row w i
+
+abbrev numbers : FlatMailbox → List ℕ
+numbers f =
+    f .shown ∷ f .connectors ∷ f .mask ∷ f .notifications ∷ f .told ∷ f .length ∷ f .command .code ∷ f .command .connector ∷ f .command .«reset_type» ∷ []
+
+-- What a refused count hands out is zeros.
+pub none-zeros : (none .«message_in» ≡ replicate 256 0) × (none .waiting ≡ replicate 8 0) × (numbers none ≡ replicate 9 0)
+none-zeros = (refl, refl, refl)

@@ -1,11 +1,28 @@
--- The codes of include/harsolvek.h, in its own numbers.
+-- The codes of include/harsolvek.h, in its own numbers, and what a refused start hands out.
 use Prim.Native.Nat.{ℕ}
 use mathlib.Core.Path.{_≡_, refl}
-use mathlib.Core.List.{[], _∷_, map}
+use mathlib.Core.List.{List, [], _∷_, map}
+use lib.ListN.{replicate}
+use Rattle.wire.specs.declared.response.Identity.{Identity}
 use Rattle.receiver_phases.specs.declared.phase.Accepted.{Accepted}
 use Rattle.receiver_phases.specs.declared.phase.Progress.{Progress}
 use Rattle.receiver_phases.specs.declared.phase.Phase.the-variants.{Idle, Transfer, Await, Good}
-use Rattle.receiver_flat.specs.Flat.{codeOf}
+use Rattle.receiver_flat.specs.Flat.{codeOf, none}
+use Rattle.receiver_flat.specs.declared.flat.FlatReceiver.{FlatReceiver}
 
 pub phase-rows : (p : Progress) (a : Accepted) → map codeOf (Idle ∷ Transfer p ∷ Await a ∷ Good a ∷ []) ≡ 0 ∷ 1 ∷ 2 ∷ 3 ∷ []
 phase-rows p a = refl
+
+abbrev identityNumbers : Identity → List ℕ
+identityNumbers i =
+    i .vendor ∷ i .product ∷ i .hardware ∷ i .silicon ∷ i .versions .first ∷ i .versions .second ∷ i .versions .third ∷ i .versions .fourth
+    ∷ i .bank ∷ i .flags1 ∷ i .flags2 ∷ i .flags3 ∷ i .flags4 ∷ []
+
+abbrev numbers : FlatReceiver → List ℕ
+numbers f =
+    f .settings .limit ∷ f .settings .resends ∷ f .capacity ∷ f .accepted .blocks ∷ f .accepted .bytes ∷ f .phase ∷ f .«last_short» ∷ f .silence
+    ∷ f .resends ∷ identityNumbers (f .identity)
+
+-- What a refused start hands out is zeros.
+pub none-zeros : numbers none ≡ replicate 22 0
+none-zeros = refl
