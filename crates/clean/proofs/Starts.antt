@@ -5,42 +5,19 @@ use mathlib.Core.Path.{_≡_, refl, sym, _∙_, ap}
 use mathlib.Core.List.{List}
 use lib.Dec.{ltb}
 use lib.ListN.{length}
-use mir.Val.{Val}
-use denote.Laws.{Is}
-use denote.Struct.Declared.{row}
 use Rattle.basis.specs.Pick.{pick}
 use Rattle.basis.specs.Left.{left}
 use Rattle.silence.specs.Settings.{settingsOf}
 use Rattle.silence.specs.declared.Checked.{Checked}
 use Rattle.silence.specs.declared.Checked.the-variants as Che
-use Rattle.wire.specs.Fields.{Words}
-use Rattle.wire.specs.declared.request.Versions.{Versions}
 use Rattle.wire.specs.declared.response.Identity.{Identity}
-use Rattle.wire.proofs.request.Versions as versions
-use Rattle.wire.proofs.response.Identity as identities
 use Rattle.receiver.specs.Session.{capacityMost, freshOf, startOf}
 use Rattle.receiver.specs.declared.session.Receiver.{Receiver}
 use Rattle.receiver.specs.declared.session.Started.the-variants.{Made, Refused}
 use Rattle.receiver.proofs.Fresh.{refused-made, start-fresh}
 use Rattle.indoor_phases.specs.declared.plan.Release.{Release}
-use Rattle.indoor_phases.proofs.plan.Release as releases
-use Rattle.line.specs.Line.{Wide}
 use Rattle.clean.specs.Run.{begunOf, checkedOf, runOf}
 use Rattle.clean.specs.declared.ran.Ran.the-variants.{Settings}
-
--- A value of a type is as wide as the type.
-versions-wide : (v : Versions) (vs : List Val) → Is (row versions.the-type) v vs → Words v
-versions-wide v vs h = let w = h .1 .1 in (w .0 .1, w .1 .0 .1, w .1 .1 .0 .1, w .1 .1 .1 .0 .1)
-
-pub values-wide : (release : Release) (identity : Identity) (us vs : List Val) → Is (row releases.the-type) release us → Is (row identities.the-type) identity vs → Wide release identity
-values-wide release identity us vs r i =
-    let w = i .1 .1 in
-    record {
-      vendor = w .0 .1;
-      product = w .1 .0 .1;
-      reported = versions-wide (identity .versions) _ (w .1 .1 .1 .1 .0);
-      offered = versions-wide (release .versions) _ (r .1 .1 .1 .1 .0);
-    }
 
 module _ (limit resends : ℕ) (identity : Identity) (release : Release) (file memory : List ℕ) where
   checked-29 : (x : Checked) → freshOf x identity (length memory) ≡ Refused → left Settings memory ≡ checkedOf x release identity file memory

@@ -1,4 +1,5 @@
 pub mod Sent
+pub mod Widths
 pub mod AnyLine
 pub mod Clean
 pub mod Carried

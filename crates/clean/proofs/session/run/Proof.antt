@@ -5,7 +5,8 @@ use Rattle.wire.specs.declared.response.Identity.{Identity}
 use Rattle.receiver.specs.Session.{startOf}
 use Rattle.receiver.specs.declared.session.Started.the-variants.{Made}
 use Rattle.line.specs.Line.{Wide}
-use Rattle.clean.proofs.Starts.{values-wide, refused-29, same-identity, made-begun}
+use Rattle.line.proofs.Widths.{values-wide}
+use Rattle.clean.proofs.Starts.{refused-29, same-identity, made-begun}
 use borrow.Author.Needs.{needs}
 use Rattle.clean.proofs.session.run.Statement.{statement}
 use Rattle.clean.proofs.session.run.Tie as tie

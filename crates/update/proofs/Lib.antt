@@ -1,0 +1,3 @@
+pub mod Arrives
+pub mod Begins
+pub mod Middle

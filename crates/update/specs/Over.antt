@@ -1,0 +1,31 @@
+-- The two ends of the code are those of a session over a line that loses and repeats, with what was sent on it, whatever that is.
+use Prim.Native.Nat.{ℕ, _≤_}
+use mathlib.Core.Logic.{_⊎_}
+use mathlib.Core.Path.{_≡_}
+use mathlib.Core.List.{List, List·Memᴰ}
+use lib.ListN.{length, take}
+use Rattle.wire.specs.declared.response.Identity.{Identity}
+use Rattle.indoor_phases.specs.declared.plan.Release.{Release}
+use Rattle.line.specs.Line.{World, Wide, Reached}
+use Rattle.update.specs.declared.way.Way.{Way}
+use Rattle.update.specs.declared.ends.Ends.{Ends}
+
+abbrev pub world : Ends → List ℕ → List (List ℕ) → List (List ℕ) → World
+world e image requests responses = record { receiver = e .receiver; indoor = e .indoor; image = image; requests = requests; responses = responses }
+
+-- Nothing is on its way, or a message that was sent; the line adds none and alters none.
+pub record OnItsWay (w : Way) (buffer : List ℕ) (sent : List (List ℕ)) : Type 0 where
+  pub message : (w .bytes ≡ 0) ⊎ List·Memᴰ (take (w .bytes) buffer) sent
+  pub fits : w .bytes ≤ 260
+  pub room : length buffer ≡ 260
+
+pub record Over (file : List ℕ) (e : Ends) (image up down : List ℕ) : Type 0 where
+  pub memory : List ℕ
+  pub release : Release
+  pub identity : Identity
+  pub wide : Wide release identity
+  pub requests : List (List ℕ)
+  pub responses : List (List ℕ)
+  pub reached : Reached file memory release identity (world e image requests responses)
+  pub rising : OnItsWay (e .up) up requests
+  pub falling : OnItsWay (e .down) down responses

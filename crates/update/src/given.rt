@@ -1,0 +1,53 @@
+// What the program was started with.
+use crate::luck::Luck;
+use crate::luck::Odds;
+ghost use Prim.Native.Nat.{_≤_};
+
+const WORD: usize = 16;
+
+// Nine digits, so that the value has room in 32 bits.
+const DIGITS_MOST: usize = 9;
+
+pub(crate) fn luck() -> Luck {
+    Luck {
+        word: number(1, 1),
+        odds: Odds {
+            loss: number(2, 10),
+            again: number(3, 10),
+        },
+    }
+}
+
+// A fourth argument, whatever it says.
+pub(crate) fn quiet() -> bool {
+    4 < os::arg_count()
+}
+
+// The argument at this place, in decimal; one that is missing or no number has the usual value.
+fn number(place: usize, usual: u32) -> u32 {
+    let mut word = [0u8; WORD];
+    let n = os::arg(place, &mut word);
+    value(&word[..n], usual)
+}
+
+fn value(digits: &[u8], usual: u32) -> u32 {
+    let n = digits.len();
+    if n == 0 {
+        return usual;
+    }
+    if DIGITS_MOST < n {
+        return usual;
+    }
+    let mut value: u32 = 0;
+    for i in 0..n {
+        let d = digits[i];
+        if d < b'0' {
+            return usual;
+        }
+        if b'9' < d {
+            return usual;
+        }
+        value = value % 100000000 * 10 + (d - b'0') as u32;
+    }
+    value
+}

@@ -1,0 +1,81 @@
+// One whole update to watch: the file on standard input goes from the indoor end to the receiver over a line that loses and repeats
+// messages by a seed. Arguments: the seed, how many in a hundred are lost and how many repeated, and `quiet` for the result alone.
+mod counts;
+mod ends;
+mod given;
+mod luck;
+mod page;
+mod report;
+mod session;
+mod stands;
+mod turn;
+mod view;
+mod way;
+mod words;
+
+use indoor_phases::plan::Release;
+use libc::STDIN_FILENO;
+use wire::request::Versions;
+use wire::response::Identity;
+
+// The largest image memory, and one byte more for the file, so that one that is too long is seen to be so (46).
+const IMAGE: usize = 1048575;
+
+const FILE: usize = 1048576;
+
+fn main() {
+    let mut file = [0u8; FILE];
+    let mut image = [0u8; IMAGE];
+    over(&mut file, &mut image);
+}
+
+// Here the arrays become slices: their lengths are known from their types, and no proof counts a million bytes.
+fn over(file: &mut [u8; FILE], image: &mut [u8; IMAGE]) {
+    read(file, image);
+}
+
+fn read(file: &mut [u8], image: &mut [u8]) {
+    let n = io::read_full(STDIN_FILENO, file);
+    let seed = given::luck();
+    let quiet = given::quiet();
+    session::start(identity(), release(), seed, quiet, &file[..n], image);
+}
+
+// A receiver that runs version 1 of its firmware; the file is version 2.
+fn identity() -> Identity {
+    let versions = version(1);
+    Identity {
+        vendor: VENDOR,
+        product: PRODUCT,
+        hardware: 0,
+        silicon: 0,
+        versions,
+        bank: 0,
+        flags1: 0,
+        flags2: 0,
+        flags3: 0,
+        flags4: 0,
+    }
+}
+
+fn release() -> Release {
+    let versions = version(2);
+    Release {
+        vendor: VENDOR,
+        product: PRODUCT,
+        versions,
+    }
+}
+
+const VENDOR: u16 = 0x1209;
+
+const PRODUCT: u16 = 0x0001;
+
+fn version(first: u16) -> Versions {
+    Versions {
+        first,
+        second: 0,
+        third: 0,
+        fourth: 0,
+    }
+}

@@ -1,0 +1,138 @@
+// What came of the session.
+use crate::counts::Counts;
+use crate::ends::Ends;
+use crate::page::Page;
+use crate::session::Ended;
+use crate::stands;
+use crate::turn;
+use indoor_phases::phase::Phase;
+use receiver::Receiver;
+use receiver::Summed;
+ghost use mathlib.Core.Bool.{true};
+ghost use mathlib.Core.Path.{_≡_};
+ghost use Prim.Native.Nat.{_≤_};
+ghost use lib.ListN.{length, take};
+ghost use Rattle.indoor_phases.specs.declared.phase.Phase.the-variants.{Done};
+
+// A start was refused with this number.
+pub(crate) fn refused(number: u8) {
+    say(Page::blank().word(b"not started: ").number(number as u64));
+}
+
+pub(crate) fn ended(ended: Ended, file: &[u8], image: &[u8])
+    requires { ⌜ (ended .ends .indoor .stand .phase ≡ Done → take (length (now file)) (now image) ≡ now file) ⌝ }
+{
+    let ends = ended.ends;
+    let counts = ended.counts;
+    let receiver = ends.receiver;
+    let judged = judge(ends, file, image);
+    outcome(ends, judged);
+    messages(counts, ended.turns);
+    held(receiver, image);
+    equality(judged);
+}
+
+// Whether the indoor end reports done, and whether the image begins with the file.
+struct Judged {
+    pub done: bool,
+    pub same: bool,
+}
+
+// Done is never told of an image that differs.
+fn judge(ends: Ends, file: &[u8], image: &[u8]) -> Judged
+    requires { ⌜ (ends .indoor .stand .phase ≡ Done → take (length (now file)) (now image) ≡ now file) ⌝ }
+    ensures { λ r. ⌜ (r .done ≡ true → r .same ≡ true) ⌝ }
+{
+    let indoor = ends.indoor;
+    let stand = indoor.stand;
+    let phase = stand.phase;
+    let same = begins(image, file);
+    match phase {
+        Phase::Done => Judged { done: true, same },
+        Phase::Identify => Judged { done: false, same },
+        Phase::Initiate { wait: _ } => Judged { done: false, same },
+        Phase::Transfer(_) => Judged { done: false, same },
+        Phase::Validate { wait: _ } => Judged { done: false, same },
+        Phase::Failed(_) => Judged { done: false, same },
+    }
+}
+
+fn begins(image: &[u8], file: &[u8]) -> bool
+    ensures { λ r. ⌜ (take (length (now (file .entry))) (now (image .entry)) ≡ now (file .entry) → r ≡ true) ⌝ }
+{
+    let n = file.len();
+    if image.len() < n {
+        return false;
+    }
+    check::same(&image[..n], file)
+}
+
+fn outcome(ends: Ends, judged: Judged) {
+    let indoor = ends.indoor;
+    let stand = indoor.stand;
+    let phase = stand.phase;
+    let receiver = ends.receiver;
+    let roof = receiver.phase;
+    if judged.done {
+        say(Page::blank().word(b"done: the receiver has marked the image good"));
+        return;
+    }
+    let begun = Page::blank().word(b"not done: ");
+    let named = failure(stands::indoor(begun, phase), phase);
+    say(stands::above(named.word(b"; "), roof));
+}
+
+fn failure(page: Page, phase: Phase) -> Page
+    requires { ⌜ page .at ≤ 120 ⌝ }
+    ensures { λ r. ⌜ r .at ≤ 120 ⌝ }
+{
+    let Phase::Failed(reason) = phase else {
+        return page;
+    };
+    page.word(b" ").number(reason.number() as u64)
+}
+
+fn messages(counts: Counts, turns: u32) {
+    let sent = Page::blank()
+        .number(counts.requests as u64)
+        .word(b" requests, ");
+    let both = sent.number(counts.responses as u64).word(b" responses; ");
+    let lost = both.number(counts.lost as u64).word(b" lost, ");
+    let again = lost.number(counts.again as u64).word(b" repeated, ");
+    let pushed = again
+        .number(counts.pushed as u64)
+        .word(b" replaced by a newer one; ");
+    say(pushed.number(turn::clock(turns)).word(b" ms"));
+}
+
+// How many bytes the receiver has accepted, and their sum (01, Sizes and numbers).
+fn held(receiver: Receiver, image: &[u8]) {
+    let phase = receiver.phase;
+    let accepted = phase.accepted();
+    let counted = Page::blank()
+        .word(b"image: ")
+        .number(accepted.bytes as u64)
+        .word(b" bytes, sum ");
+    let summed = receiver.sum(image);
+    match summed {
+        Summed::Sum(sum) => say(counted.number(sum as u64)),
+        Summed::ImageLength => say(counted.word(b"unknown")),
+    }
+}
+
+fn equality(judged: Judged) {
+    if judged.same {
+        say(Page::blank().word(b"the image equals the file"));
+        return;
+    }
+    say(Page::blank().word(b"the image differs from the file"));
+}
+
+fn say(page: Page)
+    requires { ⌜ page .at ≤ 120 ⌝ }
+{
+    if page.print() {
+        return;
+    }
+    os::fail(b"write");
+}

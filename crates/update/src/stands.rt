@@ -1,0 +1,46 @@
+// Where each end stands (01, The receiver's phases; The indoor end's phases).
+use crate::page::Page;
+use indoor_phases::phase::Phase as Indoors;
+use receiver_phases::phase::Phase;
+ghost use Prim.Native.Nat.{_≤_};
+
+// With the blocks that it has accepted, of those that the file has.
+pub(crate) fn receiver(page: Page, phase: Phase, blocks: u64) -> Page
+    requires { ⌜ page .at ≤ 120 ⌝ }
+    ensures { λ r. ⌜ r .at ≤ 120 ⌝ }
+{
+    let accepted = phase.accepted();
+    let named = above(page, phase);
+    named
+        .word(b", ")
+        .number(accepted.blocks as u64)
+        .word(b" of ")
+        .number(blocks)
+        .word(b" blocks")
+}
+
+pub(crate) fn above(page: Page, phase: Phase) -> Page
+    requires { ⌜ page .at ≤ 120 ⌝ }
+    ensures { λ r. ⌜ r .at ≤ 120 ⌝ }
+{
+    match phase {
+        Phase::Idle => page.word(b"receiver: Idle"),
+        Phase::Transfer(_) => page.word(b"receiver: Transfer"),
+        Phase::Await(_) => page.word(b"receiver: Await"),
+        Phase::Good(_) => page.word(b"receiver: Good"),
+    }
+}
+
+pub(crate) fn indoor(page: Page, phase: Indoors) -> Page
+    requires { ⌜ page .at ≤ 120 ⌝ }
+    ensures { λ r. ⌜ r .at ≤ 120 ⌝ }
+{
+    match phase {
+        Indoors::Identify => page.word(b"indoor end: Identify"),
+        Indoors::Initiate { wait: _ } => page.word(b"indoor end: Initiate"),
+        Indoors::Transfer(_) => page.word(b"indoor end: Transfer"),
+        Indoors::Validate { wait: _ } => page.word(b"indoor end: Validate"),
+        Indoors::Done => page.word(b"indoor end: Done"),
+        Indoors::Failed(_) => page.word(b"indoor end: Failed"),
+    }
+}
