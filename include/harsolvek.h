@@ -403,11 +403,11 @@ harsolvek_message_in harsolvek_mailbox_message_in(harsolvek_mailbox state);
  * CCI, MESSAGE_IN) has no wrapper: hand it *state. The functions named _put serve the wrappers. */
 
 static inline uint8_t harsolvek_receiver_put(harsolvek_receiver *state, size_t *written,
-                                             harsolvek_receiver_outcome outcome)
+                                             const harsolvek_receiver_outcome *outcome)
 {
-    *state = outcome.state;
-    *written = outcome.written;
-    return outcome.number;
+    *state = outcome->state;
+    *written = outcome->written;
+    return outcome->number;
 }
 
 /* A refused start leaves a state of zeros, which is no session. */
@@ -416,8 +416,9 @@ static inline uint8_t harsolvek_receiver_start_at(harsolvek_receiver *state,
                                                   harsolvek_identity identity, size_t capacity)
 {
     size_t written;
-    return harsolvek_receiver_put(state, &written,
-                                  harsolvek_receiver_start(settings, identity, capacity));
+    const harsolvek_receiver_outcome outcome =
+        harsolvek_receiver_start(settings, identity, capacity);
+    return harsolvek_receiver_put(state, &written, &outcome);
 }
 
 static inline uint8_t harsolvek_receiver_request_at(harsolvek_receiver *state, uint8_t *image,
@@ -426,25 +427,26 @@ static inline uint8_t harsolvek_receiver_request_at(harsolvek_receiver *state, u
                                                     uint8_t verdict, uint8_t later, uint8_t *out,
                                                     size_t out_length, size_t *written)
 {
-    return harsolvek_receiver_put(state, written,
-                                  harsolvek_receiver_request(*state, image, image_length, request,
-                                                             request_length, readiness, verdict,
-                                                             later, out, out_length));
+    const harsolvek_receiver_outcome outcome =
+        harsolvek_receiver_request(*state, image, image_length, request, request_length, readiness,
+                                   verdict, later, out, out_length);
+    return harsolvek_receiver_put(state, written, &outcome);
 }
 
 static inline uint8_t harsolvek_receiver_time_at(harsolvek_receiver *state, uint16_t elapsed,
                                                  uint8_t *out, size_t out_length, size_t *written)
 {
-    return harsolvek_receiver_put(state, written,
-                                  harsolvek_receiver_time(*state, elapsed, out, out_length));
+    const harsolvek_receiver_outcome outcome =
+        harsolvek_receiver_time(*state, elapsed, out, out_length);
+    return harsolvek_receiver_put(state, written, &outcome);
 }
 
 static inline uint8_t harsolvek_indoor_put(harsolvek_indoor *state, size_t *written,
-                                           harsolvek_indoor_outcome outcome)
+                                           const harsolvek_indoor_outcome *outcome)
 {
-    *state = outcome.state;
-    *written = outcome.written;
-    return outcome.number;
+    *state = outcome->state;
+    *written = outcome->written;
+    return outcome->number;
 }
 
 /* A refused start leaves a state of zeros, which is no session. */
@@ -454,9 +456,9 @@ static inline uint8_t harsolvek_indoor_start_at(harsolvek_indoor *state,
                                                 size_t file_length, uint8_t *out, size_t out_length,
                                                 size_t *written)
 {
-    return harsolvek_indoor_put(
-        state, written,
-        harsolvek_indoor_start(settings, release, file, file_length, out, out_length));
+    const harsolvek_indoor_outcome outcome =
+        harsolvek_indoor_start(settings, release, file, file_length, out, out_length);
+    return harsolvek_indoor_put(state, written, &outcome);
 }
 
 static inline uint8_t harsolvek_indoor_response_at(harsolvek_indoor *state, const uint8_t *file,
@@ -464,53 +466,61 @@ static inline uint8_t harsolvek_indoor_response_at(harsolvek_indoor *state, cons
                                                    size_t response_length, uint8_t *out,
                                                    size_t out_length, size_t *written)
 {
-    return harsolvek_indoor_put(state, written,
-                                harsolvek_indoor_response(*state, file, file_length, response,
-                                                          response_length, out, out_length));
+    const harsolvek_indoor_outcome outcome = harsolvek_indoor_response(
+        *state, file, file_length, response, response_length, out, out_length);
+    return harsolvek_indoor_put(state, written, &outcome);
 }
 
 static inline uint8_t harsolvek_indoor_time_at(harsolvek_indoor *state, const uint8_t *file,
                                                size_t file_length, uint16_t elapsed, uint8_t *out,
                                                size_t out_length, size_t *written)
 {
-    return harsolvek_indoor_put(
-        state, written, harsolvek_indoor_time(*state, file, file_length, elapsed, out, out_length));
+    const harsolvek_indoor_outcome outcome =
+        harsolvek_indoor_time(*state, file, file_length, elapsed, out, out_length);
+    return harsolvek_indoor_put(state, written, &outcome);
 }
 
 static inline uint8_t harsolvek_mailbox_put(harsolvek_mailbox *state,
-                                            harsolvek_mailbox_outcome outcome)
+                                            const harsolvek_mailbox_outcome *outcome)
 {
-    *state = outcome.state;
-    return outcome.number;
+    *state = outcome->state;
+    return outcome->number;
 }
 
 /* A refused count leaves a state of zeros, which is no mailbox. */
 static inline uint8_t harsolvek_mailbox_fresh_at(harsolvek_mailbox *state, uint8_t connectors)
 {
-    return harsolvek_mailbox_put(state, harsolvek_mailbox_fresh(connectors));
+    const harsolvek_mailbox_outcome outcome = harsolvek_mailbox_fresh(connectors);
+    return harsolvek_mailbox_put(state, &outcome);
 }
 
 static inline uint8_t harsolvek_mailbox_write_at(harsolvek_mailbox *state, const uint8_t *control,
                                                  size_t control_length)
 {
-    return harsolvek_mailbox_put(state, harsolvek_mailbox_write(*state, control, control_length));
+    const harsolvek_mailbox_outcome outcome =
+        harsolvek_mailbox_write(*state, control, control_length);
+    return harsolvek_mailbox_put(state, &outcome);
 }
 
 static inline uint8_t harsolvek_mailbox_success_at(harsolvek_mailbox *state, const uint8_t *bytes,
                                                    size_t bytes_length)
 {
-    return harsolvek_mailbox_put(state, harsolvek_mailbox_success(*state, bytes, bytes_length));
+    const harsolvek_mailbox_outcome outcome =
+        harsolvek_mailbox_success(*state, bytes, bytes_length);
+    return harsolvek_mailbox_put(state, &outcome);
 }
 
 static inline uint8_t harsolvek_mailbox_failure_at(harsolvek_mailbox *state)
 {
-    return harsolvek_mailbox_put(state, harsolvek_mailbox_failure(*state));
+    const harsolvek_mailbox_outcome outcome = harsolvek_mailbox_failure(*state);
+    return harsolvek_mailbox_put(state, &outcome);
 }
 
 static inline uint8_t harsolvek_mailbox_change_at(harsolvek_mailbox *state, uint8_t connector,
                                                   uint16_t reason)
 {
-    return harsolvek_mailbox_put(state, harsolvek_mailbox_change(*state, connector, reason));
+    const harsolvek_mailbox_outcome outcome = harsolvek_mailbox_change(*state, connector, reason);
+    return harsolvek_mailbox_put(state, &outcome);
 }
 
 #ifdef __cplusplus

@@ -31,8 +31,12 @@ ends s answer written = record { state = s; answer = answer; written = written }
 abbrev pub kept : Indoor → Answer → List ℕ → Left Outcome
 kept s answer out = left (ends s answer 0) out
 
--- The step that was decided, and its request in the first bytes of the buffer.
+-- The step that was decided, and how many bytes were written.
+abbrev pub finishOf : Plan → Step → ℕ → Outcome
+finishOf plan step written = ends (indoor plan (step .stand)) (step .answer) written
+
+-- With its request in the first bytes of the buffer.
 abbrev pub doneOf : Plan → Step → List ℕ → List ℕ → Left Outcome
 doneOf plan step file out =
-    left (ends (indoor plan (step .stand)) (step .answer) (length (bytesOf plan file (step .answer))))
+    left (finishOf plan step (length (bytesOf plan file (step .answer))))
     (led (bytesOf plan file (step .answer)) out)

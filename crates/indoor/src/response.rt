@@ -1,5 +1,6 @@
 // One response: the lent lengths are tested, the message is read, the step is decided, and then the next request is written
 // (01, Numbers we answer: 28, 27, 20, and then the step's own).
+use crate::send::send;
 use crate::session::Indoor;
 use crate::session::Outcome;
 use crate::session::finish;
@@ -39,6 +40,8 @@ impl Indoor {
         let plan = self.plan;
         let stand = self.stand;
         let step = decide(plan, stand, valid);
-        finish(plan, step, file, out)
+        let answer = step.answer;
+        let written = send(out, file, plan, answer);
+        finish(plan, step, written)
     }
 }

@@ -1,15 +1,10 @@
 // A session of the indoor end: what it was started with, and where it stands.
-use crate::send::send;
 use indoor_phases::answer::Answer;
 use indoor_phases::phase::Stand;
 use indoor_phases::plan::Plan;
 use indoor_phases::step::Step;
 ghost use mathlib.Core.Path.{_≡_};
-ghost use Prim.Native.Nat.{_≤_};
-ghost use lib.ListN.{length};
-ghost use Rattle.basis.specs.Left.{left};
-ghost use Rattle.wire.specs.Codes.{longest};
-ghost use Rattle.indoor.specs.Session.{numberOf, ends, doneOf};
+ghost use Rattle.indoor.specs.Session.{numberOf, ends, finishOf};
 
 pub struct Indoor {
     pub plan: Plan,
@@ -60,14 +55,12 @@ impl Indoor {
     }
 }
 
-// The step that was decided, and its request in the first bytes of the buffer.
-pub(crate) fn finish(plan: Plan, step: Step, file: &[u8], out: &mut [u8]) -> Outcome
-    requires { ⌜ longest ≤ length (now out) ⌝ }
-    ensures { λ r. ⌜ left r (now (out .exit)) ≡ doneOf plan step (now (file .entry)) (now (out .entry)) ⌝ }
+// The step that was decided, and how many bytes of its request were written.
+pub(crate) fn finish(plan: Plan, step: Step, written: usize) -> Outcome
+    ensures { λ r. ⌜ r ≡ finishOf plan step written ⌝ }
 {
     let answer = step.answer;
     let stand = step.stand;
-    let written = send(out, file, plan, answer);
     Outcome {
         state: Indoor { plan, stand },
         answer,

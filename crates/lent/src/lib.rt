@@ -10,12 +10,17 @@ pub enum Placed {
     NoRoom,
 }
 
-fn paste(dst: &mut [u8], at: usize, src: &[u8])
-    requires { ⌜ at + length (now src) ≤ length (now dst) ⌝ }
+// A block of a file, but for its last (01, Sizes and numbers).
+const BLOCK: usize = 256;
+
+// `n` is the part's length. Where it is a number of the code, the compiler copies without a loop.
+fn paste(dst: &mut [u8], at: usize, src: &[u8], n: usize)
+    requires { ⌜ n ≡ length (now src) ⌝ }
+    requires { ⌜ at + n ≤ length (now dst) ⌝ }
     ensures { λ _. ⌜ now (dst .exit) ≡ pasted (now (dst .entry)) at (now (src .entry)) ⌝ }
 {
     let mut j = 0;
-    while j < src.len() {
+    while j < n {
         dst[at + j] = src[j];
         j += 1;
     }
@@ -33,6 +38,10 @@ pub fn put(dst: &mut [u8], at: usize, src: &[u8]) -> Placed
     if room - at < n {
         return Placed::NoRoom;
     }
-    paste(dst, at, src);
+    if n == BLOCK {
+        paste(dst, at, src, BLOCK);
+        return Placed::Stored;
+    }
+    paste(dst, at, src, n);
     Placed::Stored
 }

@@ -1,5 +1,6 @@
 -- What the mailbox's calls for C return: what the mailbox's own do, on the state that the numbers say, and 29 where they are no mailbox's.
 use Prim.Native.Nat.{ℕ}
+use mathlib.Core.Bool.{Bool, true, false}
 use mathlib.Core.List.{List}
 use lib.ListN.{replicate}
 use Rattle.basis.specs.Pick.{pick}
@@ -8,6 +9,9 @@ use Rattle.mailbox_state.specs.Connectors as connectors
 use Rattle.mailbox_state.specs.declared.connectors.Connectors.{Connectors}
 use Rattle.mailbox_state.specs.declared.connectors.Counted.{Counted}
 use Rattle.mailbox_state.specs.declared.connectors.Counted.the-variants.{Made, Refused}
+use Rattle.mailbox_state.specs.declared.step.Clears.{Clears}
+use Rattle.mailbox_state.specs.declared.step.Clears.the-variants.{Nothing, Reset, Cancel, NoData}
+use Rattle.mailbox_state.specs.declared.step.Step.{Step}
 use Rattle.mailbox.specs.Mailbox as mailbox
 use Rattle.mailbox.specs.Events as events
 use Rattle.mailbox.specs.declared.state.Outcome.{Outcome}
@@ -22,6 +26,20 @@ answers state number = record { state = state; number = number }
 
 abbrev pub flatOf : Outcome → MailboxOutcome
 flatOf o = answers (packOf (o .state)) (numberOf (o .answer))
+
+-- Whether a step zeroes MESSAGE_IN.
+abbrev pub emptiesOf : Clears → Bool
+emptiesOf Nothing = false
+emptiesOf Reset = true
+emptiesOf Cancel = true
+emptiesOf NoData = true
+
+-- A step that keeps MESSAGE_IN, and one that zeroes it.
+abbrev pub keptOf : FlatMailbox → Step → MailboxOutcome
+keptOf f step = flatOf (mailbox.outcome (mailbox.mailbox (step .stand) (f .«message_in»)) (step .answer))
+
+abbrev pub emptiedOf : Step → MailboxOutcome
+emptiedOf step = flatOf (mailbox.outcome (mailbox.mailbox (step .stand) mailbox.zeros) (step .answer))
 
 -- 29, and nothing changes.
 abbrev pub noMailbox : FlatMailbox → MailboxOutcome

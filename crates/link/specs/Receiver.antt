@@ -1,6 +1,7 @@
 -- What the receiver's calls for C return and leave: what the session's own do, on the state that the numbers say, and 29 where they are no
 -- session's.
 use Prim.Native.Nat.{ℕ}
+use mathlib.Core.Path.{_≡_}
 use mathlib.Core.List.{List}
 use Rattle.basis.specs.Pick.{pick}
 use Rattle.basis.specs.Left.{Left, left}
@@ -11,6 +12,7 @@ use Rattle.receiver.specs.Session as session
 use Rattle.receiver.specs.Request as request
 use Rattle.receiver.specs.Time as time
 use Rattle.receiver.specs.Sum as sum
+use Rattle.receiver.specs.declared.session.Receiver.{Receiver}
 use Rattle.receiver.specs.declared.session.Started.{Started}
 use Rattle.receiver.specs.declared.session.Started.the-variants.{Made, Refused}
 use Rattle.receiver.specs.declared.session.Outcome.{Outcome}
@@ -27,6 +29,10 @@ answers state written number = record { state = state; written = written; number
 
 abbrev pub sums : ℕ → ℕ → ImageSum
 sums sum number = record { sum = sum; number = number }
+
+-- A session with the settings, the identity and the capacity of the numbers.
+abbrev pub Kept : FlatReceiver → Receiver → Type 0
+Kept f r = (r .settings ≡ f .settings) × (r .identity ≡ f .identity) × (r .capacity ≡ f .capacity)
 
 abbrev pub flatOf : Outcome → ReceiverOutcome
 flatOf o = answers (packOf (o .state)) (o .written) (numberOf (o .answer))

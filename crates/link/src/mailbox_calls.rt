@@ -1,12 +1,15 @@
-// The mailbox's calls for C: each is the mailbox's own, on the state that the numbers say.
+// The mailbox's calls for C: each is the mailbox's own, on the state that the numbers say. A refusal keeps everything, so that the state is
+// handed back as it came.
 use crate::NO_SUCH_STATE;
 use mailbox::Mailbox;
 use mailbox::Outcome;
 use mailbox_flat::FlatMailbox;
 use mailbox_state::connectors::Connectors;
 use mailbox_state::connectors::Counted;
+use mailbox_state::step::Clears;
+use mailbox_state::step::Step;
 ghost use mathlib.Core.Path.{_≡_};
-ghost use Rattle.link.specs.Mailbox.{answers, flatOf, noMailbox, madeOf, packedFresh, freshOf, writeOf, successOf, failureOf, changeOf, cciOf, messageOf};
+ghost use Rattle.link.specs.Mailbox.{answers, flatOf, emptiesOf, keptOf, emptiedOf, noMailbox, madeOf, packedFresh, freshOf, writeOf, successOf, failureOf, changeOf, cciOf, messageOf};
 
 #[repr(C)]
 pub struct MailboxOutcome {
@@ -34,6 +37,44 @@ fn flat(outcome: Outcome) -> MailboxOutcome
     let state = FlatMailbox::pack(mailbox);
     let number = answer.number();
     MailboxOutcome { state, number }
+}
+
+// MESSAGE_IN goes straight from the old state to the next one: in the outcome of the mailbox's own call it would be copied on the way.
+fn kept(state: FlatMailbox, step: Step) -> MailboxOutcome
+    ensures { λ r. ⌜ r ≡ keptOf state step ⌝ }
+{
+    let stand = step.stand;
+    let message = state.message_in;
+    let answer = step.answer;
+    flat(Outcome {
+        state: Mailbox { stand, message },
+        answer,
+    })
+}
+
+fn emptied(step: Step) -> MailboxOutcome
+    ensures { λ r. ⌜ r ≡ emptiedOf step ⌝ }
+{
+    let stand = step.stand;
+    let answer = step.answer;
+    flat(Outcome {
+        state: Mailbox {
+            stand,
+            message: [0; 256],
+        },
+        answer,
+    })
+}
+
+fn empties(clears: Clears) -> bool
+    ensures { λ r. ⌜ r ≡ emptiesOf clears ⌝ }
+{
+    match clears {
+        Clears::Nothing => false,
+        Clears::Reset => true,
+        Clears::Cancel => true,
+        Clears::NoData => true,
+    }
 }
 
 fn no_mailbox(state: FlatMailbox) -> MailboxOutcome
@@ -77,8 +118,18 @@ pub extern "C" fn harsolvek_mailbox_write(state: FlatMailbox, control: &[u8]) ->
 {
     if state.is_mailbox() {
         let mailbox = state.unpack();
-        let outcome = mailbox.write(control);
-        return flat(outcome);
+        let stand = mailbox.stand;
+        let step = mailbox::write_step(stand, control);
+        let answer = step.answer;
+        let number = answer.number();
+        if number != 0 {
+            return MailboxOutcome { state, number };
+        }
+        let clears = step.clears;
+        if empties(clears) {
+            return emptied(step);
+        }
+        return kept(state, step);
     }
     no_mailbox(state)
 }
@@ -90,6 +141,11 @@ pub extern "C" fn harsolvek_mailbox_success(state: FlatMailbox, bytes: &[u8]) ->
     if state.is_mailbox() {
         let mailbox = state.unpack();
         let outcome = mailbox.report_success(bytes);
+        let answer = outcome.answer;
+        let number = answer.number();
+        if number != 0 {
+            return MailboxOutcome { state, number };
+        }
         return flat(outcome);
     }
     no_mailbox(state)
@@ -101,8 +157,14 @@ pub extern "C" fn harsolvek_mailbox_failure(state: FlatMailbox) -> MailboxOutcom
 {
     if state.is_mailbox() {
         let mailbox = state.unpack();
-        let outcome = mailbox.report_failure();
-        return flat(outcome);
+        let stand = mailbox.stand;
+        let step = mailbox_steps::fail(stand);
+        let answer = step.answer;
+        let number = answer.number();
+        if number != 0 {
+            return MailboxOutcome { state, number };
+        }
+        return emptied(step);
     }
     no_mailbox(state)
 }
@@ -117,8 +179,9 @@ pub extern "C" fn harsolvek_mailbox_change(
 {
     if state.is_mailbox() {
         let mailbox = state.unpack();
-        let outcome = mailbox.change(connector, reason);
-        return flat(outcome);
+        let stand = mailbox.stand;
+        let step = mailbox_changes::change(stand, connector, reason);
+        return kept(state, step);
     }
     no_mailbox(state)
 }

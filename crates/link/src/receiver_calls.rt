@@ -10,7 +10,7 @@ use silence::Settings;
 use wire::response::Identity;
 ghost use mathlib.Core.Path.{_≡_};
 ghost use Rattle.basis.specs.Left.{left};
-ghost use Rattle.link.specs.Receiver.{answers, called, flatOf, noSession, madeOf, startOf, requestOf, timeOf, valueOf, sumOf};
+ghost use Rattle.link.specs.Receiver.{answers, called, Kept, flatOf, noSession, madeOf, startOf, requestOf, timeOf, valueOf, sumOf};
 
 #[repr(C)]
 pub struct ReceiverOutcome {
@@ -25,12 +25,27 @@ pub struct ImageSum {
     pub number: u8,
 }
 
-fn flat(outcome: Outcome) -> ReceiverOutcome
+// No call changes settings, identity and capacity: they are handed back as they came, and so need not be taken apart.
+fn flat(came: FlatReceiver, outcome: Outcome) -> ReceiverOutcome
+    requires { ⌜ Kept came (outcome .state) ⌝ }
     ensures { λ r. ⌜ r ≡ flatOf outcome ⌝ }
 {
     let session = outcome.state;
     let answer = outcome.answer;
-    let state = FlatReceiver::pack(session);
+    let settings = came.settings;
+    let identity = came.identity;
+    let packed = FlatReceiver::pack(session);
+    let accepted = packed.accepted;
+    let state = FlatReceiver {
+        settings,
+        identity,
+        capacity: came.capacity,
+        accepted,
+        phase: packed.phase,
+        last_short: packed.last_short,
+        silence: packed.silence,
+        resends: packed.resends,
+    };
     let number = answer.number();
     ReceiverOutcome {
         state,
@@ -92,7 +107,7 @@ pub extern "C" fn harsolvek_receiver_request(
         let session = state.unpack();
         let said = verdict_of(verdict, later);
         let outcome = session.request(image, request, readiness, said, out);
-        return flat(outcome);
+        return flat(state, outcome);
     }
     no_session(state)
 }
@@ -108,7 +123,7 @@ pub extern "C" fn harsolvek_receiver_time(
     if state.is_session() {
         let session = state.unpack();
         let outcome = session.time(elapsed, out);
-        return flat(outcome);
+        return flat(state, outcome);
     }
     no_session(state)
 }

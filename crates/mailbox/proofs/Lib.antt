@@ -3,5 +3,6 @@ pub mod Laws
 pub mod Message
 pub mod Reached
 pub mod Reported
+pub mod Settled
 pub mod Shown
 pub mod Unique

@@ -4,13 +4,18 @@ use mathlib.Core.List.{List}
 use mathlib.Core.Path.{_≡_}
 use Rattle.basis.specs.Only.{only}
 use Rattle.mailbox_state.specs.declared.connectors.Connectors.{Connectors}
+use Rattle.mailbox_state.specs.declared.stand.Stand.{Stand}
+use Rattle.mailbox_state.specs.declared.step.Step.{Step}
 use Rattle.mailbox.specs.Mailbox.{freshOf, messageOf, cciOf}
-use Rattle.mailbox.specs.Events.{writeOf, successOf, failureOf, changeOf}
+use Rattle.mailbox.specs.Events.{writeStep, writeOf, successOf, failureOf, changeOf}
 use Rattle.mailbox.specs.declared.state.Mailbox.{Mailbox}
 use Rattle.mailbox.specs.declared.state.Outcome.{Outcome}
 
 pub one-fresh : (connectors : Connectors) (r r′ : Mailbox) → r ≡ freshOf connectors → r′ ≡ freshOf connectors → r ≡ r′
 one-fresh connectors r r′ p q = only p q
+
+pub one-write-step : (stand : Stand) (control : List ℕ) (r r′ : Step) → r ≡ writeStep stand control → r′ ≡ writeStep stand control → r ≡ r′
+one-write-step stand control r r′ p q = only p q
 
 module _ (m : Mailbox) where
   pub one-cci : (r r′ : ℕ) → r ≡ cciOf m → r′ ≡ cciOf m → r ≡ r′

@@ -9,6 +9,8 @@ use Rattle.commands.specs.declared.control.Parsed.{Parsed}
 use Rattle.commands.specs.declared.control.Parsed.the-variants.{Fields, WrongLength}
 use Rattle.mailbox_state.specs.Answer.{numberOf}
 use Rattle.mailbox_state.specs.declared.answer.Answer.the-variants.{ControlLength}
+use Rattle.mailbox_state.specs.Step.{refused}
+use Rattle.mailbox_state.specs.declared.stand.Stand.{Stand}
 use Rattle.mailbox_state.specs.declared.step.Step.{Step}
 use Rattle.mailbox_rules.specs.Write as write
 use Rattle.mailbox_rules.specs.Report.{succeedOf, failOf}
@@ -16,6 +18,14 @@ use Rattle.mailbox_rules.specs.Change as change
 use Rattle.mailbox.specs.Mailbox.{mailbox, outcome, keptOf, settledOf, filledOf}
 use Rattle.mailbox.specs.declared.state.Mailbox.{Mailbox}
 use Rattle.mailbox.specs.declared.state.Outcome.{Outcome}
+
+-- What a write decides, with no MESSAGE_IN.
+unfoldable pub stepOf : Stand → Parsed → Step
+stepOf stand (Fields control) = write.writeOf stand control
+stepOf stand WrongLength = refused stand ControlLength
+
+abbrev pub writeStep : Stand → List ℕ → Step
+writeStep stand control = stepOf stand (controlOf control)
 
 -- A CONTROL that is not 8 bytes is 1, before everything.
 unfoldable pub readOf : Mailbox → Parsed → Outcome

@@ -4,22 +4,20 @@ use crate::state::Outcome;
 use commands::control::Parsed;
 use commands::control::take_apart;
 use mailbox_state::answer::Answer;
+use mailbox_state::stand::Stand;
+use mailbox_state::step::Step;
 ghost use mathlib.Core.Path.{_≡_};
 ghost use Prim.Native.Nat.{_≤_};
 ghost use lib.ListN.{length};
 ghost use Rattle.mailbox.specs.Mailbox.{size, filledOf};
-ghost use Rattle.mailbox.specs.Events.{writeOf, successOf, failureOf, changeOf};
+ghost use Rattle.mailbox.specs.Events.{writeStep, writeOf, successOf, failureOf, changeOf};
 
 impl Mailbox {
     pub fn write(self, control: &[u8]) -> Outcome
         ensures { λ r. ⌜ r ≡ writeOf self (now (control .entry)) ⌝ }
     {
-        let parsed = take_apart(control);
-        let Parsed::Fields(fields) = parsed else {
-            return self.kept(Answer::ControlLength);
-        };
         let stand = self.stand;
-        let step = mailbox_steps::write(stand, fields);
+        let step = write_step(stand, control);
         self.settled(step)
     }
 
@@ -55,6 +53,17 @@ impl Mailbox {
         let step = mailbox_changes::change(stand, connector, reason);
         self.settled(step)
     }
+}
+
+// What a write decides, with no MESSAGE_IN: for a caller that has it elsewhere.
+pub fn write_step(stand: Stand, control: &[u8]) -> Step
+    ensures { λ r. ⌜ r ≡ writeStep stand (now (control .entry)) ⌝ }
+{
+    let parsed = take_apart(control);
+    let Parsed::Fields(fields) = parsed else {
+        return Step::refused(stand, Answer::ControlLength);
+    };
+    mailbox_steps::write(stand, fields)
 }
 
 // The port's bytes, and zeros after.

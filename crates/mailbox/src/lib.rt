@@ -3,5 +3,6 @@
 mod event;
 mod state;
 
+pub use event::write_step;
 pub use state::Mailbox;
 pub use state::Outcome;

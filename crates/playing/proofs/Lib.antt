@@ -4,5 +4,6 @@ pub mod Lines
 pub mod Mid
 pub mod PartAll
 pub mod PartLaws
+pub mod Steps
 pub mod Unique
 pub mod Zeros

@@ -1,3 +1,4 @@
 pub mod Turn
+pub mod Step
 pub mod Replay
 pub mod Part

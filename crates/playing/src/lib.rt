@@ -1,5 +1,6 @@
 // A recording played on a mailbox: one record, and a part of a recording (01, Replay program).
 mod part;
+mod step;
 mod turn;
 mod whole;
 

@@ -1,5 +1,7 @@
 // A part of a recording played into a lent output.
-use crate::turn::play_record;
+use crate::step::clear;
+use crate::step::line_after;
+use crate::step::step_of;
 use lines::Line;
 use mailbox::Mailbox;
 use recording::Ending;
@@ -29,7 +31,8 @@ pub struct Played {
 pub fn play(mailbox: Mailbox, part: &[u8], out: &mut [u8]) -> Played
     ensures { λ r. ⌜ left r (now (out .exit)) ≡ playOf mailbox (now (part .entry)) (now (out .entry)) ⌝ }
 {
-    let mut state = mailbox;
+    let mut stand = mailbox.stand;
+    let mut message = mailbox.message;
     let mut taken = 0;
     let mut written = 0;
     loop {
@@ -37,25 +40,27 @@ pub fn play(mailbox: Mailbox, part: &[u8], out: &mut [u8]) -> Played
         match read {
             Read::Ended(ending) => {
                 return Played {
-                    state,
+                    state: Mailbox { stand, message },
                     taken,
                     written,
                     stop: Stop::Ended(ending),
                 };
             }
             Read::Found { record, next } => {
-                let turn = play_record(state, record);
-                let line = turn.line;
+                let step = step_of(stand, record);
+                let answer = step.answer;
+                let line = line_after(step.stand, answer);
                 if out.len() - written < line.len {
                     return Played {
-                        state,
+                        state: Mailbox { stand, message },
                         taken,
                         written,
                         stop: Stop::Full,
                     };
                 }
                 put(out, written, line);
-                state = turn.state;
+                clear(&mut message, step);
+                stand = step.stand;
                 taken = next;
                 written += line.len;
             }

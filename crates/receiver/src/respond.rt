@@ -31,7 +31,51 @@ fn deliver(out: &mut [u8], reply: Reply) -> usize
     }
 }
 
+// Each kind is written by itself: the compiler then knows how long it is, and copies no more than that.
 fn send(out: &mut [u8], response: Response) -> usize
+    requires { ⌜ longest ≤ length (now out) ⌝ }
+    ensures { λ r. ⌜ left r (now (out .exit)) ≡ leads (responseBytes response) (now (out .entry)) ⌝ }
+{
+    match response {
+        Response::GetFwId { status, identity } => {
+            write(out, Response::GetFwId { status, identity })
+        }
+        Response::Initiate { status, wait, size } => {
+            write(out, Response::Initiate { status, wait, size })
+        }
+        Response::Data {
+            status,
+            wait,
+            number,
+        } => {
+            write(
+                out,
+                Response::Data {
+                    status,
+                    wait,
+                    number,
+                },
+            )
+        }
+        Response::Validate {
+            status,
+            wait,
+            success,
+        } => {
+            write(
+                out,
+                Response::Validate {
+                    status,
+                    wait,
+                    success,
+                },
+            )
+        }
+        Response::NotBuilt => write(out, Response::NotBuilt),
+    }
+}
+
+fn write(out: &mut [u8], response: Response) -> usize
     requires { ⌜ longest ≤ length (now out) ⌝ }
     ensures { λ r. ⌜ left r (now (out .exit)) ≡ leads (responseBytes response) (now (out .entry)) ⌝ }
 {

@@ -5,11 +5,15 @@ use crate::session::Receiver;
 use receiver_phases::answer::Answer;
 use receiver_time::pass;
 use wire::codes;
+use wire::response::Identity;
 ghost use mathlib.Core.Path.{_≡_};
 ghost use Prim.Native.Nat.{_≤_};
 ghost use lib.ListN.{length};
 ghost use Rattle.basis.specs.Left.{left};
+ghost use Rattle.lent.specs.Led.{leads};
 ghost use Rattle.wire.specs.Codes.{longest};
+ghost use Rattle.receiver_phases.specs.Answer.{replyOf};
+ghost use Rattle.receiver.specs.Respond.{replyBytes};
 ghost use Rattle.receiver.specs.Time.{spendOf, timeOf};
 
 impl Receiver {
@@ -32,7 +36,7 @@ impl Receiver {
         let tick = pass(before, self.silence, elapsed, self.resends, settings);
         let answer = tick.answer;
         let phase = tick.phase;
-        let written = respond(out, identity, self.capacity, answer);
+        let written = prompt(out, identity, self.capacity, answer);
         let state = self.moved(phase, tick.silence, tick.resends);
         Outcome {
             state,
@@ -40,4 +44,15 @@ impl Receiver {
             written,
         }
     }
+}
+
+// Most time calls only count: nothing goes out then, and the identity is not looked at.
+fn prompt(out: &mut [u8], identity: Identity, capacity: u32, answer: Answer) -> usize
+    requires { ⌜ longest ≤ length (now out) ⌝ }
+    ensures { λ r. ⌜ left r (now (out .exit)) ≡ leads (replyBytes (replyOf identity capacity answer)) (now (out .entry)) ⌝ }
+{
+    let Answer::Passed = answer else {
+        return respond(out, identity, capacity, answer);
+    };
+    0
 }

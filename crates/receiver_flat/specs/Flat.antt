@@ -13,6 +13,7 @@ use Rattle.receiver_phases.specs.declared.phase.Phase.the-variants.{Idle, Trans
 use Rattle.receiver.specs.Session.{startOf, numberOf}
 use Rattle.receiver.specs.declared.session.Receiver.{Receiver}
 use Rattle.receiver_flat.specs.declared.flat.FlatReceiver.{FlatReceiver}
+use Rattle.receiver_flat.specs.declared.pack.Place.{Place}
 
 abbrev pub flat : Settings → Identity → ℕ → Accepted → ℕ → ℕ → ℕ → ℕ → FlatReceiver
 flat settings identity capacity accepted phase short silence resends = record {
@@ -47,6 +48,12 @@ shortOf Idle = 0
 shortOf (Transfer p) = byteOf (p .short)
 shortOf (Await a) = 0
 shortOf (Good a) = 0
+
+abbrev pub place : ℕ → Accepted → ℕ → Place
+place phase accepted short = record { accepted = accepted; phase = phase; «last_short» = short }
+
+abbrev pub placeOf : Phase → Place
+placeOf p = place (codeOf p) (acceptedOf p) (shortOf p)
 
 abbrev pub packOf : Receiver → FlatReceiver
 packOf r = flat (r .settings) (r .identity) (r .capacity) (acceptedOf (r .phase)) (codeOf (r .phase)) (shortOf (r .phase)) (r .silence) (r .resends)

@@ -2,9 +2,17 @@
 use crate::flat;
 use crate::flat::FlatReceiver;
 use receiver::Receiver;
+use receiver_phases::phase::Accepted;
 use receiver_phases::phase::Phase;
 ghost use mathlib.Core.Path.{_≡_};
-ghost use Rattle.receiver_flat.specs.Flat.{codeOf, shortOf, packOf};
+ghost use Rattle.receiver_flat.specs.Flat.{place, placeOf, packOf};
+
+// What a phase says, as numbers.
+struct Place {
+    accepted: Accepted,
+    phase: u8,
+    last_short: u8,
+}
 
 impl FlatReceiver {
     pub fn pack(session: Receiver) -> FlatReceiver
@@ -13,40 +21,40 @@ impl FlatReceiver {
         let settings = session.settings;
         let identity = session.identity;
         let phase = session.phase;
-        let accepted = phase.accepted();
-        let code = code_of(phase);
-        let last_short = short_of(phase);
+        let place = Place::of(phase);
+        let accepted = place.accepted;
         FlatReceiver {
             settings,
             identity,
             capacity: session.capacity,
             accepted,
-            phase: code,
-            last_short,
+            phase: place.phase,
+            last_short: place.last_short,
             silence: session.silence,
             resends: session.resends,
         }
     }
 }
 
-fn code_of(phase: Phase) -> u8
-    ensures { λ r. ⌜ r ≡ codeOf phase ⌝ }
-{
-    match phase {
-        Phase::Idle => flat::IDLE,
-        Phase::Transfer(_) => flat::TRANSFER,
-        Phase::Await(_) => flat::AWAIT,
-        Phase::Good(_) => flat::GOOD,
+impl Place {
+    fn new(phase: u8, accepted: Accepted, short: u8) -> Place
+        ensures { λ r. ⌜ r ≡ place phase accepted short ⌝ }
+    {
+        Place {
+            accepted,
+            phase,
+            last_short: short,
+        }
     }
-}
 
-fn short_of(phase: Phase) -> u8
-    ensures { λ r. ⌜ r ≡ shortOf phase ⌝ }
-{
-    match phase {
-        Phase::Idle => 0,
-        Phase::Transfer(p) => p.short as u8,
-        Phase::Await(_) => 0,
-        Phase::Good(_) => 0,
+    fn of(phase: Phase) -> Place
+        ensures { λ r. ⌜ r ≡ placeOf phase ⌝ }
+    {
+        match phase {
+            Phase::Idle => Place::new(flat::IDLE, Accepted::nothing(), 0),
+            Phase::Transfer(p) => Place::new(flat::TRANSFER, p.accepted, p.short as u8),
+            Phase::Await(a) => Place::new(flat::AWAIT, a, 0),
+            Phase::Good(a) => Place::new(flat::GOOD, a, 0),
+        }
     }
 }

@@ -10,10 +10,10 @@ use Rattle.lent.proofs.paste.Statement.{statement}
 use Rattle.lent.proofs.paste.Tie as tie
 
 abbrev Inv-loop : tie.InvT-loop
-Inv-loop dst₀ at src j₀ dst j = (j ≤ length src) × (length dst ≡ length dst₀) × (dst ≡ paste dst₀ at src j)
+Inv-loop dst₀ at src n j₀ dst j = (j ≤ n) × (length dst ≡ length dst₀) × (dst ≡ paste dst₀ at src j)
 
 abbrev μ-loop : tie.MeasureT-loop
-μ-loop dst₀ at src j₀ dst j = length src - j
+μ-loop dst₀ at src n j₀ dst j = n - j
 
 pub paste-spec : {M : Type 1} → statement M
 paste-spec =

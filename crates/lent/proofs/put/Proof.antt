@@ -14,4 +14,7 @@ put-spec =
     (λ c. search (tests, room))
     (λ c κs. search needs)
     (λ c. search needs)
-    (λ c. search (c .before .before .paste .ensures, tests, room)))
+    (λ c. search (c .before .before .paste .ensures, tests, room))
+    (λ c κs. search needs)
+    (λ c. search needs)
+    (λ c. search (c .before .before .paste2 .ensures, tests, room)))

@@ -1,5 +1,8 @@
 use Rattle.basis.specs.Pick.{pick}
 use mathlib.Core.Path.{ap}
+use Rattle.basis.specs.Left.{answers}
+use Rattle.receiver.specs.declared.session.Outcome.{Outcome}
+use Rattle.link.proofs.Kept.{time-keeps}
 use Rattle.link.specs.Receiver.{passedOf, timeOf}
 use borrow.Author.Needs.{needs}
 use Rattle.link.proofs.receiver_calls.harsolvek_receiver_time.Statement.{statement}
@@ -13,7 +16,7 @@ harsolvek-receiver-time-spec =
     (λ c κs. search needs)
     (λ c κs. search needs)
     (λ c κs. search needs)
-    (λ c κs. search needs)
+    (λ c κs. rw (ap (λ (x : Outcome). x .state) (answers (c .before .before .time .ensures))) (time-keeps _ _ (c .before .before .before .before .unpack .ensures) _ _))
     (λ c. search needs)
     (λ c. rw (c .flat .ensures, ← (c .before .before .before .before .before .before .before .is-session .ensures), c .before .before .before .before .before .before .if1 .taken, ← (c .before .before .before .before .before .unpack .ensures)) (ap passedOf (c .before .before .before .time .ensures)))
     (λ c κs. search needs)

@@ -1,15 +1,14 @@
-use Rattle.playing.specs.Turn.{turnOf, outcomeOf, printed}
 use borrow.Author.Needs.{needs}
+use Rattle.playing.proofs.Steps.{turn-is}
 use Rattle.playing.proofs.turn.play_record.Statement.{statement}
 use Rattle.playing.proofs.turn.play_record.Tie as tie
 
 pub play-record-spec : {M : Type 1} → statement M
-unfolding outcomeOf printed turnOf
 play-record-spec =
     tie.close
     (tie.spec
     (λ c κs. search needs)
     (λ c κs. search needs)
     (λ c κs. search needs)
-    (λ c κs. search needs)
-    (λ c. rw (c .line-of .ensures, c .before .number .ensures, c .before .before .cci .ensures, c .before .before .before .before .event .ensures)))
+    (λ c. let s = c .before .before .before .before in
+    turn-is (s .before .before .before .args .mailbox) (s .before .before .before .args .«record») (s .step-of .result) (s .step-of .ensures) _ _ (c .before .before .line-after .ensures) (c .clear .ensures)))

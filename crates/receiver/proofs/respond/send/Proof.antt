@@ -1,19 +1,28 @@
-use Rattle.writing.proofs.Laws.{sends-whole, response-fits}
-use native.Mathlib.Omega.{arith}
-use denote.Ref.{now}
-use Rattle.basis.specs.Left.{leaves}
-use Rattle.wire.specs.Written.{responseBytes}
-use Rattle.writing.specs.Message.{messageOf}
 use borrow.Author.Needs.{needs}
 use Rattle.receiver.proofs.respond.send.Statement.{statement}
 use Rattle.receiver.proofs.respond.send.Tie as tie
 
 pub send-spec : {M : Type 1} → statement M
-unfolding messageOf
 send-spec =
     tie.close
     (tie.spec
-    (λ c κs. search needs)
+    (λ c. search needs)
     (λ c κs. search needs)
     (λ c. search needs)
-    (λ c. let a = c .before .before .before .before .before .before .args in let fits = response-fits (a .response) in rw (leaves (c .before .before .send .ensures), c .before .before .before .before .write-response .ensures, sends-whole (responseBytes (a .response)) (now (a .out)) fits (omega arith))))
+    (λ c κs. search needs)
+    (λ c. search needs)
+    (λ c κs. search needs)
+    (λ c. search needs)
+    (λ c κs. search needs)
+    (λ c. search needs)
+    (λ c κs. search needs)
+    (λ c. search needs)
+    (λ c. rw (c .before .before .before .before .before .response .given .1) (c .before .before .write .ensures))
+    (λ c. search needs)
+    (λ c. rw (c .before .before .before .before .before .response2 .given .1) (c .before .before .write2 .ensures))
+    (λ c. search needs)
+    (λ c. rw (c .before .before .before .before .before .response3 .given .1) (c .before .before .write3 .ensures))
+    (λ c. search needs)
+    (λ c. rw (c .before .before .before .before .before .response4 .given .1) (c .before .before .write4 .ensures))
+    (λ c. search needs)
+    (λ c. rw (c .before .before .before .before .enum-told .given .1) (c .before .before .write5 .ensures)))

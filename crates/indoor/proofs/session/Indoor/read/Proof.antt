@@ -1,3 +1,4 @@
+use Rattle.basis.specs.Left.{answers, leaves}
 use Rattle.indoor.specs.Response.{readOf}
 use borrow.Author.Needs.{needs}
 use Rattle.indoor.proofs.session.Indoor.read.Statement.{statement}
@@ -15,5 +16,7 @@ read-spec =
     (λ c. rw (← (c .before .before .before .read-response .ensures), c .before .enum-told .given .1, c .refuse .ensures))
     (λ c κs. search needs)
     (λ c κs. search needs)
+    (λ c κs. search needs)
     (λ c. search needs)
-    (λ c. rw (← (c .before .before .before .before .before .before .before .before .before .before .read-response .ensures), c .before .before .before .before .before .before .before .before .parsed .given .1, ← (c .before .before .before .before .decide .ensures)) (c .before .before .finish .ensures)))
+    (λ c. let s = c .before .before .before .send in
+    rw (← (c .before .before .before .before .before .before .before .before .before .before .before .read-response .ensures), c .before .before .before .before .before .before .before .before .before .parsed .given .1, ← (c .before .before .before .before .before .decide .ensures), c .finish .ensures, answers (s .ensures), leaves (s .ensures))))

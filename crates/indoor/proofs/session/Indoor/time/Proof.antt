@@ -15,6 +15,5 @@ time-spec =
     (λ c κs. search needs)
     (λ c. search (c .refuse2 .ensures, tests))
     (λ c κs. search needs)
-    (λ c κs. search needs)
     (λ c. search needs)
-    (λ c. search (← (c .before .before .before .before .pass .ensures), tests)))
+    (λ c. search (c .before .before .spend .ensures, tests)))

@@ -13,4 +13,4 @@ spend-spec =
     (λ c κs. search needs)
     (λ c κs. search needs)
     (λ c. search needs)
-    (λ c. rw (← (c .before .before .before .before .before .pass .ensures), c .moved .ensures, answers (c .before .before .before .respond .ensures), leaves (c .before .before .before .respond .ensures))))
+    (λ c. rw (← (c .before .before .before .before .before .pass .ensures), c .moved .ensures, answers (c .before .before .before .prompt .ensures), leaves (c .before .before .before .prompt .ensures))))

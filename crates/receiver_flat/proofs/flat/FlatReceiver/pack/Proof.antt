@@ -7,6 +7,4 @@ pack-spec =
     tie.close
     (tie.spec
     (λ c κs. search needs)
-    (λ c κs. search needs)
-    (λ c κs. search needs)
-    (λ c. rw (c .before .before .accepted .ensures, c .before .code-of .ensures, c .short-of .ensures)))
+    (λ c. rw (c .before .of .ensures)))

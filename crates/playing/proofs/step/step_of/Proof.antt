@@ -1,11 +1,11 @@
-use Rattle.playing.specs.Turn.{eventIn}
+use Rattle.playing.specs.Step.{stepIn}
 use borrow.Author.Needs.{needs}
-use Rattle.playing.proofs.turn.event.Statement.{statement}
-use Rattle.playing.proofs.turn.event.Tie as tie
+use Rattle.playing.proofs.step.step_of.Statement.{statement}
+use Rattle.playing.proofs.step.step_of.Tie as tie
 
-pub event-spec : {M : Type 1} → statement M
-unfolding eventIn
-event-spec =
+pub step-of-spec : {M : Type 1} → statement M
+unfolding stepIn
+step-of-spec =
     tie.close
     (tie.spec
     (λ c. search needs)
@@ -19,4 +19,4 @@ event-spec =
     (λ c. rw (c .before .before .«record» .given .1) (c .write .ensures))
     (λ c. rw (c .before .before .record2 .given .1) (c .change .ensures))
     (λ c. rw (c .before .before .record3 .given .1) (c .success .ensures))
-    (λ c. rw (c .before .enum-told .given .1) (c .report-failure .ensures)))
+    (λ c. rw (c .before .enum-told .given .1) (c .fail .ensures)))

@@ -1,0 +1,21 @@
+-- A call of the receiver keeps the settings, the identity and the capacity that its numbers say.
+use Prim.Native.Nat.{ℕ}
+use mathlib.Core.Path.{_≡_}
+use mathlib.Core.List.{List}
+use Rattle.receiver_phases.specs.declared.verdict.Verdict.{Verdict}
+use Rattle.receiver.specs.Request as inner
+use Rattle.receiver.specs.Time as time
+use Rattle.receiver.specs.declared.session.Receiver.{Receiver}
+use Rattle.receiver.proofs.Laws.{settings-stay}
+use Rattle.receiver.proofs.TimeLaws.{time-settings}
+use Rattle.receiver_flat.specs.Flat.{unpackOf}
+use Rattle.receiver_flat.specs.declared.flat.FlatReceiver.{FlatReceiver}
+use Rattle.link.specs.Receiver.{Kept}
+
+module _ (f : FlatReceiver) (r : Receiver) (e : r ≡ unpackOf f) where
+  pub request-keeps : (image message : List ℕ) (readiness : ℕ) (verdict : Verdict) (out : List ℕ)
+      → Kept f (inner.requestOf r image message readiness verdict out .outcome .state)
+  request-keeps image message readiness verdict out = rw e (settings-stay (unpackOf f) image message readiness verdict out)
+
+  pub time-keeps : (elapsed : ℕ) (out : List ℕ) → Kept f (time.timeOf r elapsed out .answer .state)
+  time-keeps elapsed out = rw e (time-settings (unpackOf f) elapsed out)

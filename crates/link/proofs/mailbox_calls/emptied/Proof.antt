@@ -1,0 +1,12 @@
+use Rattle.mailbox.specs.Mailbox.{zeros}
+use borrow.Author.Needs.{needs}
+use Rattle.link.proofs.mailbox_calls.emptied.Statement.{statement}
+use Rattle.link.proofs.mailbox_calls.emptied.Tie as tie
+
+pub emptied-spec : {M : Type 1} → statement M
+unfolding zeros
+emptied-spec =
+    tie.close
+    (tie.spec
+    (λ c κs. search needs)
+    (λ c. c .flat .ensures))

@@ -1,0 +1,19 @@
+use Rattle.writing.proofs.Laws.{sends-whole, response-fits}
+use native.Mathlib.Omega.{arith}
+use denote.Ref.{now}
+use Rattle.basis.specs.Left.{leaves}
+use Rattle.wire.specs.Written.{responseBytes}
+use Rattle.writing.specs.Message.{messageOf}
+use borrow.Author.Needs.{needs}
+use Rattle.receiver.proofs.respond.write.Statement.{statement}
+use Rattle.receiver.proofs.respond.write.Tie as tie
+
+pub write-spec : {M : Type 1} → statement M
+unfolding messageOf
+write-spec =
+    tie.close
+    (tie.spec
+    (λ c κs. search needs)
+    (λ c κs. search needs)
+    (λ c. search needs)
+    (λ c. let a = c .before .before .before .before .before .before .args in let fits = response-fits (a .response) in rw (leaves (c .before .before .send .ensures), c .before .before .before .before .write-response .ensures, sends-whole (responseBytes (a .response)) (now (a .out)) fits (omega arith))))
