@@ -1,5 +1,5 @@
-// The mailbox's calls for C: each is the mailbox's own, on the state that the numbers say. A refusal keeps everything, so that the state is
-// handed back as it came.
+// The mailbox's calls for C: each is the mailbox's own, on the state that the numbers say. A refused write or report hands the state back
+// as it came.
 use crate::NO_SUCH_STATE;
 use mailbox::Mailbox;
 use mailbox::Outcome;
@@ -9,7 +9,7 @@ use mailbox_state::connectors::Counted;
 use mailbox_state::step::Clears;
 use mailbox_state::step::Step;
 ghost use mathlib.Core.Path.{_≡_};
-ghost use Rattle.link.specs.Mailbox.{answers, flatOf, emptiesOf, keptOf, emptiedOf, noMailbox, madeOf, packedFresh, freshOf, writeOf, successOf, failureOf, changeOf, cciOf, messageOf};
+ghost use Rattle.link.specs.Mailbox.{flatOf, emptiesOf, keptOf, emptiedOf, noMailbox, madeOf, packedFresh, freshOf, writeOf, successOf, failureOf, changeOf, cciOf, messageOf};
 
 #[repr(C)]
 pub struct MailboxOutcome {

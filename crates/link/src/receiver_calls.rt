@@ -10,7 +10,7 @@ use silence::Settings;
 use wire::response::Identity;
 ghost use mathlib.Core.Path.{_≡_};
 ghost use Rattle.basis.specs.Left.{left};
-ghost use Rattle.link.specs.Receiver.{answers, called, Kept, flatOf, noSession, madeOf, startOf, requestOf, timeOf, valueOf, sumOf};
+ghost use Rattle.link.specs.Receiver.{called, Kept, flatOf, noSession, madeOf, startOf, requestOf, timeOf, valueOf, sumOf};
 
 #[repr(C)]
 pub struct ReceiverOutcome {

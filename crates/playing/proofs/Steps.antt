@@ -3,7 +3,6 @@ use Prim.Native.Nat.{ℕ, _≤_}
 use mathlib.Core.Bool.{Bool, true, false}
 use mathlib.Core.List.{List}
 use mathlib.Core.Path.{_≡_, refl, sym, _∙_, ap}
-use native.Mathlib.Omega.{arith}
 use borrow.Author.Tests.{eqb-true}
 use lib.Dec.{eqb}
 use lib.ListN.{length, replicate, length-replicate}
@@ -21,7 +20,6 @@ use Rattle.mailbox_rules.specs.Report.{succeedOf}
 use Rattle.mailbox.specs.Mailbox.{size, zeros, filledOf, mailbox, outcome, keptOf, clearedOf, settledOf}
 use Rattle.mailbox.specs.Events.{reportedOf, successOf}
 use Rattle.mailbox.specs.declared.state.Mailbox.{Mailbox}
-use Rattle.mailbox.specs.declared.state.Outcome.{Outcome}
 use Rattle.mailbox.proofs.Reported.{fits}
 use Rattle.mailbox.proofs.Settled.{read-settled}
 use Rattle.playing.specs.Turn.{eventIn, outcomeOf, printed, turnOf}

@@ -9,6 +9,7 @@ ghost use lib.ListN.{length};
 ghost use Rattle.basis.specs.Left.{left};
 ghost use Rattle.wire.specs.Codes.{longest};
 ghost use Rattle.wire.specs.Written.{responseBytes};
+ghost use Rattle.wire.specs.declared.response.Response.the-variants.{Data, Validate};
 ghost use Rattle.receiver_phases.specs.Answer.{replyOf};
 ghost use Rattle.lent.specs.Led.{leads};
 ghost use Rattle.receiver.specs.Respond.{replyBytes};
@@ -37,42 +38,54 @@ fn send(out: &mut [u8], response: Response) -> usize
     ensures { λ r. ⌜ left r (now (out .exit)) ≡ leads (responseBytes response) (now (out .entry)) ⌝ }
 {
     match response {
-        Response::GetFwId { status, identity } => {
-            write(out, Response::GetFwId { status, identity })
-        }
-        Response::Initiate { status, wait, size } => {
-            write(out, Response::Initiate { status, wait, size })
-        }
+        Response::GetFwId { status, identity } => write(
+            out,
+            Response::GetFwId { status, identity },
+        ),
+        Response::Initiate { status, wait, size } => write(
+            out,
+            Response::Initiate { status, wait, size },
+        ),
         Response::Data {
             status,
             wait,
             number,
-        } => {
-            write(
-                out,
-                Response::Data {
-                    status,
-                    wait,
-                    number,
-                },
-            )
-        }
+        } => receipt(out, status, wait, number),
         Response::Validate {
             status,
             wait,
             success,
-        } => {
-            write(
-                out,
-                Response::Validate {
-                    status,
-                    wait,
-                    success,
-                },
-            )
-        }
+        } => validated(out, status, wait, success),
         Response::NotBuilt => write(out, Response::NotBuilt),
     }
+}
+
+fn receipt(out: &mut [u8], status: u8, wait: u8, number: u16) -> usize
+    requires { ⌜ longest ≤ length (now out) ⌝ }
+    ensures { λ r. ⌜ left r (now (out .exit)) ≡ leads (responseBytes (Data status wait number)) (now (out .entry)) ⌝ }
+{
+    write(
+        out,
+        Response::Data {
+            status,
+            wait,
+            number,
+        },
+    )
+}
+
+fn validated(out: &mut [u8], status: u8, wait: u8, success: bool) -> usize
+    requires { ⌜ longest ≤ length (now out) ⌝ }
+    ensures { λ r. ⌜ left r (now (out .exit)) ≡ leads (responseBytes (Validate status wait success)) (now (out .entry)) ⌝ }
+{
+    write(
+        out,
+        Response::Validate {
+            status,
+            wait,
+            success,
+        },
+    )
 }
 
 fn write(out: &mut [u8], response: Response) -> usize

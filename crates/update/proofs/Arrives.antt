@@ -7,11 +7,13 @@ use mathlib.Core.List.{List, [], _∷_, List·Memᴰ, List·Memᴰ·head}
 use native.Mathlib.Omega.{arith}
 use borrow.Author.Tests.{eqb-true, eqb-false}
 use lib.Dec.{eqb}
-use lib.ListN.{length, take, drop}
+use lib.ListN.{length, take}
 use Rattle.basis.specs.Pick.{pick, pick-all}
 use Rattle.basis.specs.Left.{Left, left}
 use Rattle.lent.specs.Led.{led}
 use Rattle.lent.specs.Sent.{withSent}
+use Rattle.receiver_phases.specs.Phase.{acceptedOf}
+use Rattle.receiver_phases.specs.declared.phase.Phase.{Phase}
 use Rattle.receiver_phases.specs.declared.verdict.Verdict.the-variants.{Good}
 use Rattle.receiver.specs.Request.{requestOf}
 use Rattle.receiver.specs.Respond.{bytesOf as receiverBytesOf}
@@ -29,7 +31,7 @@ use Rattle.line.proofs.Demand3.{demand3}
 use Rattle.update.specs.declared.way.Way.{Way}
 use Rattle.update.specs.declared.ends.Ends.{Ends}
 use Rattle.update.specs.Turn.{way, behindOf, afterOf, above, below, upLost, downLost, risesOf, Asked, asked, askOf, tellOf, roofOf, indoorsOf}
-use Rattle.update.specs.Over.{world, OnItsWay, Over}
+use Rattle.update.specs.Over.{world, OnItsWay, Over, Same}
 
 -- The same ends.
 pub same-over : (file : List ℕ) (r e : Ends) (image up down : List ℕ) → r ≡ e → Over file e image up down → Over file r image up down
@@ -150,8 +152,9 @@ module _ (file : List ℕ) (e : Ends) (image up down : List ℕ) (o : Over file 
       goes-on (downLost e) image up down (o .requests) (o .responses) (o .reached) (o .rising)
       (record { message = inl refl; fits = omega arith; room = o .falling .room })
 
-  -- Demand 3: when the indoor end reports done, the image begins with the file.
-  pub done-holds : e .indoor .stand .phase ≡ Done → take (length file) image ≡ file
+  -- Demand 3: when the indoor end reports done, the receiver's image is the file.
+  pub done-holds : e .indoor .stand .phase ≡ Done → Same file e image
   done-holds done =
       let d = demand3 file (o .memory) (o .release) (o .identity) (o .wide) in
-      d .doneIsGood (world e image (o .requests) (o .responses)) (o .reached) done .holds .bytes
+      let g = d .doneIsGood (world e image (o .requests) (o .responses)) (o .reached) done in
+      (ap (λ (p : Phase). acceptedOf p .bytes) (g .good) ∙ g .holds .counted, g .holds .bytes)

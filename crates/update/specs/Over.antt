@@ -5,6 +5,7 @@ use mathlib.Core.Path.{_≡_}
 use mathlib.Core.List.{List, List·Memᴰ}
 use lib.ListN.{length, take}
 use Rattle.wire.specs.declared.response.Identity.{Identity}
+use Rattle.receiver_phases.specs.Phase.{acceptedOf}
 use Rattle.indoor_phases.specs.declared.plan.Release.{Release}
 use Rattle.line.specs.Line.{World, Wide, Reached}
 use Rattle.update.specs.declared.way.Way.{Way}
@@ -29,3 +30,7 @@ pub record Over (file : List ℕ) (e : Ends) (image up down : List ℕ) : Type 0
   pub reached : Reached file memory release identity (world e image requests responses)
   pub rising : OnItsWay (e .up) up requests
   pub falling : OnItsWay (e .down) down responses
+
+-- The receiver has accepted as many bytes as the file has, and they are the file's.
+abbrev pub Same : List ℕ → Ends → List ℕ → Type 0
+Same file e image = (acceptedOf (e .receiver .phase) .bytes ≡ length file) × (take (length file) image ≡ file)

@@ -4,6 +4,7 @@ use crate::way::Way;
 use indoor::Indoor;
 use indoor_phases::phase::Phase;
 use receiver::Receiver;
+use receiver_phases::phase::Phase as Roof;
 use receiver_phases::verdict::Verdict;
 ghost use mathlib.Core.Path.{_≡_};
 ghost use Prim.Native.Nat.{_≤_};
@@ -28,8 +29,8 @@ pub(crate) struct Told {
 }
 
 impl Ends {
-    // The request on its way arrives, and stays on its way if it is to arrive once more. The signature is taken for good (01, The
-    // receiver's phases: the verdict is handed to us).
+    // The request on its way arrives, and stays on its way if it is to arrive once more. Every signature is taken for good: the verdict is
+    // handed to us (01, The receiver's phases).
     pub(crate) fn ask(self, stays: bool, image: &mut [u8], up: &[u8], down: &mut [u8]) -> Told
         requires { ⌜ self .up .bytes ≤ length (now up) ⌝ }
         ensures { λ r. ⌜ asked (r .ends) (now (image .exit)) (now (down .exit)) ≡ askOf self stays (now (image .entry)) (now (up .entry)) (now (down .entry)) ⌝ }
@@ -86,6 +87,7 @@ impl Ends {
             pushed: rising.pushed(written),
         }
     }
+
     // Time passes on the roof.
     pub(crate) fn wait_above(self, elapsed: u16, down: &mut [u8]) -> Told
         ensures { λ r. ⌜ left (r .ends) (now (down .exit)) ≡ roofOf self elapsed (now (down .entry)) ⌝ }
@@ -137,6 +139,7 @@ impl Ends {
             pushed: rising.pushed(written),
         }
     }
+
     // The request goes next: alone, or if it comes again. Otherwise it is the response's turn.
     pub(crate) fn rises(self) -> bool
         ensures { λ r. ⌜ r ≡ risesOf self ⌝ }
@@ -179,6 +182,18 @@ impl Ends {
             down: Way::nothing(),
         }
     }
+
+    pub(crate) fn stands_idle(self) -> bool {
+        let receiver = self.receiver;
+        let phase = receiver.phase;
+        match phase {
+            Roof::Idle => true,
+            Roof::Transfer(_) => false,
+            Roof::Await(_) => false,
+            Roof::Good(_) => false,
+        }
+    }
+
     // The indoor end is done or has failed, and no ABORT is on its way.
     pub(crate) fn rest(self) -> bool {
         let indoor = self.indoor;

@@ -1,21 +1,22 @@
 // What the program was started with.
 use crate::luck::Luck;
 use crate::luck::Odds;
-ghost use Prim.Native.Nat.{_≤_};
 
 const WORD: usize = 16;
 
 // Nine digits, so that the value has room in 32 bits.
 const DIGITS_MOST: usize = 9;
 
+// The generator's words are 1 to 2^31 - 2.
 pub(crate) fn luck() -> Luck {
-    Luck {
-        word: number(1, 1),
+    let seeded = Luck {
+        word: number(1, 9) % 2147483646 + 1,
         odds: Odds {
             loss: number(2, 10),
             again: number(3, 10),
         },
-    }
+    };
+    seeded.next()
 }
 
 // A fourth argument, whatever it says.
@@ -47,6 +48,7 @@ fn value(digits: &[u8], usual: u32) -> u32 {
         if b'9' < d {
             return usual;
         }
+        // Nine digits never reach the remainder; it only shows that nothing wraps.
         value = value % 100000000 * 10 + (d - b'0') as u32;
     }
     value

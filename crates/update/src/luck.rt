@@ -1,7 +1,6 @@
 // What becomes of a message, by a seed: it is lost, arrives, or arrives and stays on its way to arrive once more.
-ghost use Prim.Native.Nat.{_<_};
 
-// In percent of the messages.
+// How many of a hundred messages are lost, and of a hundred that arrive come again.
 pub(crate) struct Odds {
     pub loss: u32,
     pub again: u32,
@@ -18,10 +17,10 @@ pub(crate) enum Fate {
 }
 
 impl Luck {
-    // The usual generator of 32 bits; of its words only the upper half is used.
+    // Lehmer's generator with the prime 2^31 - 1, which needs a word that is not 0.
     pub(crate) fn next(self) -> Luck {
         let odds = self.odds;
-        let word = (self.word as u64 * 1664525 + 1013904223) % 4294967296;
+        let word = self.word as u64 * 48271 % 2147483647;
         Luck {
             word: word as u32,
             odds,
@@ -29,10 +28,10 @@ impl Luck {
     }
 
     fn percent(self) -> u32 {
-        self.word / 65536 % 100
+        self.word % 100
     }
 
-    // Of a message that has arrived before, nothing is decided any more: it arrives this once.
+    // A message that comes again arrives, and then it is gone.
     pub(crate) fn fate(self, again: bool) -> Fate {
         if again {
             return Fate::Arrives { stays: false };

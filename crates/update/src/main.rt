@@ -34,8 +34,14 @@ fn over(file: &mut [u8; FILE], image: &mut [u8; IMAGE]) {
     read(file, image);
 }
 
+// The reading stops at a failure as at the file's end; one read more tells them apart.
 fn read(file: &mut [u8], image: &mut [u8]) {
     let n = io::read_full(STDIN_FILENO, file);
+    let mut more = [0u8; 1];
+    if libc::read(STDIN_FILENO, &mut more) < 0 {
+        os::fail(b"read");
+        return;
+    }
     let seed = given::luck();
     let quiet = given::quiet();
     session::start(identity(), release(), seed, quiet, &file[..n], image);

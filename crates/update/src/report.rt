@@ -6,33 +6,48 @@ use crate::session::Ended;
 use crate::stands;
 use crate::turn;
 use indoor_phases::phase::Phase;
+use indoor_phases::phase::Reason;
 use receiver::Receiver;
 use receiver::Summed;
+use receiver_phases::phase::Accepted;
 ghost use mathlib.Core.Bool.{true};
 ghost use mathlib.Core.Path.{_≡_};
 ghost use Prim.Native.Nat.{_≤_};
 ghost use lib.ListN.{length, take};
 ghost use Rattle.indoor_phases.specs.declared.phase.Phase.the-variants.{Done};
+ghost use Rattle.update.specs.Over.{Same};
 
-// A start was refused with this number.
+// A start was refused with this number (01, Numbers we answer).
 pub(crate) fn refused(number: u8) {
-    say(Page::blank().word(b"not started: ").number(number as u64));
+    let page = Page::blank().word(b"not started: ").number(number as u64);
+    if number == 46 {
+        say(page.word(b", the file is empty or above 1,048,575 bytes"));
+        return;
+    }
+    say(page);
 }
 
+// It stops at a line that could not be written.
 pub(crate) fn ended(ended: Ended, file: &[u8], image: &[u8])
-    requires { ⌜ (ended .ends .indoor .stand .phase ≡ Done → take (length (now file)) (now image) ≡ now file) ⌝ }
+    requires { ⌜ (ended .ends .indoor .stand .phase ≡ Done → Same (now file) (ended .ends) (now image)) ⌝ }
 {
     let ends = ended.ends;
     let counts = ended.counts;
     let receiver = ends.receiver;
     let judged = judge(ends, file, image);
-    outcome(ends, judged);
-    messages(counts, ended.turns);
-    held(receiver, image);
+    if outcome(ends, judged) {
+        return;
+    }
+    if messages(counts, ended.turns) {
+        return;
+    }
+    if held(receiver, image) {
+        return;
+    }
     equality(judged);
 }
 
-// Whether the indoor end reports done, and whether the image begins with the file.
+// Whether the indoor end reports done, and whether the receiver's image is the file.
 struct Judged {
     pub done: bool,
     pub same: bool,
@@ -40,13 +55,16 @@ struct Judged {
 
 // Done is never told of an image that differs.
 fn judge(ends: Ends, file: &[u8], image: &[u8]) -> Judged
-    requires { ⌜ (ends .indoor .stand .phase ≡ Done → take (length (now file)) (now image) ≡ now file) ⌝ }
+    requires { ⌜ (ends .indoor .stand .phase ≡ Done → Same (now file) ends (now image)) ⌝ }
+    ensures { λ r. ⌜ (r .same ≡ true → Same (now (file .entry)) ends (now (image .entry))) ⌝ }
     ensures { λ r. ⌜ (r .done ≡ true → r .same ≡ true) ⌝ }
 {
     let indoor = ends.indoor;
     let stand = indoor.stand;
     let phase = stand.phase;
-    let same = begins(image, file);
+    let receiver = ends.receiver;
+    let roof = receiver.phase;
+    let same = equal(roof.accepted(), image, file);
     match phase {
         Phase::Done => Judged { done: true, same },
         Phase::Identify => Judged { done: false, same },
@@ -57,29 +75,33 @@ fn judge(ends: Ends, file: &[u8], image: &[u8]) -> Judged
     }
 }
 
-fn begins(image: &[u8], file: &[u8]) -> bool
-    ensures { λ r. ⌜ (take (length (now (file .entry))) (now (image .entry)) ≡ now (file .entry) → r ≡ true) ⌝ }
+// As many bytes were accepted as the file has, and they are the file's.
+fn equal(accepted: Accepted, image: &[u8], file: &[u8]) -> bool
+    ensures { λ r. ⌜ (r ≡ true → (accepted .bytes ≡ length (now (file .entry))) × (take (length (now (file .entry))) (now (image .entry)) ≡ now (file .entry))) ⌝ }
+    ensures { λ r. ⌜ ((accepted .bytes ≡ length (now (file .entry))) × (take (length (now (file .entry))) (now (image .entry)) ≡ now (file .entry)) → r ≡ true) ⌝ }
 {
     let n = file.len();
+    if accepted.bytes as usize != n {
+        return false;
+    }
     if image.len() < n {
         return false;
     }
     check::same(&image[..n], file)
 }
 
-fn outcome(ends: Ends, judged: Judged) {
+fn outcome(ends: Ends, judged: Judged) -> bool {
     let indoor = ends.indoor;
     let stand = indoor.stand;
     let phase = stand.phase;
     let receiver = ends.receiver;
     let roof = receiver.phase;
     if judged.done {
-        say(Page::blank().word(b"done: the receiver has marked the image good"));
-        return;
+        return say(Page::blank().word(b"done: the receiver has marked the image good"));
     }
     let begun = Page::blank().word(b"not done: ");
     let named = failure(stands::indoor(begun, phase), phase);
-    say(stands::above(named.word(b"; "), roof));
+    say(stands::above(named.word(b"; "), roof))
 }
 
 fn failure(page: Page, phase: Phase) -> Page
@@ -89,10 +111,25 @@ fn failure(page: Page, phase: Phase) -> Page
     let Phase::Failed(reason) = phase else {
         return page;
     };
-    page.word(b" ").number(reason.number() as u64)
+    named(page.word(b" ").number(reason.number() as u64), reason)
 }
 
-fn messages(counts: Counts, turns: u32) {
+// 01, Numbers we answer.
+fn named(page: Page, reason: Reason) -> Page
+    requires { ⌜ page .at ≤ 120 ⌝ }
+    ensures { λ r. ⌜ r .at ≤ 120 ⌝ }
+{
+    match reason {
+        Reason::Silence => page.word(b", silence"),
+        Reason::Refused => page.word(b", refused"),
+        Reason::NotNewer => page.word(b", not newer"),
+        Reason::TooLarge => page.word(b", too large"),
+        Reason::WrongNumber => page.word(b", a wrong number"),
+        Reason::NotValid => page.word(b", not valid"),
+    }
+}
+
+fn messages(counts: Counts, turns: u32) -> bool {
     let sent = Page::blank()
         .number(counts.requests as u64)
         .word(b" requests, ");
@@ -102,11 +139,11 @@ fn messages(counts: Counts, turns: u32) {
     let pushed = again
         .number(counts.pushed as u64)
         .word(b" replaced by a newer one; ");
-    say(pushed.number(turn::clock(turns)).word(b" ms"));
+    say(pushed.number(turn::clock(turns)).word(b" ms"))
 }
 
 // How many bytes the receiver has accepted, and their sum (01, Sizes and numbers).
-fn held(receiver: Receiver, image: &[u8]) {
+fn held(receiver: Receiver, image: &[u8]) -> bool {
     let phase = receiver.phase;
     let accepted = phase.accepted();
     let counted = Page::blank()
@@ -120,19 +157,20 @@ fn held(receiver: Receiver, image: &[u8]) {
     }
 }
 
-fn equality(judged: Judged) {
+fn equality(judged: Judged) -> bool {
     if judged.same {
-        say(Page::blank().word(b"the image equals the file"));
-        return;
+        return say(Page::blank().word(b"the image equals the file"));
     }
-    say(Page::blank().word(b"the image differs from the file"));
+    say(Page::blank().word(b"the image differs from the file"))
 }
 
-fn say(page: Page)
+// Whether it failed, which standard error is told.
+fn say(page: Page) -> bool
     requires { ⌜ page .at ≤ 120 ⌝ }
 {
     if page.print() {
-        return;
+        return false;
     }
     os::fail(b"write");
+    true
 }

@@ -14,14 +14,22 @@ use receiver::Started;
 use wire::codes;
 use wire::response::Identity;
 ghost use mathlib.Core.Path.{_≡_};
-ghost use lib.ListN.{length, take};
+ghost use lib.ListN.{length};
 ghost use Rattle.indoor_phases.specs.declared.phase.Phase.the-variants.{Done};
 ghost use Rattle.receiver.specs.Session.{startOf};
 ghost use Rattle.receiver.specs.declared.session.Started.the-variants.{Made};
 ghost use Rattle.line.specs.Line.{Wide};
-ghost use Rattle.update.specs.Over.{Over};
+ghost use Rattle.update.specs.Over.{Over, Same};
 
-// Above what any session takes, so that the loop ends by the session: a silent line fails it.
+// The receiver's limit is far below the indoor end's, since it alone heals a loss in Transfer (docs/HAZARDS.md), and with its resends it
+// lasts for some of the indoor end's (include/harsolvek.h, Limits).
+const ROOF_LIMIT: u16 = 200;
+
+const INDOORS_LIMIT: u16 = 1000;
+
+const RESENDS: u8 = 10;
+
+// Far above what a session takes: a silent line fails it, and the largest file has 4,096 blocks.
 const TURNS_MOST: u32 = 10000000;
 
 // `turns` were taken; `failed` says whether a line could not be written.
@@ -35,25 +43,19 @@ pub(crate) struct Ended {
 pub(crate) fn carry(
     begun: Ends,
     seed: Luck,
-    quiet: bool,
+    told: View,
     file: &[u8],
     image: &mut [u8],
     up: &mut [u8],
     down: &mut [u8],
 ) -> Ended
     requires { ⌜ Over (now file) begun (now image) (now up) (now down) ⌝ }
-    ensures { λ r. ⌜ (r .ends .indoor .stand .phase ≡ Done → take (length (now (file .entry))) (now (image .exit)) ≡ now (file .entry)) ⌝ }
+    ensures { λ r. ⌜ (r .ends .indoor .stand .phase ≡ Done → Same (now (file .entry)) (r .ends) (now (image .exit))) ⌝ }
 {
-    let blocks = image::blocks_in(file.len()) as u64;
     let mut ends = begun;
     let mut counts = Counts::first();
     let mut luck = seed;
-    let heading = View {
-        quiet,
-        clock: 0,
-        blocks,
-    };
-    let mut failed = heading.heading();
+    let mut failed = told.heading();
     let mut turns = 0;
     while turns < TURNS_MOST {
         if ends.rest() {
@@ -63,11 +65,7 @@ pub(crate) fn carry(
             break;
         }
         turns += 1;
-        let view = View {
-            quiet,
-            clock: turn::clock(turns),
-            blocks,
-        };
+        let view = told.at(turn::clock(turns));
         let went = turn::step(ends, counts, luck, view, file, image, up, down);
         ends = went.ends;
         counts = went.counts;
@@ -81,14 +79,6 @@ pub(crate) fn carry(
         failed,
     }
 }
-
-// Both starts with settings that fit each other: the receiver's limit is far below the indoor end's, since it alone heals a loss in
-// Transfer, and its patience outlasts the indoor end's (docs/HAZARDS.md).
-const ROOF_LIMIT: u16 = 200;
-
-const INDOORS_LIMIT: u16 = 1000;
-
-const RESENDS: u8 = 10;
 
 // The file goes to a receiver with this identity, offered as this release.
 pub(crate) fn start(
@@ -133,6 +123,14 @@ fn begin(
         up: Way::sent(written),
         down: Way::nothing(),
     };
-    let ended = carry(ends, seed, quiet, file, image, &mut up, &mut down);
+    let view = View {
+        quiet,
+        clock: 0,
+        blocks: image::blocks_in(file.len()) as u64,
+    };
+    let ended = carry(ends, seed, view, file, image, &mut up, &mut down);
+    if ended.failed {
+        return;
+    }
     report::ended(ended, file, image);
 }

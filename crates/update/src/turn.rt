@@ -46,13 +46,13 @@ pub(crate) fn step(
 {
     let carried = carry(ends, counts, luck, view, file, image, up, down);
     let between = carried.ends;
-    let so_far = carried.counts;
-    let passed = pass(between, so_far, view, file, up, down);
+    let before = carried.counts;
+    let passed = pass(between, before, view, file, up, down);
     let after = passed.ends;
-    let now = passed.counts;
+    let counts = passed.counts;
     Went {
         ends: after,
-        counts: now,
+        counts,
         failed: carried.failed || passed.failed,
     }
 }
@@ -176,11 +176,12 @@ fn indoors_answer(told: Told, counts: Counts, view: View, page: Page) -> Went
 fn pass(ends: Ends, counts: Counts, view: View, file: &[u8], up: &mut [u8], down: &mut [u8]) -> Went
     ensures { λ r. ⌜ ((image : List ℕ) → Over (now (file .entry)) ends image (now (up .entry)) (now (down .entry)) → Over (now (file .entry)) (r .ends) image (now (up .exit)) (now (down .exit))) ⌝ }
 {
+    let before = ends.stands_idle();
     let above = ends.wait_above(TICK, down);
     let between = above.ends;
     let below = between.wait_below(TICK, file, up);
     let after = below.ends;
-    let roof = roof_silent(view, above.sent);
+    let roof = roof_silent(view, above.sent, !before && between.stands_idle());
     let indoors = indoors_silent(view, below.sent, below.number);
     Went {
         ends: after,
@@ -191,14 +192,17 @@ fn pass(ends: Ends, counts: Counts, view: View, file: &[u8], up: &mut [u8], down
     }
 }
 
-fn roof_silent(view: View, sent: bool) -> bool {
+fn roof_silent(view: View, sent: bool, gave_up: bool) -> bool {
+    if gave_up {
+        return view.silence(b"the receiver gives up and is Idle");
+    }
     if sent {
         return view.silence(b"the receiver sends again");
     }
     false
 }
 
-// 40 is sent with ABORT (01, Numbers we answer).
+// Time answers 0 or 40, and ABORT goes out with 40 (01, Numbers we answer).
 fn indoors_silent(view: View, sent: bool, number: u8) -> bool {
     if number != 0 {
         return view.silence(b"the indoor end gives up and sends ABORT: 40");

@@ -19,6 +19,12 @@ pub(crate) struct View {
 }
 
 impl View {
+    // The same at this time.
+    pub(crate) fn at(mut self, clock: u64) -> View {
+        self.clock = clock;
+        self
+    }
+
     // A line up to where it is told what comes: the time, and which way.
     pub(crate) fn begin(self, direction: &[u8], again: bool) -> Page
         ensures { λ r. ⌜ r .at ≤ 120 ⌝ }

@@ -1,11 +1,15 @@
 use mathlib.Core.Bool.{true≢false}
-use mathlib.Core.Path.{sym}
+use mathlib.Core.Path.{sym, _∙_, ap}
+use Rattle.receiver_phases.specs.declared.phase.Accepted.{Accepted}
 use borrow.Author.Needs.{needs}
 use Rattle.update.proofs.report.judge.Statement.{statement}
 use Rattle.update.proofs.report.judge.Tie as tie
 
-begins-requires : tie.Need-begins-requires
-begins-requires c κs = search needs
+accepted-requires : tie.Need-accepted-requires
+accepted-requires c κs = search needs
+
+equal-requires : tie.Need-equal-requires
+equal-requires c κs = search needs
 
 enum-told : tie.Need-enum-told
 enum-told c = search needs
@@ -26,28 +30,29 @@ enum-told-6 : tie.Need-enum-told-6
 enum-told-6 c = search needs
 
 returns : tie.Need-returns
-returns c = λ _. c .before .before .begins .ensures (c .before .before .before .before .before .before .before .pre (c .enum-told .given .1))
+returns c = (λ e. let s = c .before .before .equal .ensures .0 e in (ap (λ (a : Accepted). a .bytes) (sym (c .before .before .before .accepted .ensures)) ∙ s .0, s .1), λ _. let g = c .before .before .before .before .before .before .before .before .before .pre (c .enum-told .given .1) in c .before .before .equal .ensures .1 (ap (λ (a : Accepted). a .bytes) (c .before .before .before .accepted .ensures) ∙ g .0, g .1))
 
 returns-2 : tie.Need-returns-2
-returns-2 c = λ e. absurd (true≢false (sym e))
+returns-2 c = (λ e. let s = c .before .before .equal .ensures .0 e in (ap (λ (a : Accepted). a .bytes) (sym (c .before .before .before .accepted .ensures)) ∙ s .0, s .1), λ e. absurd (true≢false (sym e)))
 
 returns-3 : tie.Need-returns-3
-returns-3 c = λ e. absurd (true≢false (sym e))
+returns-3 c = (λ e. let s = c .before .before .equal .ensures .0 e in (ap (λ (a : Accepted). a .bytes) (sym (c .before .before .before .accepted .ensures)) ∙ s .0, s .1), λ e. absurd (true≢false (sym e)))
 
 returns-4 : tie.Need-returns-4
-returns-4 c = λ e. absurd (true≢false (sym e))
+returns-4 c = (λ e. let s = c .before .before .equal .ensures .0 e in (ap (λ (a : Accepted). a .bytes) (sym (c .before .before .before .accepted .ensures)) ∙ s .0, s .1), λ e. absurd (true≢false (sym e)))
 
 returns-5 : tie.Need-returns-5
-returns-5 c = λ e. absurd (true≢false (sym e))
+returns-5 c = (λ e. let s = c .before .before .equal .ensures .0 e in (ap (λ (a : Accepted). a .bytes) (sym (c .before .before .before .accepted .ensures)) ∙ s .0, s .1), λ e. absurd (true≢false (sym e)))
 
 returns-6 : tie.Need-returns-6
-returns-6 c = λ e. absurd (true≢false (sym e))
+returns-6 c = (λ e. let s = c .before .before .equal .ensures .0 e in (ap (λ (a : Accepted). a .bytes) (sym (c .before .before .before .accepted .ensures)) ∙ s .0, s .1), λ e. absurd (true≢false (sym e)))
 
 pub judge-spec : {M : Type 1} → statement M
 judge-spec =
     tie.close
     (tie.spec
-    begins-requires
+    accepted-requires
+    equal-requires
     enum-told
     enum-told-2
     enum-told-3

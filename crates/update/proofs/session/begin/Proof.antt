@@ -29,6 +29,9 @@ sent-requires c κs = search needs
 nothing-requires : tie.Need-nothing-requires
 nothing-requires c κs = search needs
 
+blocks-in-requires : tie.Need-blocks-in-requires
+blocks-in-requires c κs = search needs
+
 slice-aggregate-carry : tie.Need-slice-aggregate-carry
 slice-aggregate-carry c = search needs
 
@@ -36,20 +39,26 @@ slice-aggregate-carry-2 : tie.Need-slice-aggregate-carry-2
 slice-aggregate-carry-2 c = search needs
 
 carry-requires : tie.Need-carry-requires
-carry-requires c κs = let p = c .before .before .before .before .before .before .before .before .before .before .before .before .before .before .pre in
-    let s = c .before .before .before .before .before .before .before .before .before .before .start in
-    let b = c .before .before .before .before .before .before .begun .given in
-    rw (c .before .before .before .before .sent .ensures, c .before .before .before .nothing .ensures)
+carry-requires c κs = let p = c .before .before .before .before .before .before .before .before .before .before .before .before .before .before .before .pre in
+    let s = c .before .before .before .before .before .before .before .before .before .before .before .start in
+    let b = c .before .before .before .before .before .before .before .begun .given in
+    rw (c .before .before .before .before .before .sent .ensures, c .before .before .before .before .nothing .ensures)
     (start-over 200 10 1000 10 _ _ _ _ _ (p .0) (p .1) _ _ (s .ensures) _ _ (b .1) (omega arith) _ refl)
-
-ended-requires : tie.Need-ended-requires
-ended-requires c κs = search needs
 
 same-length : tie.Need-same-length
 same-length c = search needs
 
 returns-2 : tie.Need-returns-2
 returns-2 c = search needs
+
+ended-requires : tie.Need-ended-requires
+ended-requires c κs = search needs
+
+same-length-2 : tie.Need-same-length-2
+same-length-2 c = search needs
+
+returns-3 : tie.Need-returns-3
+returns-3 c = search needs
 
 pub begin-spec : {M : Type 1} → statement M
 begin-spec =
@@ -63,9 +72,12 @@ begin-spec =
     returns
     sent-requires
     nothing-requires
+    blocks-in-requires
     slice-aggregate-carry
     slice-aggregate-carry-2
     carry-requires
-    ended-requires
     same-length
-    returns-2)
+    returns-2
+    ended-requires
+    same-length-2
+    returns-3)

@@ -8,15 +8,12 @@ use Rattle.update.proofs.session.carry.Statement.{statement}
 use Rattle.update.proofs.session.carry.Tie as tie
 
 abbrev Inv-loop : tie.InvT-loop
-Inv-loop quiet file image₀ up₀ down₀ blocks ends₀ counts₀ luck₀ failed₀ turns₀ image up down ends counts luck failed turns =
+Inv-loop told file image₀ up₀ down₀ ends₀ counts₀ luck₀ failed₀ turns₀ image up down ends counts luck failed turns =
     Middle file image₀ up₀ down₀ ends image up down turns
 
 abbrev μ-loop : tie.MeasureT-loop
-μ-loop quiet file image₀ up₀ down₀ blocks ends₀ counts₀ luck₀ failed₀ turns₀ image up down ends counts luck failed turns =
+μ-loop told file image₀ up₀ down₀ ends₀ counts₀ luck₀ failed₀ turns₀ image up down ends counts luck failed turns =
     10000000 - turns
-
-blocks-in-requires : tie.Need-blocks-in-requires Inv-loop μ-loop
-blocks-in-requires c κs = search needs
 
 first-requires : tie.Need-first-requires Inv-loop μ-loop
 first-requires c κs = search needs
@@ -25,7 +22,7 @@ heading-requires : tie.Need-heading-requires Inv-loop μ-loop
 heading-requires c κs = search needs
 
 loop-holds : tie.Need-loop-holds Inv-loop μ-loop
-loop-holds c = record { over = c .before .before .before .before .before .before .before .pre; bound = omega arith; size = refl; rising = refl; falling = refl }
+loop-holds c = record { over = c .before .before .before .before .before .before .pre; bound = omega arith; size = refl; rising = refl; falling = refl }
 
 rest-requires : tie.Need-rest-requires Inv-loop μ-loop
 rest-requires c κs = search needs
@@ -36,8 +33,11 @@ add-turns c = search needs
 clock-requires : tie.Need-clock-requires Inv-loop μ-loop
 clock-requires c κs = search needs
 
+at-requires : tie.Need-at-requires Inv-loop μ-loop
+at-requires c κs = search needs
+
 step-requires : tie.Need-step-requires Inv-loop μ-loop
-step-requires c κs = c .before .before .before .before .before .before .before .before .loop .inv .over
+step-requires c κs = c .before .before .before .before .before .before .before .before .before .loop .inv .over
 
 next-requires : tie.Need-next-requires Inv-loop μ-loop
 next-requires c κs = search needs
@@ -46,10 +46,10 @@ next-requires-2 : tie.Need-next-requires-2 Inv-loop μ-loop
 next-requires-2 c κs = search needs
 
 loop-less : tie.Need-loop-less Inv-loop μ-loop
-loop-less c = omega (arith, c .before .before .before .before .before .before .before .before .before .before .before .before .before .before .before .before .before .before .loop-test .taken)
+loop-less c = omega (arith, c .before .before .before .before .before .before .before .before .before .before .before .before .before .before .before .before .before .before .before .loop-test .taken)
 
 loop-again : tie.Need-loop-again Inv-loop μ-loop
-loop-again c = let i = c .before .before .before .before .before .before .before .before .before .before .before .before .before .before .before .before .before .before .before .loop .inv in record { over = c .before .before .before .before .before .before .before .before .before .before .step .ensures; bound = omega (arith, c .before .before .before .before .before .before .before .before .before .before .before .before .before .before .before .before .before .before .loop-test .taken); size = omega (arith, i .size); rising = omega (arith, i .rising); falling = omega (arith, i .falling) }
+loop-again c = let i = c .before .before .before .before .before .before .before .before .before .before .before .before .before .before .before .before .before .before .before .before .loop .inv in record { over = c .before .before .before .before .before .before .before .before .before .before .step .ensures; bound = omega (arith, c .before .before .before .before .before .before .before .before .before .before .before .before .before .before .before .before .before .before .before .loop-test .taken); size = omega (arith, i .size); rising = omega (arith, i .rising); falling = omega (arith, i .falling) }
 
 same-length : tie.Need-same-length Inv-loop μ-loop
 same-length c = c .before .loop .inv .size
@@ -93,13 +93,13 @@ carry-spec =
     (tie.spec
     Inv-loop
     μ-loop
-    blocks-in-requires
     first-requires
     heading-requires
     loop-holds
     rest-requires
     add-turns
     clock-requires
+    at-requires
     step-requires
     next-requires
     next-requires-2

@@ -1,7 +1,6 @@
 use mathlib.Core.Path.{ap}
 use Rattle.update.specs.Turn.{aboveOf}
 use borrow.Author.Needs.{needs}
-use denote.Ref.{now}
 use Rattle.update.proofs.ends.Ends.wait_above.Statement.{statement}
 use Rattle.update.proofs.ends.Ends.wait_above.Tie as tie
 
