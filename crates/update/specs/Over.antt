@@ -1,5 +1,6 @@
 -- The two ends of the code are those of a session over a line that loses and repeats, with what was sent on it, whatever that is.
 use Prim.Native.Nat.{ℕ, _≤_}
+use mathlib.Core.Bool.{Bool, true, false}
 use mathlib.Core.Logic.{_⊎_}
 use mathlib.Core.Path.{_≡_}
 use mathlib.Core.List.{List, List·Memᴰ}
@@ -7,6 +8,8 @@ use lib.ListN.{length, take}
 use Rattle.wire.specs.declared.response.Identity.{Identity}
 use Rattle.receiver_phases.specs.Phase.{acceptedOf}
 use Rattle.indoor_phases.specs.declared.plan.Release.{Release}
+use Rattle.indoor_phases.specs.declared.phase.Phase.{Phase}
+use Rattle.indoor_phases.specs.declared.phase.Phase.the-variants.{Identify, Initiate, Transfer, Validate, Done, Failed}
 use Rattle.line.specs.Line.{World, Wide, Reached}
 use Rattle.update.specs.declared.way.Way.{Way}
 use Rattle.update.specs.declared.ends.Ends.{Ends}
@@ -34,3 +37,12 @@ pub record Over (file : List ℕ) (e : Ends) (image up down : List ℕ) : Type 0
 -- The receiver has accepted as many bytes as the file has, and they are the file's.
 abbrev pub Same : List ℕ → Ends → List ℕ → Type 0
 Same file e image = (acceptedOf (e .receiver .phase) .bytes ≡ length file) × (take (length file) image ≡ file)
+
+-- The indoor end reports done.
+abbrev pub doneOf : Phase → Bool
+doneOf Identify = false
+doneOf (Initiate wait) = false
+doneOf (Transfer p) = false
+doneOf (Validate wait) = false
+doneOf Done = true
+doneOf (Failed reason) = false

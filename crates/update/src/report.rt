@@ -15,7 +15,7 @@ ghost use mathlib.Core.Path.{_≡_};
 ghost use Prim.Native.Nat.{_≤_};
 ghost use lib.ListN.{length, take};
 ghost use Rattle.indoor_phases.specs.declared.phase.Phase.the-variants.{Done};
-ghost use Rattle.update.specs.Over.{Same};
+ghost use Rattle.update.specs.Over.{Same, doneOf};
 
 // A start was refused with this number (01, Numbers we answer).
 pub(crate) fn refused(number: u8) {
@@ -56,7 +56,9 @@ struct Judged {
 // Done is never told of an image that differs.
 fn judge(ends: Ends, file: &[u8], image: &[u8]) -> Judged
     requires { ⌜ (ends .indoor .stand .phase ≡ Done → Same (now file) ends (now image)) ⌝ }
+    ensures { λ r. ⌜ r .done ≡ doneOf (ends .indoor .stand .phase) ⌝ }
     ensures { λ r. ⌜ (r .same ≡ true → Same (now (file .entry)) ends (now (image .entry))) ⌝ }
+    ensures { λ r. ⌜ (Same (now (file .entry)) ends (now (image .entry)) → r .same ≡ true) ⌝ }
     ensures { λ r. ⌜ (r .done ≡ true → r .same ≡ true) ⌝ }
 {
     let indoor = ends.indoor;

@@ -30,22 +30,22 @@ enum-told-6 : tie.Need-enum-told-6
 enum-told-6 c = search needs
 
 returns : tie.Need-returns
-returns c = (λ e. let s = c .before .before .equal .ensures .0 e in (ap (λ (a : Accepted). a .bytes) (sym (c .before .before .before .accepted .ensures)) ∙ s .0, s .1), λ _. let g = c .before .before .before .before .before .before .before .before .before .pre (c .enum-told .given .1) in c .before .before .equal .ensures .1 (ap (λ (a : Accepted). a .bytes) (c .before .before .before .accepted .ensures) ∙ g .0, g .1))
+returns c = (rw (c .enum-told .given .1), (λ e. let s = c .before .before .equal .ensures .0 e in (ap (λ (a : Accepted). a .bytes) (sym (c .before .before .before .accepted .ensures)) ∙ s .0, s .1), (λ s. c .before .before .equal .ensures .1 (ap (λ (a : Accepted). a .bytes) (c .before .before .before .accepted .ensures) ∙ s .0, s .1), λ _. let g = c .before .before .before .before .before .before .before .before .before .pre (c .enum-told .given .1) in c .before .before .equal .ensures .1 (ap (λ (a : Accepted). a .bytes) (c .before .before .before .accepted .ensures) ∙ g .0, g .1))))
 
 returns-2 : tie.Need-returns-2
-returns-2 c = (λ e. let s = c .before .before .equal .ensures .0 e in (ap (λ (a : Accepted). a .bytes) (sym (c .before .before .before .accepted .ensures)) ∙ s .0, s .1), λ e. absurd (true≢false (sym e)))
+returns-2 c = (rw (c .enum-told2 .given .1), (λ e. let s = c .before .before .equal .ensures .0 e in (ap (λ (a : Accepted). a .bytes) (sym (c .before .before .before .accepted .ensures)) ∙ s .0, s .1), (λ s. c .before .before .equal .ensures .1 (ap (λ (a : Accepted). a .bytes) (c .before .before .before .accepted .ensures) ∙ s .0, s .1), λ e. absurd (true≢false (sym e)))))
 
 returns-3 : tie.Need-returns-3
-returns-3 c = (λ e. let s = c .before .before .equal .ensures .0 e in (ap (λ (a : Accepted). a .bytes) (sym (c .before .before .before .accepted .ensures)) ∙ s .0, s .1), λ e. absurd (true≢false (sym e)))
+returns-3 c = (rw (c .enum-told3 .given .1), (λ e. let s = c .before .before .equal .ensures .0 e in (ap (λ (a : Accepted). a .bytes) (sym (c .before .before .before .accepted .ensures)) ∙ s .0, s .1), (λ s. c .before .before .equal .ensures .1 (ap (λ (a : Accepted). a .bytes) (c .before .before .before .accepted .ensures) ∙ s .0, s .1), λ e. absurd (true≢false (sym e)))))
 
 returns-4 : tie.Need-returns-4
-returns-4 c = (λ e. let s = c .before .before .equal .ensures .0 e in (ap (λ (a : Accepted). a .bytes) (sym (c .before .before .before .accepted .ensures)) ∙ s .0, s .1), λ e. absurd (true≢false (sym e)))
+returns-4 c = (rw (c .enum-told4 .given .1), (λ e. let s = c .before .before .equal .ensures .0 e in (ap (λ (a : Accepted). a .bytes) (sym (c .before .before .before .accepted .ensures)) ∙ s .0, s .1), (λ s. c .before .before .equal .ensures .1 (ap (λ (a : Accepted). a .bytes) (c .before .before .before .accepted .ensures) ∙ s .0, s .1), λ e. absurd (true≢false (sym e)))))
 
 returns-5 : tie.Need-returns-5
-returns-5 c = (λ e. let s = c .before .before .equal .ensures .0 e in (ap (λ (a : Accepted). a .bytes) (sym (c .before .before .before .accepted .ensures)) ∙ s .0, s .1), λ e. absurd (true≢false (sym e)))
+returns-5 c = (rw (c .enum-told5 .given .1), (λ e. let s = c .before .before .equal .ensures .0 e in (ap (λ (a : Accepted). a .bytes) (sym (c .before .before .before .accepted .ensures)) ∙ s .0, s .1), (λ s. c .before .before .equal .ensures .1 (ap (λ (a : Accepted). a .bytes) (c .before .before .before .accepted .ensures) ∙ s .0, s .1), λ e. absurd (true≢false (sym e)))))
 
 returns-6 : tie.Need-returns-6
-returns-6 c = (λ e. let s = c .before .before .equal .ensures .0 e in (ap (λ (a : Accepted). a .bytes) (sym (c .before .before .before .accepted .ensures)) ∙ s .0, s .1), λ e. absurd (true≢false (sym e)))
+returns-6 c = (rw (c .enum-told6 .given .1), (λ e. let s = c .before .before .equal .ensures .0 e in (ap (λ (a : Accepted). a .bytes) (sym (c .before .before .before .accepted .ensures)) ∙ s .0, s .1), (λ s. c .before .before .equal .ensures .1 (ap (λ (a : Accepted). a .bytes) (c .before .before .before .accepted .ensures) ∙ s .0, s .1), λ e. absurd (true≢false (sym e)))))
 
 pub judge-spec : {M : Type 1} → statement M
 judge-spec =
