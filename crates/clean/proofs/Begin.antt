@@ -17,18 +17,20 @@ use Rattle.silence.specs.declared.Checked.the-variants as Che
 use Rattle.lent.specs.Sent.{withSent}
 use Rattle.wire.specs.Codes.{longest}
 use Rattle.wire.specs.declared.response.Identity.{Identity}
-use Rattle.receiver.specs.Session.{capacityMost, freshOf, startOf as receiverStartOf}
-use Rattle.receiver.specs.declared.session.Receiver.{Receiver}
-use Rattle.receiver.specs.declared.session.Started.{Started as ReceiverStarted}
-use Rattle.receiver.specs.declared.session.Started.the-variants as Rec
-use Rattle.receiver.proofs.Fresh.{refused-made}
-use Rattle.indoor_phases.specs.declared.plan.Release.{Release}
-use Rattle.indoor.specs.Start.{lengthMost, beginOf, startedOf, startOf}
-use Rattle.indoor.specs.declared.session.Indoor.{Indoor}
-use Rattle.indoor.specs.declared.session.Started.{Started}
-use Rattle.indoor.specs.declared.session.Started.the-variants as Ind
-use Rattle.indoor.proofs.session.Started.{the-type}
-use Rattle.indoor.proofs.Fresh.{start-fresh}
+use Rattle.wire.specs.Codes.{imageSizeMost}
+use Rattle.receiver_rules.specs.Session.{freshOf, startOf as receiverStartOf}
+use Rattle.receiver_state.specs.declared.session.Receiver.{Receiver}
+use Rattle.receiver_state.specs.declared.session.Started.{Started as ReceiverStarted}
+use Rattle.receiver_state.specs.declared.session.Started.the-variants as Rec
+use Rattle.receiver_rules.proofs.Fresh.{refused-made}
+use Rattle.indoor_state.specs.declared.plan.Release.{Release}
+use Rattle.wire.specs.Codes.{imageSizeMost}
+use Rattle.indoor_rules.specs.Start.{beginOf, startedOf, startOf}
+use Rattle.indoor_state.specs.declared.session.Indoor.{Indoor}
+use Rattle.indoor_state.specs.declared.session.Started.{Started}
+use Rattle.indoor_state.specs.declared.session.Started.the-variants as Ind
+use Rattle.indoor_state.proofs.session.Started.{the-type}
+use Rattle.indoor_rules.proofs.Fresh.{start-fresh}
 use Rattle.line.specs.Line.{Wide}
 use Rattle.line.specs.Line as line
 use Rattle.clean.specs.Run.{carriedOf, begunOf}
@@ -47,7 +49,7 @@ made-settings : (limit resends : ℕ) (identity : Identity) (capacity : ℕ) (r 
     → (s : Settings) × (settingsOf limit resends ≡ Che.Made s)
 unfolding receiverStartOf
 made-settings limit resends identity capacity r =
-    pick-all (λ (x : ReceiverStarted). x ≡ Rec.Made r → (s : Settings) × (settingsOf limit resends ≡ Che.Made s)) (ltb capacityMost capacity) _ _
+    pick-all (λ (x : ReceiverStarted). x ≡ Rec.Made r → (s : Settings) × (settingsOf limit resends ≡ Che.Made s)) (ltb imageSizeMost capacity) _ _
     (λ _ e. absurd (refused-made r e))
     (λ _. made-checked identity capacity r (settingsOf limit resends))
 
@@ -62,7 +64,7 @@ module _ (release : Release) (identity : Identity) (file up memory : List ℕ) (
   unfolding beginOf begunOf pick
   begin-refuses s =
       pick-all Refuses (eqb (length file) 0) _ _ (λ a _. rw a)
-      (λ a. pick-all Refuses (ltb lengthMost (length file)) _ _ (λ b _. rw (a, b))
+      (λ a. pick-all Refuses (ltb imageSizeMost (length file)) _ _ (λ b _. rw (a, b))
       (λ b. pick-all Refuses (ltb (length up) longest) _ _
       (λ short _. let few = ltb-true (length up) longest short in absurd (omega arith))
       (λ _ h. absurd (miss (1 ∷ 2 ∷ 3 ∷ []) 0 tt h))))
@@ -87,7 +89,7 @@ module _ (release : Release) (identity : Identity) (file up memory : List ℕ) (
       start-carries =
           let f = start-fresh release file up limit resends state written up′ started in
           let some = f .some in
-          rw (ne-eqb (length file) 0 (λ z. omega arith), le-ltb lengthMost (length file) (f .most), f .offered)
+          rw (ne-eqb (length file) 0 (λ z. omega arith), le-ltb imageSizeMost (length file) (f .most), f .offered)
 
       pub start-on : Wide release (r .identity) → length up′ ≡ 260
           → On file memory (state .plan .release) (r .identity) (ends r state written) memory up′ 0

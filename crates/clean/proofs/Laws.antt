@@ -18,14 +18,14 @@ use Rattle.silence.specs.Within.{Within}
 use Rattle.silence.proofs.Laws.{within-made, made-within, outside-29}
 use Rattle.image.specs.Blocks.{blocksOf}
 use Rattle.wire.specs.declared.response.Identity.{Identity}
-use Rattle.receiver.specs.Session.{capacityMost}
-use Rattle.indoor_phases.specs.declared.plan.Release.{Release}
-use Rattle.indoor_phases.specs.declared.phase.Reason.{Reason}
-use Rattle.indoor_phases.specs.declared.phase.Reason.the-variants.{NotNewer, TooLarge}
-use Rattle.indoor_phases.specs.declared.phase.Phase.the-variants.{Done, Failed}
+use Rattle.wire.specs.Codes.{imageSizeMost}
+use Rattle.indoor_state.specs.declared.plan.Release.{Release}
+use Rattle.indoor_state.specs.declared.phase.Reason.{Reason}
+use Rattle.indoor_state.specs.declared.phase.Reason.the-variants.{NotNewer, TooLarge}
+use Rattle.indoor_state.specs.declared.phase.Phase.the-variants.{Done, Failed}
 use Rattle.indoor_rules.specs.Newer.{newerOf}
 use Rattle.indoor_rules.proofs.Compared.{Newer, newer-only, newer-yes, newer-no}
-use Rattle.indoor.specs.Start.{lengthMost}
+use Rattle.wire.specs.Codes.{imageSizeMost}
 use Rattle.clean.specs.Run.{numberOf, transferredOf, carriedOf, begunOf, checkedOf, runOf}
 use Rattle.clean.specs.declared.ran.Ran.{Ran}
 use Rattle.clean.specs.declared.ran.Ran.the-variants.{Settings, FileSize, Ended}
@@ -65,7 +65,7 @@ module _ (limit resends : ℕ) (identity : Identity) (release : Release) (file i
   pub run-29-settings : (Within limit resends → ⊥) → ran ≡ left Settings image
   unfolding runOf
   run-29-settings h =
-      pick-all (λ (x : Left Ran). x ≡ left Settings image) (ltb capacityMost (length image)) _ _ (λ _. refl)
+      pick-all (λ (x : Left Ran). x ≡ left Settings image) (ltb imageSizeMost (length image)) _ _ (λ _. refl)
       (λ _. refused (silent.settingsOf limit resends) (outside-29 limit resends h))
 
   module _ (room : length image ≤ 1048575) (within : Within limit resends) where
@@ -139,7 +139,7 @@ module _ (limit resends : ℕ) (identity : Identity) (release : Release) (file i
   begun-only legal room =
       pick-all Only (eqb (length file) 0) _ _ (λ _ requests e. absurd (size-done requests e))
       (λ a. let none = eqb-false (length file) 0 a in
-      pick-all Only (ltb lengthMost (length file)) _ _ (λ _ requests e. absurd (size-done requests e))
+      pick-all Only (ltb imageSizeMost (length file)) _ _ (λ _ requests e. absurd (size-done requests e))
       (λ _. pick-all Only (newerOf release identity) _ _
       (λ new. transferred-only legal room (omega arith) new)
       (λ _ requests e. absurd (failed-done NotNewer 1 requests e))))
@@ -153,5 +153,5 @@ module _ (limit resends : ℕ) (identity : Identity) (release : Release) (file i
   pub done-only : Only ran
   unfolding runOf
   done-only =
-      pick-all Only (ltb capacityMost (length image)) _ _ (λ _ requests e. absurd (settings-done requests e))
-      (λ t. checked-only (silent.settingsOf limit resends) refl (ltb-false capacityMost (length image) t))
+      pick-all Only (ltb imageSizeMost (length image)) _ _ (λ _ requests e. absurd (settings-done requests e))
+      (λ t. checked-only (silent.settingsOf limit resends) refl (ltb-false imageSizeMost (length image) t))

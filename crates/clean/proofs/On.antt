@@ -14,17 +14,17 @@ use Rattle.lent.specs.Led.{led}
 use Rattle.lent.specs.Sent.{withSent}
 use Rattle.image.specs.Blocks.{blocksOf}
 use Rattle.wire.specs.declared.response.Identity.{Identity}
-use Rattle.receiver_phases.specs.declared.verdict.Verdict.the-variants as Ver
-use Rattle.receiver.specs.Request.{Effect, requestOf}
-use Rattle.receiver.proofs.Written.{request-length}
-use Rattle.indoor_phases.specs.declared.plan.Release.{Release}
-use Rattle.indoor_phases.specs.declared.phase.Reason.the-variants.{NotNewer, TooLarge}
-use Rattle.indoor_phases.specs.declared.phase.Phase.{Phase}
-use Rattle.indoor_phases.specs.declared.phase.Phase.the-variants.{Done, Failed}
+use Rattle.receiver_state.specs.declared.verdict.Verdict.the-variants as Ver
+use Rattle.receiver_rules.specs.Request.{Effect, requestOf}
+use Rattle.receiver_rules.proofs.Written.{request-length}
+use Rattle.indoor_state.specs.declared.plan.Release.{Release}
+use Rattle.indoor_state.specs.declared.phase.Reason.the-variants.{NotNewer, TooLarge}
+use Rattle.indoor_state.specs.declared.phase.Phase.{Phase}
+use Rattle.indoor_state.specs.declared.phase.Phase.the-variants.{Done, Failed}
 use Rattle.indoor_rules.specs.Newer.{newerOf}
-use Rattle.indoor.specs.Response.{responseOf}
-use Rattle.indoor.specs.declared.session.Outcome.{Outcome}
-use Rattle.indoor.proofs.Written.{response-leads, written-most, response-length}
+use Rattle.indoor_rules.specs.Response.{responseOf}
+use Rattle.indoor_state.specs.declared.session.Outcome.{Outcome}
+use Rattle.indoor_rules.proofs.Written.{response-leads, written-most, response-length}
 use Rattle.line.specs.Line.{Line, line, AtRest, up, down, Clean, delivers, carriedUp, carriedDown}
 use Rattle.line.proofs.Course.{safe}
 use Rattle.line.proofs.Sent.{sent-length}

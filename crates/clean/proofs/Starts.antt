@@ -11,11 +11,12 @@ use Rattle.silence.specs.Settings.{settingsOf}
 use Rattle.silence.specs.declared.Checked.{Checked}
 use Rattle.silence.specs.declared.Checked.the-variants as Che
 use Rattle.wire.specs.declared.response.Identity.{Identity}
-use Rattle.receiver.specs.Session.{capacityMost, freshOf, startOf}
-use Rattle.receiver.specs.declared.session.Receiver.{Receiver}
-use Rattle.receiver.specs.declared.session.Started.the-variants.{Made, Refused}
-use Rattle.receiver.proofs.Fresh.{refused-made, start-fresh}
-use Rattle.indoor_phases.specs.declared.plan.Release.{Release}
+use Rattle.wire.specs.Codes.{imageSizeMost}
+use Rattle.receiver_rules.specs.Session.{freshOf, startOf}
+use Rattle.receiver_state.specs.declared.session.Receiver.{Receiver}
+use Rattle.receiver_state.specs.declared.session.Started.the-variants.{Made, Refused}
+use Rattle.receiver_rules.proofs.Fresh.{refused-made, start-fresh}
+use Rattle.indoor_state.specs.declared.plan.Release.{Release}
 use Rattle.clean.specs.Run.{begunOf, checkedOf, runOf}
 use Rattle.clean.specs.declared.ran.Ran.the-variants.{Settings}
 
@@ -25,7 +26,7 @@ module _ (limit resends : ℕ) (identity : Identity) (release : Release) (file m
   checked-29 (Che.Made s) e = absurd (refused-made _ (sym e))
   checked-29 Che.Refused e = refl
 
-  tested-29 : (t : Bool) → ltb capacityMost (length memory) ≡ t → pick t Refused (freshOf (settingsOf limit resends) identity (length memory)) ≡ Refused
+  tested-29 : (t : Bool) → ltb imageSizeMost (length memory) ≡ t → pick t Refused (freshOf (settingsOf limit resends) identity (length memory)) ≡ Refused
       → left Settings memory ≡ runOf limit resends identity release file memory
   unfolding runOf pick
   tested-29 true t e = rw t
@@ -33,14 +34,14 @@ module _ (limit resends : ℕ) (identity : Identity) (release : Release) (file m
 
   pub refused-29 : startOf limit resends identity (length memory) ≡ Refused → left Settings memory ≡ runOf limit resends identity release file memory
   unfolding startOf
-  refused-29 = tested-29 (ltb capacityMost (length memory)) refl
+  refused-29 = tested-29 (ltb imageSizeMost (length memory)) refl
 
   checked-begun : (r : Receiver) (x : Checked) → freshOf x identity (length memory) ≡ Made r → begunOf release identity file memory ≡ checkedOf x release identity file memory
   unfolding freshOf checkedOf
   checked-begun r (Che.Made s) e = refl
   checked-begun r Che.Refused e = absurd (refused-made r e)
 
-  tested-begun : (r : Receiver) (t : Bool) → ltb capacityMost (length memory) ≡ t → pick t Refused (freshOf (settingsOf limit resends) identity (length memory)) ≡ Made r
+  tested-begun : (r : Receiver) (t : Bool) → ltb imageSizeMost (length memory) ≡ t → pick t Refused (freshOf (settingsOf limit resends) identity (length memory)) ≡ Made r
       → begunOf release identity file memory ≡ runOf limit resends identity release file memory
   unfolding runOf pick
   tested-begun r true t e = absurd (refused-made r e)
@@ -54,4 +55,4 @@ module _ (limit resends : ℕ) (identity : Identity) (release : Release) (file m
     unfolding startOf
     made-begun =
         ap (λ (i : Identity). begunOf release i file memory) same-identity
-        ∙ tested-begun r (ltb capacityMost (length memory)) refl made
+        ∙ tested-begun r (ltb imageSizeMost (length memory)) refl made

@@ -10,14 +10,14 @@ use Rattle.wire.specs.Header.{headed}
 use Rattle.wire.specs.Request as message
 use Rattle.wire.specs.declared.request.Request.{Request}
 use Rattle.wire.specs.declared.request.Parsed.the-variants.{Valid}
-use Rattle.receiver_phases.specs.declared.verdict.Verdict.{Verdict}
-use Rattle.receiver_phases.specs.declared.verdict.Verdict.the-variants as Ver
-use Rattle.receiver.specs.Request.{Effect, effect, requestOf}
-use Rattle.receiver.specs.declared.session.Receiver.{Receiver}
-use Rattle.receiver.specs.declared.session.Outcome.{Outcome}
-use Rattle.receiver.proofs.Walk.{request-walk}
-use Rattle.receiver.proofs.Written.{request-within}
-use Rattle.indoor.specs.declared.session.Indoor.{Indoor}
+use Rattle.receiver_state.specs.declared.verdict.Verdict.{Verdict}
+use Rattle.receiver_state.specs.declared.verdict.Verdict.the-variants as Ver
+use Rattle.receiver_rules.specs.Request.{Effect, effect, requestOf}
+use Rattle.receiver_state.specs.declared.session.Receiver.{Receiver}
+use Rattle.receiver_state.specs.declared.session.Outcome.{Outcome}
+use Rattle.receiver_rules.proofs.Walk.{request-walk}
+use Rattle.receiver_rules.proofs.Written.{request-within}
+use Rattle.indoor_state.specs.declared.session.Indoor.{Indoor}
 use Rattle.clean.specs.Turn.{ends, answered, answerOf, turned, turnedOf, deliveredOf, turnOf}
 use Rattle.clean.specs.declared.ends.Ends.{Ends}
 

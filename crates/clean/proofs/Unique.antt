@@ -5,7 +5,7 @@ use mathlib.Core.List.{List}
 use Rattle.basis.specs.Only.{only}
 use Rattle.basis.specs.Left.{left}
 use Rattle.wire.specs.declared.response.Identity.{Identity}
-use Rattle.indoor_phases.specs.declared.plan.Release.{Release}
+use Rattle.indoor_state.specs.declared.plan.Release.{Release}
 use Rattle.clean.specs.Run.{numberOf, runOf}
 use Rattle.clean.specs.Turn.{turned, turnOf}
 use Rattle.clean.specs.declared.ends.Ends.{Ends}

@@ -5,7 +5,7 @@ use mathlib.Core.List.{List, []}
 use lib.ListN.{length}
 use Rattle.lent.specs.Sent.{withSent}
 use Rattle.wire.specs.declared.response.Identity.{Identity}
-use Rattle.indoor_phases.specs.declared.plan.Release.{Release}
+use Rattle.indoor_state.specs.declared.plan.Release.{Release}
 use Rattle.line.specs.Line.{World, Line, line, Wide, Clean}
 use Rattle.clean.specs.declared.ends.Ends.{Ends}
 

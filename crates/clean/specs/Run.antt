@@ -12,14 +12,14 @@ use Rattle.silence.specs.declared.Checked.{Checked}
 use Rattle.silence.specs.declared.Checked.the-variants as Che
 use Rattle.image.specs.Blocks.{blocksOf}
 use Rattle.wire.specs.declared.response.Identity.{Identity}
-use Rattle.receiver.specs.Session.{capacityMost}
-use Rattle.indoor_phases.specs.Phase.{reasonNumber}
-use Rattle.indoor_phases.specs.declared.plan.Release.{Release}
-use Rattle.indoor_phases.specs.declared.phase.Reason.the-variants.{NotNewer, TooLarge}
-use Rattle.indoor_phases.specs.declared.phase.Phase.{Phase}
-use Rattle.indoor_phases.specs.declared.phase.Phase.the-variants.{Identify, Initiate, Transfer, Validate, Done, Failed}
+use Rattle.wire.specs.Codes.{imageSizeMost}
+use Rattle.indoor_state.specs.Phase.{reasonNumber}
+use Rattle.indoor_state.specs.declared.plan.Release.{Release}
+use Rattle.indoor_state.specs.declared.phase.Reason.the-variants.{NotNewer, TooLarge}
+use Rattle.indoor_state.specs.declared.phase.Phase.{Phase}
+use Rattle.indoor_state.specs.declared.phase.Phase.the-variants.{Identify, Initiate, Transfer, Validate, Done, Failed}
 use Rattle.indoor_rules.specs.Newer.{newerOf}
-use Rattle.indoor.specs.Start.{lengthMost}
+use Rattle.wire.specs.Codes.{imageSizeMost}
 use Rattle.clean.specs.declared.ran.Ran.{Ran}
 use Rattle.clean.specs.declared.ran.Ran.the-variants.{Settings, FileSize, Ended}
 
@@ -53,7 +53,7 @@ carriedOf release identity file image =
 unfoldable pub begunOf : Release → Identity → List ℕ → List ℕ → Left Ran
 begunOf release identity file image =
     pick (eqb (length file) 0) (left FileSize image)
-    (pick (ltb lengthMost (length file)) (left FileSize image)
+    (pick (ltb imageSizeMost (length file)) (left FileSize image)
     (carriedOf release identity file image))
 
 -- 29
@@ -63,5 +63,5 @@ checkedOf Che.Refused release identity file image = left Settings image
 
 unfoldable pub runOf : ℕ → ℕ → Identity → Release → List ℕ → List ℕ → Left Ran
 runOf limit resends identity release file image =
-    pick (ltb capacityMost (length image)) (left Settings image)
+    pick (ltb imageSizeMost (length image)) (left Settings image)
     (checkedOf (settingsOf limit resends) release identity file image)

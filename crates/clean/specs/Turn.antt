@@ -5,12 +5,12 @@ use lib.Dec.{ltb, eqb}
 use lib.ListN.{length, take}
 use Rattle.basis.specs.Pick.{pick}
 use Rattle.basis.specs.Left.{Left}
-use Rattle.receiver_phases.specs.declared.verdict.Verdict.the-variants as Ver
-use Rattle.receiver.specs.Request.{Effect, requestOf}
-use Rattle.receiver.specs.declared.session.Receiver.{Receiver}
-use Rattle.indoor.specs.Response.{responseOf}
-use Rattle.indoor.specs.declared.session.Indoor.{Indoor}
-use Rattle.indoor.specs.declared.session.Outcome.{Outcome}
+use Rattle.receiver_state.specs.declared.verdict.Verdict.the-variants as Ver
+use Rattle.receiver_rules.specs.Request.{Effect, requestOf}
+use Rattle.receiver_state.specs.declared.session.Receiver.{Receiver}
+use Rattle.indoor_rules.specs.Response.{responseOf}
+use Rattle.indoor_state.specs.declared.session.Indoor.{Indoor}
+use Rattle.indoor_state.specs.declared.session.Outcome.{Outcome}
 use Rattle.clean.specs.declared.ends.Ends.{Ends}
 
 abbrev pub ends : Receiver → Indoor → ℕ → Ends

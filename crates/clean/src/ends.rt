@@ -1,7 +1,7 @@
 // Both ends and the request on its way, and one turn of the line: the request to the receiver, its answer to the indoor end.
-use indoor::Indoor;
-use receiver::Receiver;
-use receiver_phases::verdict::Verdict;
+use indoor_state::session::Indoor;
+use receiver_state::session::Receiver;
+use receiver_state::verdict::Verdict;
 ghost use mathlib.Core.Path.{_≡_};
 ghost use Prim.Native.Nat.{_≤_};
 ghost use lib.ListN.{length};
@@ -32,7 +32,7 @@ impl Ends {
         let receiver = self.receiver;
         let indoor = self.indoor;
         let underway = self.underway;
-        let heard = receiver.request(image, &up[..underway], 0, Verdict::Good, down);
+        let heard = receiver::request(receiver, image, &up[..underway], 0, Verdict::Good, down);
         let state = heard.state;
         let written = heard.written;
         answer(state, indoor, file, up, down, written)
@@ -58,7 +58,7 @@ fn answer(
             underway: 0,
         };
     }
-    let told = indoor.response(file, &down[..written], up);
+    let told = indoor::response(indoor, file, &down[..written], up);
     let state = told.state;
     Ends {
         receiver,

@@ -1,5 +1,5 @@
 // What came of a session.
-use indoor_phases::phase::Phase;
+use indoor_state::phase::Phase;
 ghost use mathlib.Core.Path.{_≡_};
 ghost use Rattle.clean.specs.Run.{phaseNumber, numberOf};
 
@@ -30,5 +30,5 @@ fn phase_number(phase: Phase) -> u8
     let Phase::Failed(reason) = phase else {
         return 0;
     };
-    reason.number()
+    indoor_decide::reason_number(reason)
 }

@@ -1,18 +1,18 @@
 // A whole session: both starts, and then turns until nothing is on its way.
 use crate::ends::Ends;
 use crate::ran::Ran;
-use indoor::Indoor;
-use indoor::Started as Begun;
-use indoor_phases::plan::Release;
-use receiver::Receiver;
-use receiver::Started;
+use indoor_state::plan::Release;
+use indoor_state::session::Indoor;
+use indoor_state::session::Started as Begun;
+use receiver_state::session::Receiver;
+use receiver_state::session::Started;
 use wire::codes;
 use wire::response::Identity;
 ghost use mathlib.Core.Path.{_≡_};
 ghost use lib.ListN.{length};
 ghost use Rattle.basis.specs.Left.{left};
-ghost use Rattle.receiver.specs.Session.{startOf};
-ghost use Rattle.receiver.specs.declared.session.Started.the-variants.{Made};
+ghost use Rattle.receiver_rules.specs.Session.{startOf};
+ghost use Rattle.receiver_state.specs.declared.session.Started.the-variants.{Made};
 ghost use Rattle.line.specs.Line.{Wide};
 ghost use Rattle.clean.specs.Run.{runOf, begunOf, carriedOf};
 ghost use Rattle.clean.specs.On.{On};
@@ -31,7 +31,7 @@ pub fn run(
 ) -> Ran
     ensures { λ r. ⌜ left r (now (image .exit)) ≡ runOf limit resends identity release (now (file .entry)) (now (image .entry)) ⌝ }
 {
-    let started = Receiver::new(limit, resends, identity, image.len());
+    let started = receiver::start(limit, resends, identity, image.len());
     let Started::Made(receiver) = started else {
         return Ran::Settings;
     };
@@ -52,7 +52,7 @@ fn begin(
     ensures { λ r. ⌜ left r (now (image .exit)) ≡ begunOf release (receiver .identity) (now (file .entry)) (now (image .entry)) ⌝ }
 {
     let mut up = [0u8; codes::LONGEST];
-    let begun = Indoor::start(limit, resends, release, file, &mut up);
+    let begun = indoor::start(limit, resends, release, file, &mut up);
     let Begun::Made { state, written } = begun else {
         return Ran::FileSize;
     };

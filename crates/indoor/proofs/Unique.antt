@@ -4,17 +4,17 @@ use mathlib.Core.Path.{_≡_}
 use mathlib.Core.List.{List}
 use Rattle.basis.specs.Left.{left}
 use Rattle.basis.specs.Only.{only}
-use Rattle.indoor_phases.specs.declared.plan.Release.{Release}
-use Rattle.indoor.specs.Session.{numberOf}
-use Rattle.indoor.specs.Start.{startOf}
-use Rattle.indoor.specs.Response.{responseOf}
-use Rattle.indoor.specs.Time.{timeOf}
-use Rattle.indoor.specs.declared.session.Indoor.{Indoor}
-use Rattle.indoor.specs.declared.session.Started.{Started}
-use Rattle.indoor.specs.declared.session.Outcome.{Outcome}
+use Rattle.indoor_state.specs.declared.plan.Release.{Release}
+use Rattle.indoor_state.specs.Session.{numberOf}
+use Rattle.indoor_rules.specs.Start.{startOf}
+use Rattle.indoor_rules.specs.Response.{responseOf}
+use Rattle.indoor_rules.specs.Time.{timeOf}
+use Rattle.indoor_state.specs.declared.session.Indoor.{Indoor}
+use Rattle.indoor_state.specs.declared.session.Started.{Started}
+use Rattle.indoor_state.specs.declared.session.Outcome.{Outcome}
 
-pub one-number : (self : Started) (r r′ : ℕ) → r ≡ numberOf self → r′ ≡ numberOf self → r ≡ r′
-one-number self r r′ p q = only p q
+pub one-started-number : (started : Started) (r r′ : ℕ) → r ≡ numberOf started → r′ ≡ numberOf started → r ≡ r′
+one-started-number started r r′ p q = only p q
 
 pub one-start : (limit resends : ℕ) (release : Release) (file out : List ℕ) (r r′ : Started) (e e′ : List ℕ)
     → left r e ≡ startOf limit resends release file out
@@ -22,14 +22,14 @@ pub one-start : (limit resends : ℕ) (release : Release) (file out : List ℕ) 
     → left r e ≡ left r′ e′
 one-start limit resends release file out r r′ e e′ p q = only p q
 
-pub one-response : (self : Indoor) (file response out : List ℕ) (r r′ : Outcome) (e e′ : List ℕ)
-    → left r e ≡ responseOf self file response out
-    → left r′ e′ ≡ responseOf self file response out
+pub one-response : (session : Indoor) (file response out : List ℕ) (r r′ : Outcome) (e e′ : List ℕ)
+    → left r e ≡ responseOf session file response out
+    → left r′ e′ ≡ responseOf session file response out
     → left r e ≡ left r′ e′
-one-response self file response out r r′ e e′ p q = only p q
+one-response session file response out r r′ e e′ p q = only p q
 
-pub one-time : (self : Indoor) (file : List ℕ) (elapsed : ℕ) (out : List ℕ) (r r′ : Outcome) (e e′ : List ℕ)
-    → left r e ≡ timeOf self file elapsed out
-    → left r′ e′ ≡ timeOf self file elapsed out
+pub one-time : (session : Indoor) (file : List ℕ) (elapsed : ℕ) (out : List ℕ) (r r′ : Outcome) (e e′ : List ℕ)
+    → left r e ≡ timeOf session file elapsed out
+    → left r′ e′ ≡ timeOf session file elapsed out
     → left r e ≡ left r′ e′
-one-time self file elapsed out r r′ e e′ p q = only p q
+one-time session file elapsed out r r′ e e′ p q = only p q

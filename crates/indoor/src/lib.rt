@@ -1,10 +1,11 @@
 // The indoor end's calls: a session's start, one response, one time call (01, The indoor end's phases).
-mod response;
+mod outcome;
+mod response_call;
 mod send;
-mod session;
-mod start;
-mod time;
+mod start_call;
+mod time_call;
 
-pub use session::Indoor;
-pub use session::Outcome;
-pub use session::Started;
+pub use response_call::response;
+pub use start_call::start;
+pub use start_call::started_number;
+pub use time_call::time;

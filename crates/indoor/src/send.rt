@@ -1,7 +1,8 @@
 // The request that goes out with an answer, in the first bytes of the lent buffer (01, Numbers we answer).
-use indoor_phases::answer::Answer;
-use indoor_phases::answer::Sends;
-use indoor_phases::plan::Plan;
+use indoor_decide::answer_sends;
+use indoor_state::answer::Answer;
+use indoor_state::answer::Sends;
+use indoor_state::plan::Plan;
 use wire::request::Request;
 use wire::request::Versions;
 ghost use mathlib.Core.Path.{_≡_};
@@ -11,13 +12,13 @@ ghost use Rattle.basis.specs.Left.{left};
 ghost use Rattle.wire.specs.Codes.{longest};
 ghost use Rattle.wire.specs.Written.{requestBytes};
 ghost use Rattle.lent.specs.Led.{leads};
-ghost use Rattle.indoor.specs.Send.{blockBytes, sendsBytes, bytesOf};
+ghost use Rattle.indoor_rules.specs.Send.{blockBytes, sendsBytes, bytesOf};
 
 pub(crate) fn send(out: &mut [u8], file: &[u8], plan: Plan, answer: Answer) -> usize
     requires { ⌜ longest ≤ length (now out) ⌝ }
     ensures { λ r. ⌜ left r (now (out .exit)) ≡ leads (bytesOf plan (now (file .entry)) answer) (now (out .entry)) ⌝ }
 {
-    let sends = answer.sends();
+    let sends = answer_sends(answer);
     let versions = plan.release.versions;
     deliver(out, file, versions, sends)
 }

@@ -6,15 +6,16 @@ use mathlib.Core.Path.{_≡_, refl, sym, ap}
 use native.Mathlib.Omega.{arith}
 use borrow.Author.Tests.{eqb-true, eqb-false}
 use lib.Dec.{eqb}
+use Rattle.wire.specs.Codes.{imageSizeMost}
 use Rattle.basis.specs.Flag.{byte-flag, flag-byte, byte-small}
 use Rattle.basis.specs.Pick.{pick, pick-all}
 use Rattle.silence.specs.Within.{Within}
-use Rattle.indoor_phases.specs.Phase.{reasonNumber}
-use Rattle.indoor_phases.specs.declared.phase.Reason.{Reason}
-use Rattle.indoor_phases.specs.declared.phase.Reason.the-variants.{Silence, Refused, NotNewer, TooLarge, WrongNumber, NotValid}
-use Rattle.indoor_phases.specs.declared.phase.Phase.{Phase}
-use Rattle.indoor_phases.specs.declared.phase.Phase.the-variants.{Identify, Initiate, Transfer, Validate, Done, Failed}
-use Rattle.indoor.specs.declared.session.Indoor.{Indoor}
+use Rattle.indoor_state.specs.Phase.{reasonNumber}
+use Rattle.indoor_state.specs.declared.phase.Reason.{Reason}
+use Rattle.indoor_state.specs.declared.phase.Reason.the-variants.{Silence, Refused, NotNewer, TooLarge, WrongNumber, NotValid}
+use Rattle.indoor_state.specs.declared.phase.Phase.{Phase}
+use Rattle.indoor_state.specs.declared.phase.Phase.the-variants.{Identify, Initiate, Transfer, Validate, Done, Failed}
+use Rattle.indoor_state.specs.declared.session.Indoor.{Indoor}
 use Rattle.indoor_flat.specs.Place.{place, placeOf, reasonOf, phaseOf}
 use Rattle.indoor_flat.specs.Flat.{flat, placed, packOf, unpackOf, isSession}
 use Rattle.indoor_flat.specs.Whole.{Standing, Whole}
@@ -134,7 +135,7 @@ phase-standing (Failed reason) =
     }
 
 -- The numbers of every session with settings and a file's length that a start takes are a session's.
-pub pack-session : (s : Indoor) → Within (s .plan .settings .limit) (s .plan .settings .resends) → 1 ≤ s .plan .length → s .plan .length ≤ 1048575
+pub pack-session : (s : Indoor) → Within (s .plan .settings .limit) (s .plan .settings .resends) → 1 ≤ s .plan .length → s .plan .length ≤ imageSizeMost
     → isSession (packOf s) ≡ true
 pack-session s within some most =
     whole-session (packOf s) (record { within = within; some = some; most = most; standing = phase-standing (s .stand .phase) })

@@ -11,7 +11,7 @@ use Rattle.silence.specs.Settings.{settingsOf, numberOf}
 use Rattle.silence.specs.declared.Checked.{Checked}
 use Rattle.silence.specs.declared.Checked.the-variants as Che
 use Rattle.silence.proofs.Laws.{made-within, within-made}
-use Rattle.indoor.specs.Start.{lengthMost}
+use Rattle.wire.specs.Codes.{imageSizeMost}
 use Rattle.indoor_flat.specs.Place.{failsOf, standsOf}
 use Rattle.indoor_flat.specs.Flat.{placed, isSession, none}
 use Rattle.indoor_flat.specs.Whole.{Standing, Whole}
@@ -126,10 +126,10 @@ session-whole f e =
     let within = checked-within (f .plan .settings .limit) (f .plan .settings .resends) _ refl (eqb-true _ 0 (a .0)) in
     let P : Bool → Type 0 = λ b. b ≡ true → Whole f in
     pick-all P (eqb (f .plan .length) 0) _ _ (λ _ h. absurd (true≢false (sym h)))
-    (λ some. pick-all P (ltb lengthMost (f .plan .length)) _ _ (λ _ h. absurd (true≢false (sym h)))
+    (λ some. pick-all P (ltb imageSizeMost (f .plan .length)) _ _ (λ _ h. absurd (true≢false (sym h)))
     (λ few h.
     let not = eqb-false (f .plan .length) 0 some in
-    record { within = within; some = omega (arith, not); most = ltb-false lengthMost (f .plan .length) few; standing = stands-standing (placed f) h }))
+    record { within = within; some = omega (arith, not); most = ltb-false imageSizeMost (f .plan .length) few; standing = stands-standing (placed f) h }))
     (a .1)
 
 pub whole-session : (f : FlatIndoor) → Whole f → isSession f ≡ true
@@ -138,7 +138,7 @@ whole-session f w =
     let made = within-made (f .plan .settings .limit) (f .plan .settings .resends) (w .within) in
     let stands = standing-stands (placed f) (w .standing) in
     let some : f .plan .length ≡ 0 → ⊥ = λ e. let least = w .some in omega arith in
-    let few : f .plan .length ≤ lengthMost = w .most in
+    let few : f .plan .length ≤ imageSizeMost = w .most in
     rw (made, stands) (search tests)
 
 -- All zero is no session: its silence limit is 0.

@@ -2,7 +2,7 @@
 use mathlib.Core.Bool.{Bool}
 use mathlib.Core.Path.{_≡_}
 use Rattle.basis.specs.Only.{only}
-use Rattle.indoor.specs.declared.session.Indoor.{Indoor}
+use Rattle.indoor_state.specs.declared.session.Indoor.{Indoor}
 use Rattle.indoor_flat.specs.Flat.{packOf, unpackOf, isSession, none}
 use Rattle.indoor_flat.specs.declared.flat.FlatIndoor.{FlatIndoor}
 

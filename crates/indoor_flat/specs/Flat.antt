@@ -4,11 +4,11 @@ use mathlib.Core.Bool.{Bool, false}
 use lib.Dec.{eqb, ltb}
 use Rattle.basis.specs.Pick.{pick}
 use Rattle.silence.specs.Settings.{settingsOf, numberOf}
-use Rattle.indoor_phases.specs.Phase.{stands}
-use Rattle.indoor_phases.specs.declared.plan.Plan.{Plan}
-use Rattle.indoor.specs.Session.{indoor}
-use Rattle.indoor.specs.Start.{lengthMost}
-use Rattle.indoor.specs.declared.session.Indoor.{Indoor}
+use Rattle.indoor_state.specs.Phase.{stands}
+use Rattle.indoor_state.specs.declared.plan.Plan.{Plan}
+use Rattle.indoor_rules.specs.Session.{indoor}
+use Rattle.wire.specs.Codes.{imageSizeMost}
+use Rattle.indoor_state.specs.declared.session.Indoor.{Indoor}
 use Rattle.indoor_flat.specs.Place.{place, placeOf, phaseOf, standsOf}
 use Rattle.indoor_flat.specs.declared.place.Place.{Place}
 use Rattle.indoor_flat.specs.declared.flat.FlatIndoor.{FlatIndoor}
@@ -39,7 +39,7 @@ unfoldable pub isSession : FlatIndoor → Bool
 isSession f =
     pick (eqb (numberOf (settingsOf (f .plan .settings .limit) (f .plan .settings .resends))) 0)
     (pick (eqb (f .plan .length) 0) false
-    (pick (ltb lengthMost (f .plan .length)) false
+    (pick (ltb imageSizeMost (f .plan .length)) false
     (standsOf (placed f))))
     false
 

@@ -4,11 +4,11 @@ use mathlib.Core.Bool.{Bool, true, false}
 use lib.Dec.{eqb, ltb, leb}
 use Rattle.basis.specs.Flag.{byteOf}
 use Rattle.basis.specs.Pick.{pick}
-use Rattle.indoor_phases.specs.Phase.{reasonNumber, progress}
-use Rattle.indoor_phases.specs.declared.phase.Reason.{Reason}
-use Rattle.indoor_phases.specs.declared.phase.Reason.the-variants as Why
-use Rattle.indoor_phases.specs.declared.phase.Phase.{Phase}
-use Rattle.indoor_phases.specs.declared.phase.Phase.the-variants.{Identify, Initiate, Transfer, Validate, Done, Failed}
+use Rattle.indoor_state.specs.Phase.{reasonNumber, progress}
+use Rattle.indoor_state.specs.declared.phase.Reason.{Reason}
+use Rattle.indoor_state.specs.declared.phase.Reason.the-variants as Why
+use Rattle.indoor_state.specs.declared.phase.Phase.{Phase}
+use Rattle.indoor_state.specs.declared.phase.Phase.the-variants.{Identify, Initiate, Transfer, Validate, Done, Failed}
 use Rattle.indoor_flat.specs.declared.place.Place.{Place}
 
 abbrev pub place : ℕ → ℕ → ℕ → ℕ → ℕ → Place

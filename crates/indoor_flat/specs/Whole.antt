@@ -1,6 +1,7 @@
 -- Which numbers are a session's, in the paper's own numbers (include/harsolvek.h; 01, Sizes and numbers; 01, The indoor end's phases).
 use Prim.Native.Nat.{_≤_}
 use mathlib.Core.Path.{_≡_}
+use Rattle.wire.specs.Codes.{imageSizeMost}
 use Rattle.silence.specs.Within.{Within}
 use Rattle.indoor_flat.specs.Flat.{placed}
 use Rattle.indoor_flat.specs.declared.place.Place.{Place}
@@ -19,5 +20,5 @@ pub record Standing (p : Place) : Type 0 where
 pub record Whole (f : FlatIndoor) : Type 0 where
   pub within : Within (f .plan .settings .limit) (f .plan .settings .resends)
   pub some : 1 ≤ f .plan .length
-  pub most : f .plan .length ≤ 1048575
+  pub most : f .plan .length ≤ imageSizeMost
   pub standing : Standing (placed f)

@@ -1,6 +1,6 @@
 // The numbers of a session, in the order of include/harsolvek.h.
-use indoor_phases::plan::Plan;
-use indoor_phases::plan::Release;
+use indoor_state::plan::Plan;
+use indoor_state::plan::Release;
 use silence::Settings;
 use wire::request::Versions;
 ghost use mathlib.Core.Path.{_≡_};

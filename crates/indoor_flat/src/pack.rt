@@ -1,7 +1,7 @@
 // A session as its numbers.
 use crate::flat::FlatIndoor;
 use crate::place::Place;
-use indoor::Indoor;
+use indoor_state::session::Indoor;
 ghost use mathlib.Core.Path.{_≡_};
 ghost use Rattle.indoor_flat.specs.Flat.{packOf};
 

@@ -1,7 +1,7 @@
 // What a phase says, as numbers, and back.
-use indoor_phases::phase::Phase;
-use indoor_phases::phase::Progress;
-use indoor_phases::phase::Reason;
+use indoor_state::phase::Phase;
+use indoor_state::phase::Progress;
+use indoor_state::phase::Reason;
 ghost use mathlib.Core.Path.{_≡_};
 ghost use Rattle.indoor_flat.specs.Place.{place, placeOf, phaseOf, reasonOf, failsOf, standsOf};
 
@@ -52,7 +52,13 @@ impl Place {
             Phase::Transfer(p) => Place::new(TRANSFER, p.emptied as u8, p.asked, p.wait, 0),
             Phase::Validate { wait } => Place::new(VALIDATE, 0, 0, wait, 0),
             Phase::Done => Place::new(DONE, 0, 0, 0, 0),
-            Phase::Failed(reason) => Place::new(FAILED, 0, 0, 0, reason.number()),
+            Phase::Failed(reason) => Place::new(
+                FAILED,
+                0,
+                0,
+                0,
+                indoor_decide::reason_number(reason),
+            ),
         }
     }
 

@@ -1,14 +1,14 @@
 // The session that the numbers say, and whether they are a session's at all: settings and a file's length that a start takes, in a phase.
 use crate::flat::FlatIndoor;
 use crate::place::Place;
-use indoor::Indoor;
-use indoor_phases::phase::Stand;
+use indoor_state::phase::Stand;
+use indoor_state::session::Indoor;
 use silence::Settings;
+use wire::codes;
 ghost use mathlib.Core.Path.{_≡_};
 ghost use Rattle.indoor_flat.specs.Flat.{placed, unpackOf, isSession};
 
-// The 20 bits of MaxImageSize (001 T5-20; 01, Sizes and numbers).
-const LENGTH_MOST: u32 = 1048575;
+const LENGTH_MOST: u32 = codes::IMAGE_SIZE_MOST as u32;
 
 impl FlatIndoor {
     pub fn unpack(self) -> Indoor

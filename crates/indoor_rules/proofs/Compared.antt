@@ -7,7 +7,7 @@ use lib.Dec.{eqb}
 use Rattle.basis.specs.Pick.{pick, pick-all}
 use Rattle.wire.specs.declared.response.Identity.{Identity}
 use Rattle.indoor_rules.specs.Newer.{newerOf}
-use Rattle.indoor_phases.specs.declared.plan.Release.{Release}
+use Rattle.indoor_state.specs.declared.plan.Release.{Release}
 
 -- Nothing else is looked at: not the other versions, the hardware, the bank or the flags.
 pub record Newer (file : Release) (reported : Identity) : Type 0 where

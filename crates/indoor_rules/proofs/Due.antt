@@ -2,13 +2,13 @@
 use mathlib.Core.Path.{_≡_, refl}
 use Rattle.wire.specs.declared.response.Response.{Response}
 use Rattle.wire.specs.declared.response.Response.the-variants as Res
-use Rattle.indoor_phases.specs.Step.{step}
-use Rattle.indoor_rules.specs.Response.{identifyOf, initiateOf, transferOf, validateOf, decidedOf, decideOf}
-use Rattle.indoor_phases.specs.declared.plan.Plan.{Plan}
-use Rattle.indoor_phases.specs.declared.phase.Phase.{Phase}
-use Rattle.indoor_phases.specs.declared.phase.Phase.the-variants.{Identify, Initiate, Transfer, Validate, Done, Failed}
-use Rattle.indoor_phases.specs.declared.phase.Stand.{Stand}
-use Rattle.indoor_phases.specs.declared.answer.Answer.the-variants.{Unexpected}
+use Rattle.indoor_state.specs.Step.{step}
+use Rattle.indoor_rules.specs.Decide.{identifyOf, initiateOf, transferOf, validateOf, decidedOf, decideOf}
+use Rattle.indoor_state.specs.declared.plan.Plan.{Plan}
+use Rattle.indoor_state.specs.declared.phase.Phase.{Phase}
+use Rattle.indoor_state.specs.declared.phase.Phase.the-variants.{Identify, Initiate, Transfer, Validate, Done, Failed}
+use Rattle.indoor_state.specs.declared.phase.Stand.{Stand}
+use Rattle.indoor_state.specs.declared.answer.Answer.the-variants.{Unexpected}
 
 -- The response that each phase waits for; in Done and Failed none is due.
 abbrev pub Due : Phase → Response → Type 0

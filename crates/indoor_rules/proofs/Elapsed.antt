@@ -10,17 +10,18 @@ use Rattle.silence.specs.declared.Grown.{Grown}
 use Rattle.silence.specs.declared.Event.{Event}
 use Rattle.silence.specs.declared.Event.the-variants.{Quiet, Resend, NoneLeft}
 use Rattle.silence.proofs.Laws.{below-quiet, left-resends, none-left-ends, limit-expires, many-limits}
-use Rattle.indoor_phases.specs.Phase.{progress, stands}
-use Rattle.indoor_phases.specs.Step.{step, emptiedBy}
-use Rattle.indoor_rules.specs.Time.{resentOf, expiredOf, resendsOf, expiresOf, initiatePassOf, transferPassOf, validatePassOf, pacedOf, passedOf, passOf}
-use Rattle.indoor_phases.specs.declared.plan.Plan.{Plan}
-use Rattle.indoor_phases.specs.declared.phase.Reason.{Reason}
-use Rattle.indoor_phases.specs.declared.phase.Reason.the-variants.{Silence}
-use Rattle.indoor_phases.specs.declared.phase.Phase.{Phase}
-use Rattle.indoor_phases.specs.declared.phase.Phase.the-variants.{Identify, Initiate, Transfer, Validate, Done, Failed}
-use Rattle.indoor_phases.specs.declared.answer.Answer.{Answer}
-use Rattle.indoor_phases.specs.declared.answer.Answer.the-variants as Ans
-use Rattle.indoor_phases.specs.declared.step.Step.{Step}
+use Rattle.indoor_state.specs.Phase.{progress, stands}
+use Rattle.indoor_state.specs.Step.{step}
+use Rattle.indoor_rules.specs.Step.{emptiedBy}
+use Rattle.indoor_rules.specs.Pass.{resentOf, expiredOf, resendsOf, expiresOf, initiatePassOf, transferPassOf, validatePassOf, pacedOf, passedOf, passOf}
+use Rattle.indoor_state.specs.declared.plan.Plan.{Plan}
+use Rattle.indoor_state.specs.declared.phase.Reason.{Reason}
+use Rattle.indoor_state.specs.declared.phase.Reason.the-variants.{Silence}
+use Rattle.indoor_state.specs.declared.phase.Phase.{Phase}
+use Rattle.indoor_state.specs.declared.phase.Phase.the-variants.{Identify, Initiate, Transfer, Validate, Done, Failed}
+use Rattle.indoor_state.specs.declared.answer.Answer.{Answer}
+use Rattle.indoor_state.specs.declared.answer.Answer.the-variants as Ans
+use Rattle.indoor_state.specs.declared.step.Step.{Step}
 use Rattle.indoor_rules.proofs.Orders.{failed}
 
 -- The phases that send their request again, and what they send.

@@ -10,17 +10,18 @@ use Rattle.image.specs.Blocks.{blocksOf}
 use Rattle.wire.specs.declared.response.Identity.{Identity}
 use Rattle.wire.specs.declared.response.Response.{Response}
 use Rattle.wire.specs.declared.response.Response.the-variants as Res
-use Rattle.indoor_phases.specs.Phase.{progress, stands}
-use Rattle.indoor_phases.specs.Step.{step, emptiedBy}
-use Rattle.indoor_rules.specs.Response.{okOf, whereOk, comparedOf, readyOf, offeredOf, endedOf, closedOf, askedOf, numberedOf, judgedOf, verdictOf, identifyOf, initiateOf, transferOf, validateOf, decidedOf, decideOf}
-use Rattle.indoor_phases.specs.declared.plan.Plan.{Plan}
-use Rattle.indoor_phases.specs.declared.phase.Reason.{Reason}
-use Rattle.indoor_phases.specs.declared.phase.Reason.the-variants.{Refused, NotNewer, TooLarge, WrongNumber, NotValid}
-use Rattle.indoor_phases.specs.declared.phase.Phase.{Phase}
-use Rattle.indoor_phases.specs.declared.phase.Phase.the-variants.{Identify, Initiate, Transfer, Validate, Done, Failed}
-use Rattle.indoor_phases.specs.declared.answer.Answer.{Answer}
-use Rattle.indoor_phases.specs.declared.answer.Answer.the-variants as Ans
-use Rattle.indoor_phases.specs.declared.step.Step.{Step}
+use Rattle.indoor_state.specs.Phase.{progress, stands}
+use Rattle.indoor_state.specs.Step.{step}
+use Rattle.indoor_rules.specs.Step.{emptiedBy}
+use Rattle.indoor_rules.specs.Decide.{okOf, whereOk, comparedOf, readyOf, offeredOf, endedOf, closedOf, askedOf, numberedOf, judgedOf, verdictOf, identifyOf, initiateOf, transferOf, validateOf, decidedOf, decideOf}
+use Rattle.indoor_state.specs.declared.plan.Plan.{Plan}
+use Rattle.indoor_state.specs.declared.phase.Reason.{Reason}
+use Rattle.indoor_state.specs.declared.phase.Reason.the-variants.{Refused, NotNewer, TooLarge, WrongNumber, NotValid}
+use Rattle.indoor_state.specs.declared.phase.Phase.{Phase}
+use Rattle.indoor_state.specs.declared.phase.Phase.the-variants.{Identify, Initiate, Transfer, Validate, Done, Failed}
+use Rattle.indoor_state.specs.declared.answer.Answer.{Answer}
+use Rattle.indoor_state.specs.declared.answer.Answer.the-variants as Ans
+use Rattle.indoor_state.specs.declared.step.Step.{Step}
 use Rattle.indoor_rules.proofs.Compared.{Newer, newer-yes, newer-no}
 
 -- Accepted: silence and resends are zero. Failed: nothing is left but the reason.

@@ -10,22 +10,23 @@ use Rattle.basis.specs.Pick.{pick-all, When}
 use Rattle.wire.specs.declared.response.Identity.{Identity}
 use Rattle.wire.specs.declared.response.Response.{Response}
 use Rattle.wire.specs.declared.response.Response.the-variants as Res
-use Rattle.indoor_phases.specs.Phase.{stands}
-use Rattle.indoor_phases.specs.Answer.{numberOf, sendsOf}
-use Rattle.indoor_phases.specs.Step.{step, last, emptiedBy}
-use Rattle.indoor_phases.proofs.Steps.{emptied-only, emptied-stays, emptied-last}
+use Rattle.indoor_state.specs.Phase.{stands}
+use Rattle.indoor_state.specs.Answer.{numberOf, sendsOf}
+use Rattle.indoor_state.specs.Step.{step}
+use Rattle.indoor_rules.specs.Step.{last, emptiedBy}
+use Rattle.indoor_rules.proofs.Accepted.{emptied-only, emptied-stays, emptied-last}
 use Rattle.indoor_rules.specs.Newer.{newerOf}
-use Rattle.indoor_rules.specs.Response.{sends, okOf, whereOk, comparedOf, readyOf, offeredOf, endedOf, closedOf, askedOf, numberedOf, judgedOf, verdictOf, identifyOf, initiateOf, transferOf, validateOf, decidedOf, decideOf}
-use Rattle.indoor_phases.specs.declared.plan.Plan.{Plan}
-use Rattle.indoor_phases.specs.declared.phase.Progress.{Progress}
-use Rattle.indoor_phases.specs.declared.phase.Phase.{Phase}
-use Rattle.indoor_phases.specs.declared.phase.Phase.the-variants.{Identify, Initiate, Transfer, Validate, Done, Failed}
-use Rattle.indoor_phases.specs.declared.phase.Stand.{Stand}
-use Rattle.indoor_phases.specs.declared.answer.Answer.{Answer}
-use Rattle.indoor_phases.specs.declared.answer.Answer.the-variants as Ans
-use Rattle.indoor_phases.specs.declared.answer.Sends.{Sends}
-use Rattle.indoor_phases.specs.declared.answer.Sends.the-variants as Out
-use Rattle.indoor_phases.specs.declared.step.Step.{Step}
+use Rattle.indoor_rules.specs.Decide.{sends, okOf, whereOk, comparedOf, readyOf, offeredOf, endedOf, closedOf, askedOf, numberedOf, judgedOf, verdictOf, identifyOf, initiateOf, transferOf, validateOf, decidedOf, decideOf}
+use Rattle.indoor_state.specs.declared.plan.Plan.{Plan}
+use Rattle.indoor_state.specs.declared.phase.Progress.{Progress}
+use Rattle.indoor_state.specs.declared.phase.Phase.{Phase}
+use Rattle.indoor_state.specs.declared.phase.Phase.the-variants.{Identify, Initiate, Transfer, Validate, Done, Failed}
+use Rattle.indoor_state.specs.declared.phase.Stand.{Stand}
+use Rattle.indoor_state.specs.declared.answer.Answer.{Answer}
+use Rattle.indoor_state.specs.declared.answer.Answer.the-variants as Ans
+use Rattle.indoor_state.specs.declared.answer.Sends.{Sends}
+use Rattle.indoor_state.specs.declared.answer.Sends.the-variants as Out
+use Rattle.indoor_state.specs.declared.step.Step.{Step}
 
 -- A step on a response answers 0, 21 or 41 to 45.
 abbrev pub hears : ℕ → Bool

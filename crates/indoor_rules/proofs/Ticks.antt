@@ -8,19 +8,19 @@ use borrow.Author.Tests.{eqb-true}
 use lib.Dec.{eqb, ltb}
 use Rattle.basis.specs.Pick.{pick-all, When}
 use Rattle.silence.proofs.Laws.{grown-all}
-use Rattle.indoor_phases.specs.Phase.{stands}
-use Rattle.indoor_phases.specs.Answer.{numberOf, sendsOf}
-use Rattle.indoor_phases.specs.Step.{step}
-use Rattle.indoor_rules.specs.Time.{resentOf, expiredOf, resendsOf, expiresOf, initiatePassOf, transferPassOf, validatePassOf, pacedOf, passedOf, passOf}
-use Rattle.indoor_phases.specs.declared.plan.Plan.{Plan}
-use Rattle.indoor_phases.specs.declared.phase.Reason.the-variants.{Silence}
-use Rattle.indoor_phases.specs.declared.phase.Progress.{Progress}
-use Rattle.indoor_phases.specs.declared.phase.Phase.{Phase}
-use Rattle.indoor_phases.specs.declared.phase.Phase.the-variants.{Identify, Initiate, Transfer, Validate, Done, Failed}
-use Rattle.indoor_phases.specs.declared.phase.Stand.{Stand}
-use Rattle.indoor_phases.specs.declared.answer.Answer.the-variants as Ans
-use Rattle.indoor_phases.specs.declared.step.Step.{Step}
-use Rattle.indoor_phases.proofs.Steps.{emptied-stays, emptied-last}
+use Rattle.indoor_state.specs.Phase.{stands}
+use Rattle.indoor_state.specs.Answer.{numberOf, sendsOf}
+use Rattle.indoor_state.specs.Step.{step}
+use Rattle.indoor_rules.specs.Pass.{resentOf, expiredOf, resendsOf, expiresOf, initiatePassOf, transferPassOf, validatePassOf, pacedOf, passedOf, passOf}
+use Rattle.indoor_state.specs.declared.plan.Plan.{Plan}
+use Rattle.indoor_state.specs.declared.phase.Reason.the-variants.{Silence}
+use Rattle.indoor_state.specs.declared.phase.Progress.{Progress}
+use Rattle.indoor_state.specs.declared.phase.Phase.{Phase}
+use Rattle.indoor_state.specs.declared.phase.Phase.the-variants.{Identify, Initiate, Transfer, Validate, Done, Failed}
+use Rattle.indoor_state.specs.declared.phase.Stand.{Stand}
+use Rattle.indoor_state.specs.declared.answer.Answer.the-variants as Ans
+use Rattle.indoor_state.specs.declared.step.Step.{Step}
+use Rattle.indoor_rules.proofs.Accepted.{emptied-stays, emptied-last}
 use Rattle.indoor_rules.proofs.Orders.{failed}
 use Rattle.indoor_rules.proofs.Owes.{Ends, Fit, Within, Empties, Still, Marks, later-empties}
 

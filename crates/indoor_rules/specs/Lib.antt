@@ -1,3 +1,10 @@
 pub mod Newer
+pub mod Step
+pub mod Decide
+pub mod Pass
+pub mod Send
+pub mod Session
+pub mod Start
 pub mod Response
 pub mod Time
+pub mod History

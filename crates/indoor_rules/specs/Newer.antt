@@ -3,7 +3,7 @@ use mathlib.Core.Bool.{Bool, false}
 use lib.Dec.{ltb, eqb}
 use Rattle.basis.specs.Pick.{pick}
 use Rattle.wire.specs.declared.response.Identity.{Identity}
-use Rattle.indoor_phases.specs.declared.plan.Release.{Release}
+use Rattle.indoor_state.specs.declared.plan.Release.{Release}
 
 unfoldable pub newerOf : Release → Identity → Bool
 newerOf release reported =

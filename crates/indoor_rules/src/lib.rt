@@ -1,2 +1,2 @@
-// What the indoor end does with a response and when time passes: definitions and their laws alone. The code that meets them is in the
-// crates above (01, The indoor end's phases).
+// What the indoor end does, decisions, calls and histories: definitions and their laws alone. The code that meets them is in the crates above
+// (01, The indoor end's phases).

@@ -15,32 +15,32 @@ use Rattle.wire.specs.declared.request.Request.the-variants as Req
 use Rattle.wire.specs.declared.request.Parsed.{Parsed}
 use Rattle.wire.specs.declared.request.Parsed.the-variants.{Valid}
 use Rattle.wire.specs.declared.response.Identity.{Identity}
-use Rattle.receiver_phases.specs.declared.phase.Accepted.{Accepted}
-use Rattle.receiver_phases.specs.declared.phase.Phase.{Phase as ReceiverPhase}
-use Rattle.receiver_phases.specs.declared.phase.Phase.the-variants.{Idle, Transfer, Await, Good}
-use Rattle.receiver_phases.proofs.Truth.{IsGood}
-use Rattle.receiver_phases.specs.declared.verdict.Verdict.{Verdict}
-use Rattle.receiver.specs.Request.{requestOf}
-use Rattle.receiver.specs.Time.{timeOf as receiverTimeOf}
-use Rattle.receiver.specs.History as taking
-use Rattle.receiver.proofs.Answers.{answers-28}
-use Rattle.receiver.proofs.Laws.{settings-stay}
-use Rattle.receiver.proofs.Stored.{image-length}
-use Rattle.receiver.proofs.TimeLaws.{time-settings}
-use Rattle.receiver.proofs.Fresh as receiverFresh
-use Rattle.receiver.proofs.OfFile.{Carries, Closed, OfFile, request-of-file, time-of-file, good-of-file, behind-kept}
-use Rattle.receiver.proofs.Truthful.{Succeeds, Truthful, request-truthful, request-stays-good, time-truthful, time-stays-good}
-use Rattle.indoor_phases.specs.declared.plan.Release.{Release}
-use Rattle.indoor_phases.specs.declared.phase.Phase.the-variants.{Done}
-use Rattle.indoor.specs.Response.{responseOf}
-use Rattle.indoor.specs.Time.{timeOf as indoorTimeOf}
-use Rattle.indoor.specs.History as sending
-use Rattle.indoor.specs.declared.session.Outcome.{Outcome as IndoorOutcome}
-use Rattle.indoor.proofs.Entering as entering
+use Rattle.receiver_state.specs.declared.phase.Accepted.{Accepted}
+use Rattle.receiver_state.specs.declared.phase.Phase.{Phase as ReceiverPhase}
+use Rattle.receiver_state.specs.declared.phase.Phase.the-variants.{Idle, Transfer, Await, Good}
+use Rattle.receiver_state.proofs.Truth.{IsGood}
+use Rattle.receiver_state.specs.declared.verdict.Verdict.{Verdict}
+use Rattle.receiver_rules.specs.Request.{requestOf}
+use Rattle.receiver_rules.specs.Time.{timeOf as receiverTimeOf}
+use Rattle.receiver_rules.specs.History as taking
+use Rattle.receiver_rules.proofs.Answers.{answers-28}
+use Rattle.receiver_rules.proofs.Laws.{settings-stay}
+use Rattle.receiver_rules.proofs.Stored.{image-length}
+use Rattle.receiver_rules.proofs.TimeLaws.{time-settings}
+use Rattle.receiver_rules.proofs.Fresh as receiverFresh
+use Rattle.receiver_rules.proofs.OfFile.{Carries, Closed, OfFile, request-of-file, time-of-file, good-of-file, behind-kept}
+use Rattle.receiver_rules.proofs.Truthful.{Succeeds, Truthful, request-truthful, request-stays-good, time-truthful, time-stays-good}
+use Rattle.indoor_state.specs.declared.plan.Release.{Release}
+use Rattle.indoor_state.specs.declared.phase.Phase.the-variants.{Done}
+use Rattle.indoor_rules.specs.Response.{responseOf}
+use Rattle.indoor_rules.specs.Time.{timeOf as indoorTimeOf}
+use Rattle.indoor_rules.specs.History as sending
+use Rattle.indoor_state.specs.declared.session.Outcome.{Outcome as IndoorOutcome}
+use Rattle.indoor_rules.proofs.Entering as entering
 use Rattle.indoor_rules.proofs.Ticks.{order}
-use Rattle.indoor.proofs.Fresh as indoorFresh
-use Rattle.indoor.proofs.Reached.{each-genuine}
-use Rattle.line.specs.Line.{World, Lent, asked, passed, told, Wide, Fresh, Reached, begins, toReceiver, toIndoor, atReceiver, atIndoor, Holds, MarkedGood}
+use Rattle.indoor_rules.proofs.Fresh as indoorFresh
+use Rattle.indoor_rules.proofs.Reached.{each-genuine}
+use Rattle.line.specs.Line.{World, Other, Lent, asked, passed, told, Wide, Fresh, Reached, begins, toReceiver, toIndoor, atReceiver, atIndoor, Holds, MarkedGood}
 use Rattle.line.proofs.Sent.{none-sent, sent-or-new}
 
 module _ (file memory : List ℕ) (release : Release) (identity : Identity) where
@@ -112,7 +112,7 @@ module _ (file memory : List ℕ) (release : Release) (identity : Identity) wher
         }
 
     -- A call that is lent another memory is refused, and nothing changes (28).
-    refused-safe : (request lent : List ℕ) (other : length lent ≡ length (w .image) → ⊥) (readiness : ℕ) (verdict : Verdict) (out : List ℕ)
+    refused-safe : (request lent : List ℕ) (other : Other (w .image) lent) (readiness : ℕ) (verdict : Verdict) (out : List ℕ)
         → Safe (asked w lent (inr other) (requestOf (w .receiver) lent request readiness verdict out))
     unfolding pick
     refused-safe request lent other readiness verdict out =

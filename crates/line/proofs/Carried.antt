@@ -17,34 +17,34 @@ use Rattle.wire.specs.declared.request.Parsed.the-variants as Asked
 use Rattle.wire.specs.declared.response.Response.{Response}
 use Rattle.wire.specs.declared.response.Parsed.the-variants as Told
 use Rattle.wire.specs.declared.response.Identity.{Identity}
-use Rattle.receiver_phases.specs.Answer.{replyOf}
-use Rattle.receiver_phases.specs.declared.answer.Answer.{Answer}
-use Rattle.receiver_phases.specs.declared.phase.Phase as receiver
-use Rattle.receiver_phases.specs.declared.phase.Phase.the-variants.{Good}
+use Rattle.receiver_state.specs.Answer.{replyOf}
+use Rattle.receiver_state.specs.declared.answer.Answer.{Answer}
+use Rattle.receiver_state.specs.declared.phase.Phase as receiver
+use Rattle.receiver_state.specs.declared.phase.Phase.the-variants.{Good}
 use Rattle.receiver_rules.specs.Range.{verdictOutside, outOfRange}
-use Rattle.receiver_rules.specs.Request.{decideOf}
-use Rattle.receiver_phases.specs.declared.verdict.Verdict.the-variants as Ver
-use Rattle.receiver_phases.specs.declared.step.Store.{Store}
-use Rattle.receiver_phases.specs.declared.step.Store.the-variants as Sto
-use Rattle.receiver_phases.specs.declared.step.Step.{Step}
-use Rattle.receiver.specs.Request.{Effect, imageOf, doneOf, requestOf}
-use Rattle.receiver.specs.Respond.{replyBytes, bytesOf}
-use Rattle.receiver.proofs.Answers.{answers-step}
-use Rattle.indoor_phases.specs.Phase.{stands, progress as sent}
-use Rattle.indoor_phases.specs.Answer.{sendsOf}
-use Rattle.indoor_phases.specs.Step.{step}
-use Rattle.indoor_phases.specs.declared.plan.Release.{Release}
-use Rattle.indoor_phases.specs.declared.phase.Stand.{Stand}
-use Rattle.indoor_phases.specs.declared.phase.Phase as indoor
-use Rattle.indoor_phases.specs.declared.answer.Answer as indoorAnswer
-use Rattle.indoor_rules.specs.Response as rules
-use Rattle.indoor.specs.Send.{sendsBytes}
-use Rattle.indoor.specs.Session.{doneOf as indoorDoneOf}
-use Rattle.indoor.specs.Response.{responseOf}
-use Rattle.indoor.specs.declared.session.Outcome.{Outcome as IndoorOutcome}
-use Rattle.indoor_phases.specs.declared.step.Step.{Step as IndoorStep}
-use Rattle.indoor.proofs.Answers.{response-step}
-use Rattle.indoor.proofs.Reached.{reach-holds}
+use Rattle.receiver_rules.specs.Decide.{decideOf}
+use Rattle.receiver_state.specs.declared.verdict.Verdict.the-variants as Ver
+use Rattle.receiver_state.specs.declared.step.Store.{Store}
+use Rattle.receiver_state.specs.declared.step.Store.the-variants as Sto
+use Rattle.receiver_state.specs.declared.step.Step.{Step}
+use Rattle.receiver_rules.specs.Request.{Effect, imageOf, doneOf, requestOf}
+use Rattle.receiver_rules.specs.Respond.{replyBytes, bytesOf}
+use Rattle.receiver_rules.proofs.Answers.{answers-step}
+use Rattle.indoor_state.specs.Phase.{stands, progress as sent}
+use Rattle.indoor_state.specs.Answer.{sendsOf}
+use Rattle.indoor_state.specs.Step.{step}
+use Rattle.indoor_state.specs.declared.plan.Release.{Release}
+use Rattle.indoor_state.specs.declared.phase.Stand.{Stand}
+use Rattle.indoor_state.specs.declared.phase.Phase as indoor
+use Rattle.indoor_state.specs.declared.answer.Answer as indoorAnswer
+use Rattle.indoor_rules.specs.Decide as rules
+use Rattle.indoor_rules.specs.Send.{sendsBytes}
+use Rattle.indoor_rules.specs.Session.{doneOf as indoorDoneOf}
+use Rattle.indoor_rules.specs.Response.{responseOf}
+use Rattle.indoor_state.specs.declared.session.Outcome.{Outcome as IndoorOutcome}
+use Rattle.indoor_state.specs.declared.step.Step.{Step as IndoorStep}
+use Rattle.indoor_rules.proofs.Answers.{response-step}
+use Rattle.indoor_rules.proofs.Reached.{reach-holds}
 use Rattle.line.specs.Line.{Line, Wide, up, down, carriedUp, carriedDown}
 use Rattle.line.proofs.Sent.{sent-length}
 use Rattle.line.proofs.AnyLine.{Safe}

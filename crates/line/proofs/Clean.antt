@@ -6,10 +6,10 @@ use mathlib.Core.List.{List, [], _∷_, List·Memᴰ, List·Memᴰ·head, List·
 use native.Mathlib.Omega.{arith}
 use lib.ListN.{replicate, length-replicate}
 use Rattle.wire.specs.declared.response.Identity.{Identity}
-use Rattle.receiver_phases.specs.declared.verdict.Verdict.the-variants as Ver
-use Rattle.receiver.specs.Request.{requestOf}
-use Rattle.indoor_phases.specs.declared.plan.Release.{Release}
-use Rattle.indoor.specs.Response.{responseOf}
+use Rattle.receiver_state.specs.declared.verdict.Verdict.the-variants as Ver
+use Rattle.receiver_rules.specs.Request.{requestOf}
+use Rattle.indoor_state.specs.declared.plan.Release.{Release}
+use Rattle.indoor_rules.specs.Response.{responseOf}
 use Rattle.line.specs.Line.{Line, AtRest, Reached, toReceiver, toIndoor, Next, up, down, Clean, delivers}
 use Rattle.line.specs.Line as l
 use Rattle.line.proofs.Sent.{none-sent, going-sent}

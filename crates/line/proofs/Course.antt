@@ -20,44 +20,44 @@ use Rattle.wire.specs.declared.response.Response.the-variants as Res
 use Rattle.wire.specs.declared.response.Parsed.the-variants as Told
 use Rattle.wire.specs.declared.response.Identity.{Identity}
 use Rattle.wire.proofs.RoundTrip.{response-back}
-use Rattle.receiver_phases.specs.Phase.{accepts, nothing}
-use Rattle.receiver_phases.specs.Answer.{replyOf}
-use Rattle.receiver_phases.specs.Answer as replies
-use Rattle.receiver_phases.specs.declared.answer.Answer.{Answer}
-use Rattle.receiver_phases.specs.declared.answer.Answer.the-variants.{Identified, Offered, Asking, Closed, Success, Aborted}
-use Rattle.receiver_phases.specs.declared.phase.Accepted.{Accepted}
-use Rattle.receiver_phases.specs.declared.phase.Progress.{Progress}
-use Rattle.receiver_phases.specs.declared.phase.Phase as receiver
-use Rattle.receiver_phases.specs.declared.phase.Phase.the-variants.{Idle, Transfer, Await, Good}
-use Rattle.receiver_rules.specs.Request.{to, progress}
-use Rattle.receiver_phases.specs.declared.verdict.Verdict.the-variants as Ver
-use Rattle.receiver_phases.specs.declared.step.Store.the-variants as Sto
-use Rattle.receiver_phases.specs.declared.step.Step.{Step}
-use Rattle.receiver_rules.proofs.Rows as rows
-use Rattle.receiver_rules.proofs.Orders as orders
-use Rattle.receiver.specs.Respond.{replyBytes}
-use Rattle.receiver.proofs.Fresh as receiverFresh
-use Rattle.receiver.proofs.Reached.{reached-capacity}
-use Rattle.indoor_phases.specs.Phase.{progress as sent}
-use Rattle.indoor_phases.specs.Step.{emptiedBy}
-use Rattle.indoor_phases.proofs.Steps.{emptied-last}
-use Rattle.indoor_phases.specs.declared.plan.Release.{Release}
-use Rattle.indoor_phases.specs.declared.phase.Reason.the-variants as Why
-use Rattle.indoor_phases.specs.declared.phase.Progress as sending
-use Rattle.indoor_phases.specs.declared.phase.Phase as indoor
-use Rattle.indoor_phases.specs.declared.phase.Phase.the-variants as In
-use Rattle.indoor_phases.specs.declared.answer.Answer as indoorAnswer
-use Rattle.indoor_phases.specs.declared.answer.Answer.the-variants as Ans
+use Rattle.receiver_state.specs.Phase.{accepts, nothing}
+use Rattle.receiver_state.specs.Answer.{replyOf}
+use Rattle.receiver_state.specs.Answer as replies
+use Rattle.receiver_state.specs.declared.answer.Answer.{Answer}
+use Rattle.receiver_state.specs.declared.answer.Answer.the-variants.{Identified, Offered, Asking, Closed, Success, Aborted}
+use Rattle.receiver_state.specs.declared.phase.Accepted.{Accepted}
+use Rattle.receiver_state.specs.declared.phase.Progress.{Progress}
+use Rattle.receiver_state.specs.declared.phase.Phase as receiver
+use Rattle.receiver_state.specs.declared.phase.Phase.the-variants.{Idle, Transfer, Await, Good}
+use Rattle.receiver_rules.specs.Decide.{to, progress}
+use Rattle.receiver_state.specs.declared.verdict.Verdict.the-variants as Ver
+use Rattle.receiver_state.specs.declared.step.Store.the-variants as Sto
+use Rattle.receiver_state.specs.declared.step.Step.{Step}
+use Rattle.receiver_rules.proofs.ByPhase as rows
+use Rattle.receiver_rules.proofs.DataOrders as orders
+use Rattle.receiver_rules.specs.Respond.{replyBytes}
+use Rattle.receiver_rules.proofs.Fresh as receiverFresh
+use Rattle.receiver_rules.proofs.Reached.{reached-capacity}
+use Rattle.indoor_state.specs.Phase.{progress as sent}
+use Rattle.indoor_rules.specs.Step.{emptiedBy}
+use Rattle.indoor_rules.proofs.Accepted.{emptied-last}
+use Rattle.indoor_state.specs.declared.plan.Release.{Release}
+use Rattle.indoor_state.specs.declared.phase.Reason.the-variants as Why
+use Rattle.indoor_state.specs.declared.phase.Progress as sending
+use Rattle.indoor_state.specs.declared.phase.Phase as indoor
+use Rattle.indoor_state.specs.declared.phase.Phase.the-variants as In
+use Rattle.indoor_state.specs.declared.answer.Answer as indoorAnswer
+use Rattle.indoor_state.specs.declared.answer.Answer.the-variants as Ans
 use Rattle.indoor_rules.specs.Newer.{newerOf}
 use Rattle.indoor_rules.proofs.Compared.{Newer, newer-only, newer-yes}
 use Rattle.indoor_rules.proofs.Orders as told
-use Rattle.indoor.specs.Send.{blockBytes, sendsBytes}
-use Rattle.indoor.specs.Response.{responseOf}
-use Rattle.indoor.specs.declared.session.Indoor.{Indoor}
-use Rattle.indoor.proofs.Fresh as indoorFresh
-use Rattle.indoor.proofs.Genuine.{whole-read, block-read}
-use Rattle.indoor.proofs.Holds.{Holds}
-use Rattle.indoor.proofs.Reached.{reach-holds}
+use Rattle.indoor_rules.specs.Send.{blockBytes, sendsBytes}
+use Rattle.indoor_rules.specs.Response.{responseOf}
+use Rattle.indoor_state.specs.declared.session.Indoor.{Indoor}
+use Rattle.indoor_rules.proofs.Fresh as indoorFresh
+use Rattle.indoor_rules.proofs.Genuine.{whole-read, block-read}
+use Rattle.indoor_rules.proofs.Holds.{Holds}
+use Rattle.indoor_rules.proofs.Reached.{reach-holds}
 use Rattle.line.specs.Line.{World, Line, line, Wide, Fresh, up, down, Clean, delivers, carriedUp, carriedDown}
 use Rattle.line.specs.Line as clean
 use Rattle.line.proofs.AnyLine.{Safe, reached-safe}

@@ -5,10 +5,11 @@ use mathlib.Core.List.{List, [], _∷_, _++_}
 use native.Mathlib.Omega.{arith}
 use lib.ListN.{length, take, drop, replicate, length-replicate}
 use Rattle.silence.specs.Within.{Within}
+use Rattle.wire.specs.Codes.{imageSizeMost}
 use Rattle.wire.specs.declared.response.Identity.{Identity}
-use Rattle.receiver.proofs.SessionLaws as receiver
-use Rattle.indoor_phases.specs.declared.plan.Release.{Release}
-use Rattle.indoor.proofs.Beginning as indoor
+use Rattle.receiver_rules.proofs.Beginning as receiver
+use Rattle.indoor_state.specs.declared.plan.Release.{Release}
+use Rattle.indoor_rules.proofs.Beginning as indoor
 use Rattle.line.specs.Line.{World, Wide, Fresh, Promised, Demand3}
 use Rattle.line.proofs.AnyLine.{never-wrong, done-is-good}
 use Rattle.line.proofs.Clean.{clean-going, goes-on}
@@ -16,7 +17,7 @@ use Rattle.line.proofs.Ends.{comes-to-rest, rests-done}
 
 module _ (file memory : List ℕ) (release : Release) (identity : Identity) where
   -- Both ends are made with these settings.
-  both-made : (limit resends limit′ resends′ : ℕ) → Within limit resends → Within limit′ resends′ → 1 ≤ length file → length file ≤ 1048575 → length memory ≤ 1048575
+  both-made : (limit resends limit′ resends′ : ℕ) → Within limit resends → Within limit′ resends′ → 1 ≤ length file → length file ≤ imageSizeMost → length memory ≤ imageSizeMost
       → (w : World) × Fresh file memory release identity limit resends limit′ resends′ w
   both-made limit resends limit′ resends′ within within′ some most room =
       let long = length-replicate {A = ℕ} 260 0 in

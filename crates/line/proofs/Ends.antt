@@ -7,12 +7,12 @@ use native.Mathlib.Omega.{arith}
 use lib.ListN.{length}
 use Rattle.image.specs.Blocks.{blocksOf}
 use Rattle.wire.specs.declared.response.Identity.{Identity}
-use Rattle.indoor_phases.specs.declared.plan.Release.{Release}
-use Rattle.indoor_phases.specs.declared.phase.Reason.the-variants.{NotNewer, TooLarge}
-use Rattle.indoor_phases.specs.declared.phase.Phase.{Phase}
-use Rattle.indoor_phases.specs.declared.phase.Phase.the-variants.{Done, Failed}
+use Rattle.indoor_state.specs.declared.plan.Release.{Release}
+use Rattle.indoor_state.specs.declared.phase.Reason.the-variants.{NotNewer, TooLarge}
+use Rattle.indoor_state.specs.declared.phase.Phase.{Phase}
+use Rattle.indoor_state.specs.declared.phase.Phase.the-variants.{Done, Failed}
 use Rattle.indoor_rules.specs.Newer.{newerOf}
-use Rattle.indoor.proofs.Reached.{length-within}
+use Rattle.indoor_rules.proofs.Reached.{length-within}
 use Rattle.line.specs.Line.{Line, AtRest, Wide, Clean}
 use Rattle.line.proofs.Course.{no-message, Course, asking, identified, notNewer, initiating, offered, tooLarge, aborted, block, receipt, closing, validating, succeeded, finished, safe, on-course}
 

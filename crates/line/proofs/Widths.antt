@@ -8,8 +8,8 @@ use Rattle.wire.specs.declared.request.Versions.{Versions}
 use Rattle.wire.specs.declared.response.Identity.{Identity}
 use Rattle.wire.proofs.request.Versions as versions
 use Rattle.wire.proofs.response.Identity as identities
-use Rattle.indoor_phases.specs.declared.plan.Release.{Release}
-use Rattle.indoor_phases.proofs.plan.Release as releases
+use Rattle.indoor_state.specs.declared.plan.Release.{Release}
+use Rattle.indoor_state.proofs.plan.Release as releases
 use Rattle.line.specs.Line.{Wide}
 
 versions-wide : (v : Versions) (vs : List Val) → Is (row versions.the-type) v vs → Words v

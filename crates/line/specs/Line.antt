@@ -10,28 +10,28 @@ use Rattle.basis.specs.Left.{Left, left}
 use Rattle.lent.specs.Sent.{withSent}
 use Rattle.silence.specs.Within.{Within}
 use Rattle.image.specs.Blocks.{blocksOf}
-use Rattle.wire.specs.Codes.{longest}
+use Rattle.wire.specs.Codes.{longest, imageSizeMost}
 use Rattle.wire.specs.Fields.{Words}
 use Rattle.wire.specs.declared.response.Identity.{Identity}
-use Rattle.receiver_phases.specs.declared.phase.Accepted.{Accepted}
-use Rattle.receiver_phases.specs.declared.phase.Phase.the-variants.{Good}
-use Rattle.receiver_phases.specs.declared.verdict.Verdict.{Verdict}
-use Rattle.receiver_phases.specs.declared.verdict.Verdict.the-variants as Ver
-use Rattle.receiver.specs.Session.{startOf as receiverStartOf}
-use Rattle.receiver.specs.Request.{Effect, requestOf}
-use Rattle.receiver.specs.Time.{timeOf as receiverTimeOf}
-use Rattle.receiver.specs.declared.session.Receiver.{Receiver}
-use Rattle.receiver.specs.declared.session.Outcome.{Outcome as ReceiverOutcome}
-use Rattle.receiver.specs.declared.session.Started.the-variants as ReceiverStarted
-use Rattle.indoor_phases.specs.declared.plan.Release.{Release}
-use Rattle.indoor_phases.specs.declared.phase.Phase.the-variants.{Done}
+use Rattle.receiver_state.specs.declared.phase.Accepted.{Accepted}
+use Rattle.receiver_state.specs.declared.phase.Phase.the-variants.{Good}
+use Rattle.receiver_state.specs.declared.verdict.Verdict.{Verdict}
+use Rattle.receiver_state.specs.declared.verdict.Verdict.the-variants as Ver
+use Rattle.receiver_rules.specs.Session.{startOf as receiverStartOf}
+use Rattle.receiver_rules.specs.Request.{Effect, requestOf}
+use Rattle.receiver_rules.specs.Time.{timeOf as receiverTimeOf}
+use Rattle.receiver_state.specs.declared.session.Receiver.{Receiver}
+use Rattle.receiver_state.specs.declared.session.Outcome.{Outcome as ReceiverOutcome}
+use Rattle.receiver_state.specs.declared.session.Started.the-variants as ReceiverStarted
+use Rattle.indoor_state.specs.declared.plan.Release.{Release}
+use Rattle.indoor_state.specs.declared.phase.Phase.the-variants.{Done}
 use Rattle.indoor_rules.specs.Newer.{newerOf}
-use Rattle.indoor.specs.Start.{startOf as indoorStartOf}
-use Rattle.indoor.specs.Response.{responseOf}
-use Rattle.indoor.specs.Time.{timeOf as indoorTimeOf}
-use Rattle.indoor.specs.declared.session.Indoor.{Indoor}
-use Rattle.indoor.specs.declared.session.Outcome.{Outcome as IndoorOutcome}
-use Rattle.indoor.specs.declared.session.Started.the-variants as IndoorStarted
+use Rattle.indoor_rules.specs.Start.{startOf as indoorStartOf}
+use Rattle.indoor_rules.specs.Response.{responseOf}
+use Rattle.indoor_rules.specs.Time.{timeOf as indoorTimeOf}
+use Rattle.indoor_state.specs.declared.session.Indoor.{Indoor}
+use Rattle.indoor_state.specs.declared.session.Outcome.{Outcome as IndoorOutcome}
+use Rattle.indoor_state.specs.declared.session.Started.the-variants as IndoorStarted
 
 -- Both ends, the image memory, and every request and every response that was ever sent, as bytes, the newest first.
 pub record World : Type 0 where
@@ -41,9 +41,13 @@ pub record World : Type 0 where
   pub requests : List (List ℕ)
   pub responses : List (List ℕ)
 
--- What a call is lent: the memory itself, or one of another length, which the call refuses (28).
+-- Memory of another length, which a call refuses (28).
+abbrev pub Other : List ℕ → List ℕ → Type 0
+Other own lent = length lent ≡ length own → ⊥
+
+-- What a call is lent: the memory itself, or such a one.
 abbrev pub Lent : List ℕ → List ℕ → Type 0
-Lent own lent = (lent ≡ own) ⊎ (length lent ≡ length own → ⊥)
+Lent own lent = (lent ≡ own) ⊎ Other own lent
 
 -- The memory itself after a call that left `lent′` in what it was lent.
 abbrev pub ownAfter : (own lent lent′ : List ℕ) → Lent own lent → List ℕ
@@ -175,7 +179,7 @@ module _ (file memory : List ℕ) (release : Release) (identity : Identity) wher
     -- A clean line is one of the lines above. It begins with every file, memory and settings within the limits.
     pub cleanReached : (k : ℕ) (l : Line) → Clean k l → Reached (l .world)
     pub cleanBegins : (limit resends limit′ resends′ : ℕ) → Within limit resends → Within limit′ resends′
-        → 1 ≤ length file → length file ≤ 1048575 → length memory ≤ 1048575
+        → 1 ≤ length file → length file ≤ imageSizeMost → length memory ≤ imageSizeMost
         → (w : World) × Fresh limit resends limit′ resends′ w
     -- It comes to rest: where a message is on its way it goes on, and after 2 × (n + 4) deliveries there is none.
     pub cleanGoesOn : (k : ℕ) (l : Line) → Clean k l → AtRest l ⊎ ((then : Line) × Next l then)

@@ -14,8 +14,8 @@ use Rattle.mailbox_state.specs.declared.stand.Stand.{Stand}
 use Rattle.mailbox_rules.specs.Change.{changeOf}
 use Rattle.mailbox_rules.specs.Report.{failOf}
 use Rattle.mailbox_rules.proofs.Noted.{change-alters}
-use Rattle.mailbox.specs.Mailbox.{zeros, keptOf as stays, clearedOf, settledOf}
-use Rattle.mailbox.specs.declared.state.Outcome.{Outcome}
+use Rattle.mailbox_rules.specs.Mailbox.{zeros, keptOf as stays, clearedOf, settledOf}
+use Rattle.mailbox_state.specs.declared.state.Outcome.{Outcome}
 use Rattle.mailbox_flat.specs.Flat.{unpackOf, isMailbox}
 use Rattle.mailbox_flat.specs.declared.flat.FlatMailbox.{FlatMailbox}
 use Rattle.mailbox_flat.proofs.Inverse.{pack-unpack}

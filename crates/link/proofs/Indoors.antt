@@ -16,18 +16,18 @@ use Rattle.silence.specs.declared.Settings as silence
 use Rattle.silence.specs.declared.Checked.{Checked}
 use Rattle.silence.specs.declared.Checked.the-variants as Che
 use Rattle.silence.proofs.Laws.{made-within, within-made}
-use Rattle.indoor_phases.specs.declared.plan.Release.{Release}
-use Rattle.wire.specs.Codes.{longest}
-use Rattle.indoor_phases.specs.Answer.{numberOf}
-use Rattle.indoor.specs.Session as session
-use Rattle.indoor.specs.Start as start
-use Rattle.indoor.specs.Response as inner
-use Rattle.indoor.specs.Time as time
-use Rattle.indoor.specs.declared.session.Indoor.{Indoor}
-use Rattle.indoor.specs.declared.session.Outcome.{Outcome}
-use Rattle.indoor.specs.declared.session.Started.{Started}
-use Rattle.indoor.specs.declared.session.Started.the-variants.{Made, Settings, FileSize, BufferShort}
-use Rattle.indoor.proofs.Laws.{plan-stays, time-plan-stays}
+use Rattle.indoor_state.specs.declared.plan.Release.{Release}
+use Rattle.wire.specs.Codes.{longest, imageSizeMost}
+use Rattle.indoor_state.specs.Answer.{numberOf}
+use Rattle.indoor_state.specs.Session as starting
+use Rattle.indoor_rules.specs.Start as start
+use Rattle.indoor_rules.specs.Response as inner
+use Rattle.indoor_rules.specs.Time as time
+use Rattle.indoor_state.specs.declared.session.Indoor.{Indoor}
+use Rattle.indoor_state.specs.declared.session.Outcome.{Outcome}
+use Rattle.indoor_state.specs.declared.session.Started.{Started}
+use Rattle.indoor_state.specs.declared.session.Started.the-variants.{Made, Settings, FileSize, BufferShort}
+use Rattle.indoor_rules.proofs.Laws.{plan-stays, time-plan-stays}
 use Rattle.indoor_flat.specs.Flat.{packOf, unpackOf, isSession, none}
 use Rattle.indoor_flat.specs.declared.flat.FlatIndoor.{FlatIndoor}
 use Rattle.indoor_flat.proofs.Sessions.{session-whole}
@@ -47,18 +47,18 @@ within-own limit resends settings e =
 
 -- What a start leaves where it is taken.
 abbrev Begun : Left Started → Type 0
-Begun x = session.numberOf (x .answer) ≡ 0 → isSession (begunOf (x .answer) (session.numberOf (x .answer)) .state) ≡ true
+Begun x = starting.numberOf (x .answer) ≡ 0 → isSession (begunOf (x .answer) (starting.numberOf (x .answer)) .state) ≡ true
 
 module _ (release : Release) (file out : List ℕ) where
   begins : (settings : silence.Settings) → Within (settings .limit) (settings .resends) → Begun (start.beginOf settings release file out)
   unfolding start.beginOf begunOf
   begins settings within =
       pick-all Begun (eqb (length file) 0) _ _ (λ _ e. absurd (omega arith))
-      (λ some. pick-all Begun (ltb start.lengthMost (length file)) _ _ (λ _ e. absurd (omega arith))
+      (λ some. pick-all Begun (ltb imageSizeMost (length file)) _ _ (λ _ e. absurd (omega arith))
       (λ most. pick-all Begun (ltb (length out) longest) _ _ (λ _ e. absurd (omega arith))
       (λ _ _.
       let not = eqb-false (length file) 0 some in
-      let few = ltb-false start.lengthMost (length file) most in
+      let few = ltb-false imageSizeMost (length file) most in
       pack-session _ within (omega (arith, not)) few)))
 
   checked-begins : (limit resends : ℕ) (x : Checked) → silent.settingsOf limit resends ≡ x → Begun (start.startedOf x release file out)
@@ -78,7 +78,7 @@ pub start-session : (settings : silence.Settings) (release : Release) (file out 
 start-session settings release file out e =
     let x = start.startOf (settings .limit) (settings .resends) release file out .answer in
     checked-begins release file out (settings .limit) (settings .resends) (silent.settingsOf (settings .limit) (settings .resends)) refl
-    (sym (begun-number x (session.numberOf x)) ∙ e)
+    (sym (begun-number x (starting.numberOf x)) ∙ e)
 
 -- A start that is taken hands out the numbers of its session; a refused one hands out none, its number, and the buffer as it was.
 module _ (settings : silence.Settings) (release : Release) (file out : List ℕ) where

@@ -2,12 +2,12 @@
 use Prim.Native.Nat.{ℕ}
 use mathlib.Core.Path.{_≡_}
 use mathlib.Core.List.{List}
-use Rattle.receiver_phases.specs.declared.verdict.Verdict.{Verdict}
-use Rattle.receiver.specs.Request as inner
-use Rattle.receiver.specs.Time as time
-use Rattle.receiver.specs.declared.session.Receiver.{Receiver}
-use Rattle.receiver.proofs.Laws.{settings-stay}
-use Rattle.receiver.proofs.TimeLaws.{time-settings}
+use Rattle.receiver_state.specs.declared.verdict.Verdict.{Verdict}
+use Rattle.receiver_rules.specs.Request as inner
+use Rattle.receiver_rules.specs.Time as time
+use Rattle.receiver_state.specs.declared.session.Receiver.{Receiver}
+use Rattle.receiver_rules.proofs.Laws.{settings-stay}
+use Rattle.receiver_rules.proofs.TimeLaws.{time-settings}
 use Rattle.receiver_flat.specs.Flat.{unpackOf}
 use Rattle.receiver_flat.specs.declared.flat.FlatReceiver.{FlatReceiver}
 use Rattle.link.specs.Receiver.{Kept}

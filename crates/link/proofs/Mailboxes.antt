@@ -11,12 +11,12 @@ use Rattle.mailbox_state.specs.Connectors as connectors
 use Rattle.mailbox_state.specs.declared.connectors.Connectors.{Connectors}
 use Rattle.mailbox_state.specs.declared.connectors.Counted.{Counted}
 use Rattle.mailbox_state.specs.declared.connectors.Counted.the-variants.{Made, Refused}
-use Rattle.mailbox.specs.Mailbox as inner
-use Rattle.mailbox.specs.Events as events
-use Rattle.mailbox.specs.History as history
-use Rattle.mailbox.specs.declared.state.Mailbox.{Mailbox}
-use Rattle.mailbox.specs.declared.state.Outcome.{Outcome}
-use Rattle.mailbox.proofs.Reached.{holds}
+use Rattle.mailbox_rules.specs.Mailbox as inner
+use Rattle.mailbox_rules.specs.Events as events
+use Rattle.mailbox_rules.specs.History as history
+use Rattle.mailbox_state.specs.declared.state.Mailbox.{Mailbox}
+use Rattle.mailbox_state.specs.declared.state.Outcome.{Outcome}
+use Rattle.mailbox_rules.proofs.Reached.{holds}
 use Rattle.mailbox_flat.specs.Flat.{packOf, unpackOf, isMailbox, none}
 use Rattle.mailbox_flat.specs.declared.flat.FlatMailbox.{FlatMailbox}
 use Rattle.mailbox_flat.proofs.Mailboxes.{counted-within, within-made}

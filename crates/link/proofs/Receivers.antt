@@ -8,19 +8,20 @@ use Rattle.basis.specs.Pick.{pick-yes, pick-no}
 use Rattle.basis.specs.Left.{Left, left}
 use Rattle.silence.specs.Within.{Within}
 use Rattle.silence.specs.declared.Settings.{Settings}
+use Rattle.wire.specs.Codes.{imageSizeMost}
 use Rattle.wire.specs.declared.response.Identity.{Identity}
-use Rattle.receiver_phases.specs.Answer.{numberOf}
-use Rattle.receiver.specs.Session as session
-use Rattle.receiver.specs.Request as inner
-use Rattle.receiver.specs.Time as time
-use Rattle.receiver.specs.Sum as sum
-use Rattle.receiver.specs.declared.session.Receiver.{Receiver}
-use Rattle.receiver.specs.declared.session.Started.the-variants.{Refused}
-use Rattle.receiver.specs.declared.session.Outcome.{Outcome}
-use Rattle.receiver.specs.declared.sum.Summed.the-variants.{Sum, ImageLength}
-use Rattle.receiver.proofs.Laws.{settings-stay}
-use Rattle.receiver.proofs.TimeLaws.{time-settings}
-use Rattle.receiver.proofs.SessionLaws.{fresh, start-made}
+use Rattle.receiver_state.specs.Answer.{numberOf}
+use Rattle.receiver_rules.specs.Session as session
+use Rattle.receiver_rules.specs.Request as inner
+use Rattle.receiver_rules.specs.Time as time
+use Rattle.receiver_rules.specs.Sum as sum
+use Rattle.receiver_state.specs.declared.session.Receiver.{Receiver}
+use Rattle.receiver_state.specs.declared.session.Started.the-variants.{Refused}
+use Rattle.receiver_state.specs.declared.session.Outcome.{Outcome}
+use Rattle.receiver_state.specs.declared.sum.Summed.the-variants.{Sum, ImageLength}
+use Rattle.receiver_rules.proofs.Laws.{settings-stay}
+use Rattle.receiver_rules.proofs.TimeLaws.{time-settings}
+use Rattle.receiver_rules.proofs.Beginning.{fresh, start-made}
 use Rattle.receiver_flat.specs.Flat.{packOf, unpackOf, isSession, none}
 use Rattle.receiver_flat.specs.Verdict.{verdictOf}
 use Rattle.receiver_flat.specs.declared.flat.FlatReceiver.{FlatReceiver}
@@ -31,7 +32,7 @@ use Rattle.link.specs.Handed.{HandedReceiver, starts, asks, passes}
 
 module _ (settings : Settings) (identity : Identity) (capacity : ℕ) where
   -- A start that is taken hands out the numbers of the fresh session.
-  pub start-taken : Within (settings .limit) (settings .resends) → capacity ≤ 1048575
+  pub start-taken : Within (settings .limit) (settings .resends) → capacity ≤ imageSizeMost
       → startOf settings identity capacity ≡ answers (packOf (fresh (settings .limit) (settings .resends) identity capacity)) 0 0
   unfolding madeOf
   start-taken within room = rw (start-made (settings .limit) (settings .resends) identity capacity within room)

@@ -6,7 +6,7 @@ use Rattle.basis.specs.Only.{only}
 use Rattle.basis.specs.Left.{left}
 use Rattle.silence.specs.declared.Settings.{Settings}
 use Rattle.wire.specs.declared.response.Identity.{Identity}
-use Rattle.indoor_phases.specs.declared.plan.Release.{Release}
+use Rattle.indoor_state.specs.declared.plan.Release.{Release}
 use Rattle.receiver_flat.specs.declared.flat.FlatReceiver.{FlatReceiver}
 use Rattle.indoor_flat.specs.declared.flat.FlatIndoor.{FlatIndoor}
 use Rattle.mailbox_flat.specs.declared.flat.FlatMailbox.{FlatMailbox}

@@ -4,7 +4,7 @@ use mathlib.Core.Path.{_≡_}
 use mathlib.Core.List.{List}
 use Rattle.silence.specs.declared.Settings.{Settings}
 use Rattle.wire.specs.declared.response.Identity.{Identity}
-use Rattle.indoor_phases.specs.declared.plan.Release.{Release}
+use Rattle.indoor_state.specs.declared.plan.Release.{Release}
 use Rattle.receiver_flat.specs.declared.flat.FlatReceiver.{FlatReceiver}
 use Rattle.indoor_flat.specs.declared.flat.FlatIndoor.{FlatIndoor}
 use Rattle.mailbox_flat.specs.declared.flat.FlatMailbox.{FlatMailbox}

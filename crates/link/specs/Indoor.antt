@@ -5,16 +5,16 @@ use mathlib.Core.List.{List}
 use Rattle.basis.specs.Pick.{pick}
 use Rattle.basis.specs.Left.{Left, left}
 use Rattle.silence.specs.declared.Settings as silence
-use Rattle.indoor_phases.specs.Answer.{numberOf}
-use Rattle.indoor_phases.specs.declared.plan.Release.{Release}
-use Rattle.indoor.specs.Session as session
-use Rattle.indoor.specs.Start as start
-use Rattle.indoor.specs.Response as response
-use Rattle.indoor.specs.Time as time
-use Rattle.indoor.specs.declared.session.Indoor.{Indoor}
-use Rattle.indoor.specs.declared.session.Started.{Started}
-use Rattle.indoor.specs.declared.session.Started.the-variants.{Made, Settings, FileSize, BufferShort}
-use Rattle.indoor.specs.declared.session.Outcome.{Outcome}
+use Rattle.indoor_state.specs.Answer.{numberOf}
+use Rattle.indoor_state.specs.declared.plan.Release.{Release}
+use Rattle.indoor_state.specs.Session as starting
+use Rattle.indoor_rules.specs.Start as start
+use Rattle.indoor_rules.specs.Response as response
+use Rattle.indoor_rules.specs.Time as time
+use Rattle.indoor_state.specs.declared.session.Indoor.{Indoor}
+use Rattle.indoor_state.specs.declared.session.Started.{Started}
+use Rattle.indoor_state.specs.declared.session.Started.the-variants.{Made, Settings, FileSize, BufferShort}
+use Rattle.indoor_state.specs.declared.session.Outcome.{Outcome}
 use Rattle.indoor_flat.specs.Flat.{packOf, unpackOf, isSession, none}
 use Rattle.indoor_flat.specs.declared.flat.FlatIndoor.{FlatIndoor}
 use Rattle.link.specs.declared.indoor_calls.IndoorOutcome.{IndoorOutcome}
@@ -40,7 +40,7 @@ begunOf FileSize number = answers none 0 number
 begunOf BufferShort number = answers none 0 number
 
 abbrev pub startedOf : Left Started → Left IndoorOutcome
-startedOf x = left (begunOf (x .answer) (session.numberOf (x .answer))) (x .memory)
+startedOf x = left (begunOf (x .answer) (starting.numberOf (x .answer))) (x .memory)
 
 abbrev pub startOf : silence.Settings → Release → List ℕ → List ℕ → Left IndoorOutcome
 startOf settings release file out = startedOf (start.startOf (settings .limit) (settings .resends) release file out)

@@ -12,9 +12,9 @@ use Rattle.mailbox_state.specs.declared.connectors.Counted.the-variants.{Made, 
 use Rattle.mailbox_state.specs.declared.step.Clears.{Clears}
 use Rattle.mailbox_state.specs.declared.step.Clears.the-variants.{Nothing, Reset, Cancel, NoData}
 use Rattle.mailbox_state.specs.declared.step.Step.{Step}
-use Rattle.mailbox.specs.Mailbox as mailbox
-use Rattle.mailbox.specs.Events as events
-use Rattle.mailbox.specs.declared.state.Outcome.{Outcome}
+use Rattle.mailbox_rules.specs.Mailbox as mailbox
+use Rattle.mailbox_rules.specs.Events as events
+use Rattle.mailbox_state.specs.declared.state.Outcome.{Outcome}
 use Rattle.mailbox_flat.specs.Flat.{packOf, unpackOf, isMailbox, none}
 use Rattle.mailbox_flat.specs.declared.flat.FlatMailbox.{FlatMailbox}
 use Rattle.link.specs.declared.mailbox_calls.MailboxOutcome.{MailboxOutcome}

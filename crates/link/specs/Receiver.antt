@@ -7,17 +7,19 @@ use Rattle.basis.specs.Pick.{pick}
 use Rattle.basis.specs.Left.{Left, left}
 use Rattle.silence.specs.declared.Settings.{Settings}
 use Rattle.wire.specs.declared.response.Identity.{Identity}
-use Rattle.receiver_phases.specs.Answer.{numberOf}
-use Rattle.receiver.specs.Session as session
-use Rattle.receiver.specs.Request as request
-use Rattle.receiver.specs.Time as time
-use Rattle.receiver.specs.Sum as sum
-use Rattle.receiver.specs.declared.session.Receiver.{Receiver}
-use Rattle.receiver.specs.declared.session.Started.{Started}
-use Rattle.receiver.specs.declared.session.Started.the-variants.{Made, Refused}
-use Rattle.receiver.specs.declared.session.Outcome.{Outcome}
-use Rattle.receiver.specs.declared.sum.Summed.{Summed}
-use Rattle.receiver.specs.declared.sum.Summed.the-variants.{Sum, ImageLength}
+use Rattle.receiver_state.specs.Answer.{numberOf}
+use Rattle.receiver_rules.specs.Session as session
+use Rattle.receiver_state.specs.Session as starting
+use Rattle.receiver_rules.specs.Request as request
+use Rattle.receiver_rules.specs.Time as time
+use Rattle.receiver_rules.specs.Sum as sum
+use Rattle.receiver_state.specs.Sum as summing
+use Rattle.receiver_state.specs.declared.session.Receiver.{Receiver}
+use Rattle.receiver_state.specs.declared.session.Started.{Started}
+use Rattle.receiver_state.specs.declared.session.Started.the-variants.{Made, Refused}
+use Rattle.receiver_state.specs.declared.session.Outcome.{Outcome}
+use Rattle.receiver_state.specs.declared.sum.Summed.{Summed}
+use Rattle.receiver_state.specs.declared.sum.Summed.the-variants.{Sum, ImageLength}
 use Rattle.receiver_flat.specs.Flat.{packOf, unpackOf, isSession, none}
 use Rattle.receiver_flat.specs.Verdict.{verdictOf}
 use Rattle.receiver_flat.specs.declared.flat.FlatReceiver.{FlatReceiver}
@@ -47,7 +49,7 @@ madeOf (Made r) = packOf r
 madeOf Refused = none
 
 abbrev pub begunOf : Started → ReceiverOutcome
-begunOf started = answers (madeOf started) 0 (session.numberOf started)
+begunOf started = answers (madeOf started) 0 (starting.numberOf started)
 
 abbrev pub startOf : Settings → Identity → ℕ → ReceiverOutcome
 startOf settings identity capacity = begunOf (session.startOf (settings .limit) (settings .resends) identity capacity)
@@ -81,7 +83,7 @@ valueOf (Sum s) = s
 valueOf ImageLength = 0
 
 abbrev pub summedOf : Summed → ImageSum
-summedOf s = sums (valueOf s) (sum.numberOf s)
+summedOf s = sums (valueOf s) (summing.numberOf s)
 
 unfoldable pub sumOf : FlatReceiver → List ℕ → ImageSum
 sumOf f image = pick (isSession f) (summedOf (sum.sumOf (unpackOf f) image)) (sums 0 29)

@@ -1,10 +1,10 @@
 // The indoor end's calls for C: each is the session's own, on the state that the numbers say.
 use crate::NO_SUCH_STATE;
-use indoor::Indoor;
-use indoor::Outcome;
-use indoor::Started;
 use indoor_flat::FlatIndoor;
-use indoor_phases::plan::Release;
+use indoor_state::plan::Release;
+use indoor_state::session::Indoor;
+use indoor_state::session::Outcome;
+use indoor_state::session::Started;
 use silence::Settings;
 ghost use mathlib.Core.Path.{_≡_};
 ghost use Rattle.basis.specs.Left.{left};
@@ -24,7 +24,7 @@ fn flat(outcome: Outcome) -> IndoorOutcome
     let session = outcome.state;
     let answer = outcome.answer;
     let state = FlatIndoor::pack(session);
-    let number = answer.number();
+    let number = indoor_decide::answer_number(answer);
     IndoorOutcome {
         state,
         written: outcome.written,
@@ -51,8 +51,8 @@ pub extern "C" fn harsolvek_indoor_start(
 ) -> IndoorOutcome
     ensures { λ r. ⌜ left r (now (out .exit)) ≡ startOf settings release (now (file .entry)) (now (out .entry)) ⌝ }
 {
-    let started = Indoor::start(settings.limit, settings.resends, release, file, out);
-    let number = started.number();
+    let started = indoor::start(settings.limit, settings.resends, release, file, out);
+    let number = indoor::started_number(started);
     begun(started, number)
 }
 
@@ -100,7 +100,7 @@ pub extern "C" fn harsolvek_indoor_response(
 {
     if state.is_session() {
         let session = state.unpack();
-        let outcome = session.response(file, response, out);
+        let outcome = indoor::response(session, file, response, out);
         return flat(outcome);
     }
     no_session(state)
@@ -117,7 +117,7 @@ pub extern "C" fn harsolvek_indoor_time(
 {
     if state.is_session() {
         let session = state.unpack();
-        let outcome = session.time(file, elapsed, out);
+        let outcome = indoor::time(session, file, elapsed, out);
         return flat(outcome);
     }
     no_session(state)

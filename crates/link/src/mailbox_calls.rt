@@ -1,11 +1,11 @@
 // The mailbox's calls for C: each is the mailbox's own, on the state that the numbers say. A refused write or report hands the state back
 // as it came.
 use crate::NO_SUCH_STATE;
-use mailbox::Mailbox;
-use mailbox::Outcome;
 use mailbox_flat::FlatMailbox;
 use mailbox_state::connectors::Connectors;
 use mailbox_state::connectors::Counted;
+use mailbox_state::state::Mailbox;
+use mailbox_state::state::Outcome;
 use mailbox_state::step::Clears;
 use mailbox_state::step::Step;
 ghost use mathlib.Core.Path.{_≡_};
@@ -35,7 +35,7 @@ fn flat(outcome: Outcome) -> MailboxOutcome
     let mailbox = outcome.state;
     let answer = outcome.answer;
     let state = FlatMailbox::pack(mailbox);
-    let number = answer.number();
+    let number = mailbox_decide::answer_number(answer);
     MailboxOutcome { state, number }
 }
 
@@ -90,8 +90,8 @@ fn no_mailbox(state: FlatMailbox) -> MailboxOutcome
 pub extern "C" fn harsolvek_mailbox_fresh(connectors: u8) -> MailboxOutcome
     ensures { λ r. ⌜ r ≡ freshOf connectors ⌝ }
 {
-    let counted = Connectors::new(connectors);
-    let number = counted.number();
+    let counted = mailbox_decide::counted(connectors);
+    let number = mailbox_decide::counted_number(counted);
     let state = made(counted);
     MailboxOutcome { state, number }
 }
@@ -108,7 +108,7 @@ fn made(counted: Counted) -> FlatMailbox
 fn fresh(connectors: Connectors) -> FlatMailbox
     ensures { λ r. ⌜ r ≡ packedFresh connectors ⌝ }
 {
-    let mailbox = Mailbox::fresh(connectors);
+    let mailbox = mailbox::fresh(connectors);
     FlatMailbox::pack(mailbox)
 }
 
@@ -121,7 +121,7 @@ pub extern "C" fn harsolvek_mailbox_write(state: FlatMailbox, control: &[u8]) ->
         let stand = mailbox.stand;
         let step = mailbox::write_step(stand, control);
         let answer = step.answer;
-        let number = answer.number();
+        let number = mailbox_decide::answer_number(answer);
         if number != 0 {
             return MailboxOutcome { state, number };
         }
@@ -140,9 +140,9 @@ pub extern "C" fn harsolvek_mailbox_success(state: FlatMailbox, bytes: &[u8]) ->
 {
     if state.is_mailbox() {
         let mailbox = state.unpack();
-        let outcome = mailbox.report_success(bytes);
+        let outcome = mailbox::report_success(mailbox, bytes);
         let answer = outcome.answer;
-        let number = answer.number();
+        let number = mailbox_decide::answer_number(answer);
         if number != 0 {
             return MailboxOutcome { state, number };
         }
@@ -158,9 +158,9 @@ pub extern "C" fn harsolvek_mailbox_failure(state: FlatMailbox) -> MailboxOutcom
     if state.is_mailbox() {
         let mailbox = state.unpack();
         let stand = mailbox.stand;
-        let step = mailbox_steps::fail(stand);
+        let step = mailbox_decide::fail(stand);
         let answer = step.answer;
-        let number = answer.number();
+        let number = mailbox_decide::answer_number(answer);
         if number != 0 {
             return MailboxOutcome { state, number };
         }
@@ -180,7 +180,7 @@ pub extern "C" fn harsolvek_mailbox_change(
     if state.is_mailbox() {
         let mailbox = state.unpack();
         let stand = mailbox.stand;
-        let step = mailbox_changes::change(stand, connector, reason);
+        let step = mailbox_decide::change(stand, connector, reason);
         return kept(state, step);
     }
     no_mailbox(state)
@@ -192,7 +192,7 @@ pub extern "C" fn harsolvek_mailbox_cci(state: FlatMailbox) -> MailboxCci
 {
     if state.is_mailbox() {
         let mailbox = state.unpack();
-        let cci = mailbox.cci();
+        let cci = mailbox::cci(mailbox);
         return MailboxCci { cci, number: 0 };
     }
     MailboxCci {
@@ -207,7 +207,7 @@ pub extern "C" fn harsolvek_mailbox_message_in(state: FlatMailbox) -> MessageIn
 {
     if state.is_mailbox() {
         let mailbox = state.unpack();
-        let bytes = mailbox.message_in();
+        let bytes = mailbox::message_in(mailbox);
         return MessageIn { bytes, number: 0 };
     }
     MessageIn {

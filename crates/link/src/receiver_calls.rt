@@ -1,11 +1,11 @@
 // The receiver's calls for C: each is the session's own, on the state that the numbers say.
 use crate::NO_SUCH_STATE;
-use receiver::Outcome;
-use receiver::Receiver;
-use receiver::Started;
-use receiver::Summed;
 use receiver_flat::FlatReceiver;
 use receiver_flat::verdict_of;
+use receiver_state::session::Outcome;
+use receiver_state::session::Receiver;
+use receiver_state::session::Started;
+use receiver_state::sum::Summed;
 use silence::Settings;
 use wire::response::Identity;
 ghost use mathlib.Core.Path.{_≡_};
@@ -46,7 +46,7 @@ fn flat(came: FlatReceiver, outcome: Outcome) -> ReceiverOutcome
         silence: packed.silence,
         resends: packed.resends,
     };
-    let number = answer.number();
+    let number = receiver_decide::answer_number(answer);
     ReceiverOutcome {
         state,
         written: outcome.written,
@@ -72,8 +72,8 @@ pub extern "C" fn harsolvek_receiver_start(
 ) -> ReceiverOutcome
     ensures { λ r. ⌜ r ≡ startOf settings identity capacity ⌝ }
 {
-    let started = Receiver::new(settings.limit, settings.resends, identity, capacity);
-    let number = started.number();
+    let started = receiver::start(settings.limit, settings.resends, identity, capacity);
+    let number = receiver::started_number(started);
     let state = made(started);
     ReceiverOutcome {
         state,
@@ -106,7 +106,7 @@ pub extern "C" fn harsolvek_receiver_request(
     if state.is_session() {
         let session = state.unpack();
         let said = verdict_of(verdict, later);
-        let outcome = session.request(image, request, readiness, said, out);
+        let outcome = receiver::request(session, image, request, readiness, said, out);
         return flat(state, outcome);
     }
     no_session(state)
@@ -122,7 +122,7 @@ pub extern "C" fn harsolvek_receiver_time(
 {
     if state.is_session() {
         let session = state.unpack();
-        let outcome = session.time(elapsed, out);
+        let outcome = receiver::time(session, elapsed, out);
         return flat(state, outcome);
     }
     no_session(state)
@@ -134,8 +134,8 @@ pub extern "C" fn harsolvek_receiver_sum(state: FlatReceiver, image: &[u8]) -> I
 {
     if state.is_session() {
         let session = state.unpack();
-        let summed = session.sum(image);
-        let number = summed.number();
+        let summed = receiver::sum(session, image);
+        let number = receiver::summed_number(summed);
         let sum = value(summed);
         return ImageSum { sum, number };
     }

@@ -6,10 +6,10 @@ use Rattle.basis.specs.Only.{only}
 use Rattle.mailbox_state.specs.declared.connectors.Connectors.{Connectors}
 use Rattle.mailbox_state.specs.declared.stand.Stand.{Stand}
 use Rattle.mailbox_state.specs.declared.step.Step.{Step}
-use Rattle.mailbox.specs.Mailbox.{freshOf, messageOf, cciOf}
-use Rattle.mailbox.specs.Events.{writeStep, writeOf, successOf, failureOf, changeOf}
-use Rattle.mailbox.specs.declared.state.Mailbox.{Mailbox}
-use Rattle.mailbox.specs.declared.state.Outcome.{Outcome}
+use Rattle.mailbox_rules.specs.Mailbox.{freshOf, messageOf, cciOf}
+use Rattle.mailbox_rules.specs.Events.{writeStep, writeOf, successOf, failureOf, changeOf}
+use Rattle.mailbox_state.specs.declared.state.Mailbox.{Mailbox}
+use Rattle.mailbox_state.specs.declared.state.Outcome.{Outcome}
 
 pub one-fresh : (connectors : Connectors) (r r′ : Mailbox) → r ≡ freshOf connectors → r′ ≡ freshOf connectors → r ≡ r′
 one-fresh connectors r r′ p q = only p q

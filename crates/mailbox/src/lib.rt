@@ -3,6 +3,11 @@
 mod event;
 mod state;
 
+pub use event::change;
+pub use event::report_failure;
+pub use event::report_success;
+pub use event::write;
 pub use event::write_step;
-pub use state::Mailbox;
-pub use state::Outcome;
+pub use state::cci;
+pub use state::fresh;
+pub use state::message_in;

@@ -13,7 +13,7 @@ use Rattle.mailbox_state.specs.declared.told.Told.{Told}
 use Rattle.mailbox_state.specs.declared.told.Told.the-variants.{Nothing, ResetDone, Busy, Completed, Failed, NotSupported, Cancelled, Acknowledged}
 use Rattle.mailbox_state.specs.declared.stand.Notifications.{Notifications}
 use Rattle.mailbox_state.specs.declared.stand.Notifications.the-variants.{Off, On}
-use Rattle.mailbox.specs.declared.state.Mailbox.{Mailbox}
+use Rattle.mailbox_state.specs.declared.state.Mailbox.{Mailbox}
 use Rattle.mailbox_flat.specs.Waiting.{bytesOf, flagsOf}
 use Rattle.mailbox_flat.specs.Notifying.{onOf, maskOf, notificationsOf}
 use Rattle.mailbox_flat.specs.Telling.{telling, bare, tellingOf, restOf, toldOf}

@@ -7,8 +7,8 @@ use lib.ListN.{replicate}
 use Rattle.basis.specs.Pick.{pick}
 use Rattle.mailbox_state.specs.Connectors.{countedOf, numberOf}
 use Rattle.mailbox_state.specs.Stand.{changes, stands}
-use Rattle.mailbox.specs.Mailbox.{mailbox}
-use Rattle.mailbox.specs.declared.state.Mailbox.{Mailbox}
+use Rattle.mailbox_rules.specs.Mailbox.{mailbox}
+use Rattle.mailbox_state.specs.declared.state.Mailbox.{Mailbox}
 use Rattle.mailbox_flat.specs.Waiting.{bytesOf, flagsOf, areFlags}
 use Rattle.mailbox_flat.specs.Notifying.{onOf, maskOf, notificationsOf, notifiesOf}
 use Rattle.mailbox_flat.specs.Telling.{telling, bare, tellingOf, toldOf, tellsOf}

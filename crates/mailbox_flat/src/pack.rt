@@ -4,7 +4,7 @@ use crate::notifying::mask_of;
 use crate::notifying::on_of;
 use crate::telling::Telling;
 use crate::waiting::bytes_of;
-use mailbox::Mailbox;
+use mailbox_state::state::Mailbox;
 ghost use mathlib.Core.Path.{_≡_};
 ghost use Rattle.mailbox_flat.specs.Flat.{packOf};
 

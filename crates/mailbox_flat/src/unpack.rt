@@ -6,10 +6,10 @@ use crate::notifying::notifies;
 use crate::telling::Telling;
 use crate::waiting::are_flags;
 use crate::waiting::flags_of;
-use mailbox::Mailbox;
 use mailbox_state::connectors::Connectors;
 use mailbox_state::stand::Changes;
 use mailbox_state::stand::Stand;
+use mailbox_state::state::Mailbox;
 ghost use mathlib.Core.Path.{_≡_};
 ghost use Rattle.mailbox_flat.specs.Flat.{stated, unpackOf, saysOf, isMailbox};
 
@@ -39,8 +39,8 @@ impl FlatMailbox {
     pub fn is_mailbox(self) -> bool
         ensures { λ r. ⌜ r ≡ isMailbox self ⌝ }
     {
-        let counted = Connectors::new(self.connectors);
-        if counted.number() != 0 {
+        let counted = mailbox_decide::counted(self.connectors);
+        if mailbox_decide::counted_number(counted) != 0 {
             return false;
         }
         let bytes = self.waiting;

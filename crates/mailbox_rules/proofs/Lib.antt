@@ -1,7 +1,7 @@
 pub mod Absent
 pub mod Bits
 pub mod Command
-pub mod Judged
+pub mod Answers
 pub mod Keeps
 pub mod Lowest
 pub mod Marked
@@ -11,6 +11,13 @@ pub mod Noted
 pub mod Pending
 pub mod Places
 pub mod Report
-pub mod Rows
+pub mod ByCode
 pub mod Running
 pub mod Steps
+pub mod Until
+pub mod Laws
+pub mod Message
+pub mod Reached
+pub mod Reported
+pub mod Settled
+pub mod Shown

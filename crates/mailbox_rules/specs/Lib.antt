@@ -4,3 +4,6 @@ pub mod Refusal
 pub mod Write
 pub mod Report
 pub mod Change
+pub mod Mailbox
+pub mod Events
+pub mod History

@@ -53,3 +53,7 @@ unheardOf Acknowledge = NotificationsOff
 unheardOf Enable = CommandRuns
 unheardOf Run = NotificationsOff
 unheardOf NotSupported = NotificationsOff
+
+-- What stops a command outside a run: 2, then 4.
+unfoldable pub stoppedOf : Bool → Bool → Answer → Answer
+stoppedOf off due otherwise = pick off NotificationsOff (pick due AcknowledgementDue otherwise)

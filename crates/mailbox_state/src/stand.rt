@@ -1,7 +1,5 @@
 // Where the mailbox stands.
 use crate::told::Told;
-ghost use mathlib.Core.Path.{_≡_};
-ghost use Rattle.mailbox_state.specs.Stand.{offOf};
 
 // A mask is there only while notifications are on.
 pub enum Notifications {
@@ -21,15 +19,4 @@ pub struct Stand {
     pub notifications: Notifications,
     pub told: Told,
     pub changes: Changes,
-}
-
-impl Notifications {
-    pub fn off(self) -> bool
-        ensures { λ r. ⌜ r ≡ offOf self ⌝ }
-    {
-        match self {
-            Notifications::Off => true,
-            Notifications::On { mask: _ } => false,
-        }
-    }
 }

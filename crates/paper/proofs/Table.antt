@@ -13,8 +13,8 @@ use Rattle.mailbox_rules.specs.Change.{changeOf, meetsOf, heardOf, presentOf}
 use Rattle.mailbox_rules.specs.Changes.{lowestFrom, markedOf, notedOf, nextOf}
 use Rattle.mailbox_rules.specs.Refusal.{judgedOf}
 use Rattle.mailbox_rules.specs.Write.{thereOf, begins, takenOf, heededOf}
-use Rattle.mailbox.specs.Mailbox.{freshOf}
-use Rattle.mailbox.specs.Events.{readOf}
+use Rattle.mailbox_rules.specs.Mailbox.{freshOf}
+use Rattle.mailbox_rules.specs.Events.{readOf}
 use Rattle.paper.specs.Table.{Paper}
 
 pub paper : Paper

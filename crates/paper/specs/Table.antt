@@ -7,9 +7,9 @@ use Rattle.image.specs.Blocks.{blocksOf}
 use Rattle.image.specs.Sum.{sumOf}
 use Rattle.wire.specs.Written.{responseBytes}
 use Rattle.wire.specs.declared.response.Response.the-variants.{Initiate}
-use Rattle.mailbox.specs.Mailbox.{freshOf, cciOf}
-use Rattle.mailbox.specs.History.{Event, writes, changes, eventOf}
-use Rattle.mailbox.specs.declared.state.Mailbox.{Mailbox}
+use Rattle.mailbox_rules.specs.Mailbox.{freshOf, cciOf}
+use Rattle.mailbox_rules.specs.History.{Event, writes, changes, eventOf}
+use Rattle.mailbox_state.specs.declared.state.Mailbox.{Mailbox}
 
 -- CONTROL: the command in the first byte, bits 16 to 31 in the third and fourth.
 abbrev pub control : ℕ → ℕ → ℕ → Event

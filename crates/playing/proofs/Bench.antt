@@ -5,8 +5,8 @@ use mathlib.Core.Path.{_≡_, refl}
 use Rattle.basis.specs.Pick.{pick}
 use Rattle.commands.specs.Control.{fieldsOf, controlOf}
 use Rattle.commands.specs.Table.{entryOf}
-use Rattle.lines.specs.Digits.{digitOf, decimalOf}
-use Rattle.lines.specs.Line.{tailOf, textOf}
+use Rattle.printing.specs.Digits.{digitOf, decimalOf}
+use Rattle.printing.specs.Line.{tailOf, textOf}
 use Rattle.recording.specs.Reading.{nextOf}
 use Rattle.recording.specs.Apart.{turns, apartOf}
 use Rattle.mailbox_state.specs.Stand.{offOf}
@@ -18,8 +18,8 @@ use Rattle.mailbox_rules.specs.Changes as changes
 use Rattle.mailbox_rules.specs.Refusal.{judgedOf}
 use Rattle.mailbox_rules.specs.Report.{succeedOf, failOf}
 use Rattle.mailbox_rules.specs.Write.{thereOf, begins, takenOf, heededOf}
-use Rattle.mailbox.specs.Mailbox.{freshOf}
-use Rattle.mailbox.specs.Events.{readOf, reportedOf}
+use Rattle.mailbox_rules.specs.Mailbox.{freshOf}
+use Rattle.mailbox_rules.specs.Events.{readOf, reportedOf}
 use Rattle.playing.specs.Turn.{eventIn, outcomeOf, printed}
 use Rattle.playing.specs.Replay.{shownOf, printedOf}
 

@@ -3,7 +3,7 @@ use Prim.Native.Nat.{ℕ, _≤_}
 use mathlib.Core.Path.{_≡_, refl, _∙_, ap}
 use mathlib.Core.List.{List, [], _++_, append-nil}
 use native.Mathlib.Omega.{arith}
-use Rattle.lines.specs.Line.{longest, stopText, lineIn, stopOf}
+use Rattle.printing.specs.Line.{longest, stopText, lineIn, stopOf}
 use Rattle.recording.specs.Reading.{nextOf}
 use Rattle.recording.specs.Apart.{apart, onward, apartOf, writtenOf}
 use Rattle.recording.proofs.TakenApart.{apart-step, apart-written}
@@ -12,7 +12,7 @@ use Rattle.recording.specs.declared.record.Record.{Record}
 use Rattle.recording.specs.declared.reader.Read.the-variants.{Ended}
 use Rattle.recording.specs.declared.reader.Ending.{Ending}
 use Rattle.recording.specs.declared.reader.Ending.the-variants.{Whole, Cut, UnknownKind}
-use Rattle.mailbox.specs.declared.state.Mailbox.{Mailbox}
+use Rattle.mailbox_state.specs.declared.state.Mailbox.{Mailbox}
 use Rattle.playing.specs.Replay.{linesOf, closingText, shownOf, replayOf}
 use Rattle.playing.specs.Part.{closingOf}
 use Rattle.playing.specs.declared.part.Stop.{Stop}

@@ -4,17 +4,17 @@ use mathlib.Core.Bool.{true}
 use mathlib.Core.Path.{_≡_, _∙_, ap}
 use native.Mathlib.Omega.{arith}
 use lib.ListN.{length, take, replicate, length-replicate, replicate-append-replicate}
-use Rattle.lines.specs.Line.{longest, textOf}
-use Rattle.lines.proofs.Texts.{line-holds, line-sized, Says, line-says}
+use Rattle.printing.specs.Line.{longest, textOf}
+use Rattle.printing.proofs.Texts.{line-holds, line-sized, Says, line-says}
 use Rattle.recording.specs.declared.record.Record.{Record}
 use Rattle.recording.specs.declared.record.Record.the-variants.{Success}
 use Rattle.mailbox_state.specs.Answer.{numberOf}
-use Rattle.mailbox.specs.declared.state.Mailbox.{Mailbox}
+use Rattle.mailbox_state.specs.declared.state.Mailbox.{Mailbox}
 use Rattle.mailbox_state.specs.Told.{runsOf}
 use Rattle.mailbox_state.specs.declared.answer.Answer.{Answer}
 use Rattle.mailbox_state.specs.declared.answer.Answer.the-variants.{Taken, ControlLength, NotificationsOff, CommandRuns, AcknowledgementDue, NothingToClear, NothingToCancel, NothingRuns, DataTooLong, NoSuchConnector}
-use Rattle.mailbox.specs.Mailbox.{cciOf, messageOf}
-use Rattle.mailbox.proofs.Message.{success-fills}
+use Rattle.mailbox_rules.specs.Mailbox.{cciOf, messageOf}
+use Rattle.mailbox_rules.proofs.Message.{success-fills}
 use Rattle.playing.specs.Turn.{eventIn, outcomeOf, printed, turnOf}
 
 -- 11 to 13 bytes.

@@ -11,8 +11,8 @@ use Rattle.basis.specs.Pick.{pick-yes, pick-no}
 use Rattle.basis.specs.Left.{Left, left}
 use Rattle.lent.specs.Put.{pasted}
 use Rattle.lent.proofs.Laws.{pasted-there, pasted-behind, pasted-length}
-use Rattle.lines.specs.Line.{longest, lineIn}
-use Rattle.lines.proofs.Texts.{line-holds}
+use Rattle.printing.specs.Line.{longest, lineIn}
+use Rattle.printing.proofs.Texts.{line-holds}
 use Rattle.recording.specs.Reading.{nextOf}
 use Rattle.recording.specs.Writing.{bytesOf}
 use Rattle.recording.specs.Apart.{onward, apartOf}
@@ -21,7 +21,7 @@ use Rattle.recording.proofs.TakenApart.{apart-at}
 use Rattle.recording.specs.declared.record.Record.{Record}
 use Rattle.recording.specs.declared.reader.Read.the-variants.{Found, Ended}
 use Rattle.recording.specs.declared.reader.Ending.{Ending}
-use Rattle.mailbox.specs.declared.state.Mailbox.{Mailbox}
+use Rattle.mailbox_state.specs.declared.state.Mailbox.{Mailbox}
 use Rattle.playing.specs.Turn.{outcomeOf, printed, turnOf}
 use Rattle.playing.specs.Part.{Plays, plays, after, playsOf, partOf, leadsOf, playOf}
 use Rattle.playing.proofs.Lines.{printed-sized}

@@ -19,7 +19,7 @@ use Rattle.recording.specs.declared.record.Record.{Record}
 use Rattle.recording.specs.declared.reader.Read.{Read}
 use Rattle.recording.specs.declared.reader.Read.the-variants.{Found, Ended}
 use Rattle.recording.specs.declared.reader.Ending.{Ending}
-use Rattle.mailbox.specs.declared.state.Mailbox.{Mailbox}
+use Rattle.mailbox_state.specs.declared.state.Mailbox.{Mailbox}
 use Rattle.playing.specs.Turn.{outcomeOf, printed}
 use Rattle.playing.specs.Part.{Plays, plays, after, playsOf, partOf}
 use Rattle.playing.specs.declared.part.Stop.{Stop}

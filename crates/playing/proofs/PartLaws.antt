@@ -6,7 +6,7 @@ use native.Mathlib.Omega.{arith}
 use lib.ListN.{length, take, drop, length-drop, length-append}
 use lib.Seq.{drop-drop, drop-append-le, take-append-seam, drop-append-seam}
 use Rattle.basis.specs.Left.{Left, left}
-use Rattle.lines.specs.Line.{longest}
+use Rattle.printing.specs.Line.{longest}
 use Rattle.recording.specs.Reading.{nextOf}
 use Rattle.recording.specs.Writing.{bytesOf}
 use Rattle.recording.specs.Apart.{onward, apartOf}
@@ -16,7 +16,7 @@ use Rattle.recording.proofs.Moved.{found-stays}
 use Rattle.recording.specs.declared.record.Record.{Record}
 use Rattle.recording.specs.declared.reader.Read.the-variants.{Found, Ended}
 use Rattle.recording.specs.declared.reader.Ending.the-variants.{Whole, Cut, UnknownKind}
-use Rattle.mailbox.specs.declared.state.Mailbox.{Mailbox}
+use Rattle.mailbox_state.specs.declared.state.Mailbox.{Mailbox}
 use Rattle.playing.specs.Turn.{outcomeOf, printed}
 use Rattle.playing.specs.Replay.{linesOf, shownOf, replayOf}
 use Rattle.playing.specs.Part.{partOf, leadsOf, playOf}

@@ -11,17 +11,17 @@ use Rattle.commands.specs.Control.{controlOf}
 use Rattle.recording.specs.Record.{controlBytes}
 use Rattle.recording.specs.declared.record.Record.{Record}
 use Rattle.recording.specs.declared.record.Record.the-variants.{Control, Change, Success, Failure}
-use Rattle.lines.specs.declared.text.Line.{Line}
+use Rattle.printing.specs.declared.text.Line.{Line}
 use Rattle.mailbox_state.specs.Answer.{numberOf}
 use Rattle.mailbox_state.specs.Step.{step, refused}
 use Rattle.mailbox_state.specs.declared.step.Clears.the-variants.{NoData}
 use Rattle.mailbox_state.specs.declared.step.Step.{Step}
 use Rattle.mailbox_rules.specs.Report.{succeedOf}
-use Rattle.mailbox.specs.Mailbox.{size, zeros, filledOf, mailbox, outcome, keptOf, clearedOf, settledOf}
-use Rattle.mailbox.specs.Events.{reportedOf, successOf}
-use Rattle.mailbox.specs.declared.state.Mailbox.{Mailbox}
-use Rattle.mailbox.proofs.Reported.{fits}
-use Rattle.mailbox.proofs.Settled.{read-settled}
+use Rattle.mailbox_rules.specs.Mailbox.{size, zeros, filledOf, mailbox, outcome, keptOf, clearedOf, settledOf}
+use Rattle.mailbox_rules.specs.Events.{reportedOf, successOf}
+use Rattle.mailbox_state.specs.declared.state.Mailbox.{Mailbox}
+use Rattle.mailbox_rules.proofs.Reported.{fits}
+use Rattle.mailbox_rules.proofs.Settled.{read-settled}
 use Rattle.playing.specs.Turn.{eventIn, outcomeOf, printed, turnOf}
 use Rattle.playing.specs.Step.{zeroedOf, stepIn, lineAfter}
 use Rattle.playing.specs.declared.turn.Turn.{Turn}

@@ -4,9 +4,9 @@ use mathlib.Core.List.{List}
 use mathlib.Core.Path.{_≡_}
 use Rattle.basis.specs.Left.{left}
 use Rattle.basis.specs.Only.{only}
-use Rattle.lines.specs.declared.text.Line.{Line}
+use Rattle.printing.specs.declared.text.Line.{Line}
 use Rattle.recording.specs.declared.record.Record.{Record}
-use Rattle.mailbox.specs.declared.state.Mailbox.{Mailbox}
+use Rattle.mailbox_state.specs.declared.state.Mailbox.{Mailbox}
 use Rattle.playing.specs.Turn.{turnOf}
 use Rattle.playing.specs.Replay.{begun}
 use Rattle.playing.specs.Part.{playOf, closingOf}

@@ -6,13 +6,13 @@ use lib.ListN.{length}
 use Rattle.basis.specs.Pick.{pick}
 use Rattle.basis.specs.Left.{Left, left}
 use Rattle.lent.specs.Led.{led}
-use Rattle.lines.specs.Line.{lineIn}
-use Rattle.lines.specs.declared.text.Line.{Line}
+use Rattle.printing.specs.Line.{lineIn}
+use Rattle.printing.specs.declared.text.Line.{Line}
 use Rattle.recording.specs.Apart.{Apart, apartOf}
 use Rattle.recording.specs.Writing.{bytesOf}
 use Rattle.recording.specs.declared.record.Record.{Record}
 use Rattle.recording.specs.declared.reader.Ending.{Ending}
-use Rattle.mailbox.specs.declared.state.Mailbox.{Mailbox}
+use Rattle.mailbox_state.specs.declared.state.Mailbox.{Mailbox}
 use Rattle.playing.specs.Turn.{outcomeOf, printed}
 use Rattle.playing.specs.Replay.{closingText}
 use Rattle.playing.specs.declared.part.Stop.{Stop}

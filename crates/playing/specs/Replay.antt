@@ -1,13 +1,13 @@
 -- The lines of a whole recording (01, Replay program).
 use Prim.Native.Nat.{ℕ}
 use mathlib.Core.List.{List, [], _∷_, _++_}
-use Rattle.lines.specs.Line.{stopText}
+use Rattle.printing.specs.Line.{stopText}
 use Rattle.recording.specs.Apart.{Apart, apartOf}
 use Rattle.recording.specs.declared.record.Record.{Record}
 use Rattle.recording.specs.declared.reader.Ending.{Ending}
 use Rattle.recording.specs.declared.reader.Ending.the-variants.{Whole, Cut, UnknownKind}
-use Rattle.mailbox.specs.Mailbox.{freshOf}
-use Rattle.mailbox.specs.declared.state.Mailbox.{Mailbox}
+use Rattle.mailbox_rules.specs.Mailbox.{freshOf}
+use Rattle.mailbox_state.specs.declared.state.Mailbox.{Mailbox}
 use Rattle.playing.specs.Turn.{outcomeOf, printed}
 
 -- Two connectors.

@@ -5,8 +5,8 @@ use Rattle.basis.specs.Pick.{pick}
 use Rattle.recording.specs.Record.{controlBytes}
 use Rattle.recording.specs.declared.record.Record.{Record}
 use Rattle.recording.specs.declared.record.Record.the-variants.{Control, Change, Success, Failure}
-use Rattle.lines.specs.Line.{lineOf}
-use Rattle.lines.specs.declared.text.Line.{Line}
+use Rattle.printing.specs.Line.{lineOf}
+use Rattle.printing.specs.declared.text.Line.{Line}
 use Rattle.mailbox_state.specs.Answer.{numberOf}
 use Rattle.mailbox_state.specs.Step.{step, refused}
 use Rattle.mailbox_state.specs.declared.answer.Answer.{Answer}
@@ -16,7 +16,7 @@ use Rattle.mailbox_state.specs.declared.step.Step.{Step}
 use Rattle.mailbox_rules.specs.Cci.{cciOf}
 use Rattle.mailbox_rules.specs.Change.{changeOf}
 use Rattle.mailbox_rules.specs.Report.{succeedOf, failOf}
-use Rattle.mailbox.specs.Events.{writeStep}
+use Rattle.mailbox_rules.specs.Events.{writeStep}
 
 -- The bytes of a success are zeros, so that one that is taken zeroes MESSAGE_IN.
 unfoldable pub zeroedOf : Stand → Step → Step

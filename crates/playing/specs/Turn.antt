@@ -5,12 +5,12 @@ use lib.ListN.{replicate}
 use Rattle.recording.specs.Record.{controlBytes}
 use Rattle.recording.specs.declared.record.Record.{Record}
 use Rattle.recording.specs.declared.record.Record.the-variants.{Control, Change, Success, Failure}
-use Rattle.lines.specs.Line.{textOf, lineIn}
+use Rattle.printing.specs.Line.{textOf, lineIn}
 use Rattle.mailbox_state.specs.Answer.{numberOf}
-use Rattle.mailbox.specs.Mailbox.{cciOf}
-use Rattle.mailbox.specs.History.{Event, writes, succeeds, fails, changes, eventOf}
-use Rattle.mailbox.specs.declared.state.Mailbox.{Mailbox}
-use Rattle.mailbox.specs.declared.state.Outcome.{Outcome}
+use Rattle.mailbox_rules.specs.Mailbox.{cciOf}
+use Rattle.mailbox_rules.specs.History.{Event, writes, succeeds, fails, changes, eventOf}
+use Rattle.mailbox_state.specs.declared.state.Mailbox.{Mailbox}
+use Rattle.mailbox_state.specs.declared.state.Outcome.{Outcome}
 use Rattle.playing.specs.declared.turn.Turn.{Turn}
 
 -- Kind 3 has one byte, and that many zero bytes are reported.

@@ -2,8 +2,8 @@
 use crate::step::clear;
 use crate::step::line_after;
 use crate::step::step_of;
-use lines::Line;
-use mailbox::Mailbox;
+use mailbox_state::state::Mailbox;
+use printing::Line;
 use recording::Ending;
 use recording::Read;
 ghost use mathlib.Core.Path.{_≡_};
@@ -11,7 +11,7 @@ ghost use Prim.Native.Nat.{_+_, _≤_};
 ghost use lib.ListN.{length, take};
 ghost use Rattle.basis.specs.Left.{left};
 ghost use Rattle.lent.specs.Put.{pasted};
-ghost use Rattle.lines.specs.Line.{longest};
+ghost use Rattle.printing.specs.Line.{longest};
 ghost use Rattle.playing.specs.Part.{playOf};
 
 // Why no further record was played: none is found at the place, or its line does not fit into the output.

@@ -1,16 +1,16 @@
 // What a record decides, the line that it prints, and MESSAGE_IN after it where it stands: no record copies those 256 bytes.
-use lines::Line;
-use lines::line_of;
 use mailbox_state::answer::Answer;
 use mailbox_state::stand::Stand;
 use mailbox_state::step::Clears;
 use mailbox_state::step::Step;
+use printing::Line;
+use printing::line_of;
 use recording::ControlBytes;
 use recording::Record;
 ghost use mathlib.Core.Path.{_≡_};
 ghost use Rattle.recording.specs.Record.{controlBytes};
-ghost use Rattle.mailbox.specs.Mailbox.{clearedOf};
-ghost use Rattle.mailbox.specs.Events.{writeStep};
+ghost use Rattle.mailbox_rules.specs.Mailbox.{clearedOf};
+ghost use Rattle.mailbox_rules.specs.Events.{writeStep};
 ghost use Rattle.playing.specs.Step.{successStep, stepIn, lineAfter};
 
 pub(crate) fn step_of(stand: Stand, record: Record) -> Step
@@ -18,9 +18,9 @@ pub(crate) fn step_of(stand: Stand, record: Record) -> Step
 {
     match record {
         Record::Control(control) => write(stand, control),
-        Record::Change { connector, reason } => mailbox_changes::change(stand, connector, reason),
+        Record::Change { connector, reason } => mailbox_decide::change(stand, connector, reason),
         Record::Success { length } => success(stand, length),
-        Record::Failure => mailbox_steps::fail(stand),
+        Record::Failure => mailbox_decide::fail(stand),
     }
 }
 
@@ -35,10 +35,10 @@ fn write(stand: Stand, control: ControlBytes) -> Step
 fn success(stand: Stand, length: u8) -> Step
     ensures { λ r. ⌜ r ≡ successStep stand length ⌝ }
 {
-    let step = mailbox_steps::succeed(stand, length as usize);
+    let step = mailbox_decide::succeed(stand, length as usize);
     let answer = step.answer;
-    if answer.number() != 0 {
-        return Step::refused(stand, answer);
+    if mailbox_decide::answer_number(answer) != 0 {
+        return mailbox_decide::refused(stand, answer);
     }
     let stand = step.stand;
     Step {
@@ -52,8 +52,8 @@ pub(crate) fn line_after(stand: Stand, answer: Answer) -> Line
     ensures { λ r. ⌜ r ≡ lineAfter stand answer ⌝ }
 {
     let told = stand.told;
-    let cci = mailbox_steps::cci(told, stand.changes.shown);
-    line_of(cci, answer.number())
+    let cci = mailbox_decide::cci(told, stand.changes.shown);
+    line_of(cci, mailbox_decide::answer_number(answer))
 }
 
 pub(crate) fn clear(message: &mut [u8; 256], step: Step)

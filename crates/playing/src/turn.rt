@@ -2,9 +2,9 @@
 use crate::step::clear;
 use crate::step::line_after;
 use crate::step::step_of;
-use lines::Line;
-use mailbox::Mailbox;
 use mailbox_state::answer::Answer;
+use mailbox_state::state::Mailbox;
+use printing::Line;
 use recording::Record;
 ghost use mathlib.Core.Path.{_≡_};
 ghost use Rattle.playing.specs.Turn.{turnOf};

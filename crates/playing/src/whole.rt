@@ -1,11 +1,11 @@
 // How a whole recording begins, and the line that it ends with.
 use crate::part::Stop;
-use lines::Line;
-use mailbox::Mailbox;
 use mailbox_state::connectors::Connectors;
+use mailbox_state::state::Mailbox;
+use printing::Line;
 use recording::Ending;
 ghost use mathlib.Core.Path.{_≡_};
-ghost use Rattle.lines.specs.Line.{lineIn};
+ghost use Rattle.printing.specs.Line.{lineIn};
 ghost use Rattle.playing.specs.Replay.{begun, closingText};
 ghost use Rattle.playing.specs.Part.{closingOf};
 
@@ -15,7 +15,7 @@ const CONNECTORS: u8 = 2;
 pub fn begin() -> Mailbox
     ensures { λ r. ⌜ r ≡ begun ⌝ }
 {
-    Mailbox::fresh(Connectors { count: CONNECTORS })
+    mailbox::fresh(Connectors { count: CONNECTORS })
 }
 
 // The line that ends a recording which ends here: nothing behind a whole one.
@@ -24,7 +24,7 @@ pub fn closing(stop: Stop) -> Line
 {
     match stop {
         Stop::Ended(ending) => last(ending),
-        Stop::Full => lines::none(),
+        Stop::Full => printing::none(),
     }
 }
 
@@ -32,8 +32,8 @@ fn last(ending: Ending) -> Line
     ensures { λ r. ⌜ r ≡ lineIn (closingText ending) ⌝ }
 {
     match ending {
-        Ending::Whole => lines::none(),
-        Ending::Cut => lines::stop(),
-        Ending::UnknownKind => lines::stop(),
+        Ending::Whole => printing::none(),
+        Ending::Cut => printing::stop(),
+        Ending::UnknownKind => printing::stop(),
     }
 }

@@ -5,35 +5,37 @@ use mathlib.Core.List.{List}
 use Rattle.basis.specs.Only.{only}
 use Rattle.basis.specs.Left.{left}
 use Rattle.wire.specs.declared.response.Identity.{Identity}
-use Rattle.receiver_phases.specs.declared.verdict.Verdict.{Verdict}
-use Rattle.receiver.specs.Session as session
-use Rattle.receiver.specs.Request.{effect, requestOf}
-use Rattle.receiver.specs.Time.{timeOf}
-use Rattle.receiver.specs.Sum as sum
-use Rattle.receiver.specs.declared.session.Receiver.{Receiver}
-use Rattle.receiver.specs.declared.session.Started.{Started}
-use Rattle.receiver.specs.declared.session.Outcome.{Outcome}
-use Rattle.receiver.specs.declared.sum.Summed.{Summed}
+use Rattle.receiver_state.specs.declared.verdict.Verdict.{Verdict}
+use Rattle.receiver_state.specs.Session as starting
+use Rattle.receiver_state.specs.Sum as summing
+use Rattle.receiver_rules.specs.Session.{startOf}
+use Rattle.receiver_rules.specs.Request.{effect, requestOf}
+use Rattle.receiver_rules.specs.Time.{timeOf}
+use Rattle.receiver_rules.specs.Sum.{sumOf}
+use Rattle.receiver_state.specs.declared.session.Receiver.{Receiver}
+use Rattle.receiver_state.specs.declared.session.Started.{Started}
+use Rattle.receiver_state.specs.declared.session.Outcome.{Outcome}
+use Rattle.receiver_state.specs.declared.sum.Summed.{Summed}
 
-pub one-new : (limit resends : ℕ) (identity : Identity) (capacity : ℕ) (r r′ : Started) → r ≡ session.startOf limit resends identity capacity
-    → r′ ≡ session.startOf limit resends identity capacity → r ≡ r′
-one-new limit resends identity capacity r r′ p q = only p q
+pub one-start : (limit resends : ℕ) (identity : Identity) (capacity : ℕ) (r r′ : Started) → r ≡ startOf limit resends identity capacity
+    → r′ ≡ startOf limit resends identity capacity → r ≡ r′
+one-start limit resends identity capacity r r′ p q = only p q
 
-pub one-started-number : (self : Started) (r r′ : ℕ) → r ≡ session.numberOf self → r′ ≡ session.numberOf self → r ≡ r′
-one-started-number self r r′ p q = only p q
+pub one-started-number : (started : Started) (r r′ : ℕ) → r ≡ starting.numberOf started → r′ ≡ starting.numberOf started → r ≡ r′
+one-started-number started r r′ p q = only p q
 
-pub one-request : (self : Receiver) (image request : List ℕ) (readiness : ℕ) (verdict : Verdict) (out : List ℕ) (r r′ : Outcome) (i i′ o o′ : List ℕ)
-    → effect r i o ≡ requestOf self image request readiness verdict out
-    → effect r′ i′ o′ ≡ requestOf self image request readiness verdict out
+pub one-request : (session : Receiver) (image request : List ℕ) (readiness : ℕ) (verdict : Verdict) (out : List ℕ) (r r′ : Outcome) (i i′ o o′ : List ℕ)
+    → effect r i o ≡ requestOf session image request readiness verdict out
+    → effect r′ i′ o′ ≡ requestOf session image request readiness verdict out
     → effect r i o ≡ effect r′ i′ o′
-one-request self image request readiness verdict out r r′ i i′ o o′ p q = only p q
+one-request session image request readiness verdict out r r′ i i′ o o′ p q = only p q
 
-pub one-time : (self : Receiver) (elapsed : ℕ) (out : List ℕ) (r r′ : Outcome) (o o′ : List ℕ) → left r o ≡ timeOf self elapsed out → left r′ o′ ≡ timeOf self elapsed out
+pub one-time : (session : Receiver) (elapsed : ℕ) (out : List ℕ) (r r′ : Outcome) (o o′ : List ℕ) → left r o ≡ timeOf session elapsed out → left r′ o′ ≡ timeOf session elapsed out
     → left r o ≡ left r′ o′
-one-time self elapsed out r r′ o o′ p q = only p q
+one-time session elapsed out r r′ o o′ p q = only p q
 
-pub one-sum : (self : Receiver) (image : List ℕ) (r r′ : Summed) → r ≡ sum.sumOf self image → r′ ≡ sum.sumOf self image → r ≡ r′
-one-sum self image r r′ p q = only p q
+pub one-sum : (session : Receiver) (image : List ℕ) (r r′ : Summed) → r ≡ sumOf session image → r′ ≡ sumOf session image → r ≡ r′
+one-sum session image r r′ p q = only p q
 
-pub one-summed-number : (self : Summed) (r r′ : ℕ) → r ≡ sum.numberOf self → r′ ≡ sum.numberOf self → r ≡ r′
-one-summed-number self r r′ p q = only p q
+pub one-summed-number : (summed : Summed) (r r′ : ℕ) → r ≡ summing.numberOf summed → r′ ≡ summing.numberOf summed → r ≡ r′
+one-summed-number summed r r′ p q = only p q

@@ -1,13 +1,16 @@
 // The receiver's calls: a session's start, and what borrows memory: one request, one time call, the image sum
 // (01, The receiver's phases).
-mod request;
+mod outcome;
+mod request_call;
 mod respond;
-mod session;
+mod start_call;
 mod store;
-mod sum;
-mod time;
+mod sum_call;
+mod time_call;
 
-pub use session::Outcome;
-pub use session::Receiver;
-pub use session::Started;
-pub use sum::Summed;
+pub use request_call::request;
+pub use start_call::start;
+pub use start_call::started_number;
+pub use sum_call::sum;
+pub use sum_call::summed_number;
+pub use time_call::time;

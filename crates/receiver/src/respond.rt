@@ -1,6 +1,7 @@
 // The response that goes out with an answer, in the first bytes of the lent buffer (01, Numbers we answer).
-use receiver_phases::answer::Answer;
-use receiver_phases::answer::Reply;
+use receiver_decide::reply;
+use receiver_state::answer::Answer;
+use receiver_state::answer::Reply;
 use wire::response::Identity;
 use wire::response::Response;
 ghost use mathlib.Core.Path.{_≡_};
@@ -10,16 +11,16 @@ ghost use Rattle.basis.specs.Left.{left};
 ghost use Rattle.wire.specs.Codes.{longest};
 ghost use Rattle.wire.specs.Written.{responseBytes};
 ghost use Rattle.wire.specs.declared.response.Response.the-variants.{Data, Validate};
-ghost use Rattle.receiver_phases.specs.Answer.{replyOf};
+ghost use Rattle.receiver_state.specs.Answer.{replyOf};
 ghost use Rattle.lent.specs.Led.{leads};
-ghost use Rattle.receiver.specs.Respond.{replyBytes};
+ghost use Rattle.receiver_rules.specs.Respond.{replyBytes};
 
 pub(crate) fn respond(out: &mut [u8], identity: Identity, capacity: u32, answer: Answer) -> usize
     requires { ⌜ longest ≤ length (now out) ⌝ }
     ensures { λ r. ⌜ left r (now (out .exit)) ≡ leads (replyBytes (replyOf identity capacity answer)) (now (out .entry)) ⌝ }
 {
-    let reply = answer.reply(identity, capacity);
-    deliver(out, reply)
+    let sends = reply(answer, identity, capacity);
+    deliver(out, sends)
 }
 
 fn deliver(out: &mut [u8], reply: Reply) -> usize

@@ -1,11 +1,11 @@
 // A request's block put into the lent image.
-use receiver_phases::step::Store;
+use receiver_state::step::Store;
 ghost use mathlib.Core.Path.{_≡_};
 ghost use Prim.Native.Nat.{_≤_};
 ghost use lib.ListN.{length, drop};
 ghost use Rattle.wire.specs.Codes.{dataHead};
 ghost use Rattle.image.specs.Blocks.{putBlockOf};
-ghost use Rattle.receiver.specs.Request.{Long, imageOf};
+ghost use Rattle.receiver_rules.specs.Request.{Long, imageOf};
 
 pub(crate) fn apply(image: &mut [u8], request: &[u8], store: Store)
     requires { ⌜ Long store (now request) ⌝ }

@@ -4,14 +4,15 @@ use Prim.Native.Nat.{ℕ, zero, suc, _≤_}
 use mathlib.Core.Bool.{true}
 use mathlib.Core.Path.{_≡_, refl}
 use native.Mathlib.Omega.{arith}
+use Rattle.wire.specs.Codes.{imageSizeMost}
 use Rattle.basis.specs.Flag.{byte-flag, flag-byte, byte-small}
 use Rattle.basis.specs.Pick.{pick}
 use Rattle.silence.specs.Within.{Within}
-use Rattle.receiver_phases.specs.Phase.{acceptedOf}
-use Rattle.receiver_phases.specs.declared.phase.Accepted.{Accepted}
-use Rattle.receiver_phases.specs.declared.phase.Phase.{Phase}
-use Rattle.receiver_phases.specs.declared.phase.Phase.the-variants.{Idle, Transfer, Await, Good}
-use Rattle.receiver.specs.declared.session.Receiver.{Receiver}
+use Rattle.receiver_state.specs.Phase.{acceptedOf}
+use Rattle.receiver_state.specs.declared.phase.Accepted.{Accepted}
+use Rattle.receiver_state.specs.declared.phase.Phase.{Phase}
+use Rattle.receiver_state.specs.declared.phase.Phase.the-variants.{Idle, Transfer, Await, Good}
+use Rattle.receiver_state.specs.declared.session.Receiver.{Receiver}
 use Rattle.receiver_flat.specs.Flat.{codeOf, shortOf, phaseOf, packOf, unpackOf, isSession}
 use Rattle.receiver_flat.specs.Whole.{Standing, Whole}
 use Rattle.receiver_flat.specs.declared.flat.FlatReceiver.{FlatReceiver}
@@ -57,5 +58,5 @@ phase-standing (Await a) = record { phases = omega arith; flag = omega arith; tr
 phase-standing (Good a) = record { phases = omega arith; flag = omega arith; transfer-alone = λ _. refl; idle-empty = λ e. absurd (omega arith) }
 
 -- The numbers of every session with settings and a capacity that a start takes are a session's.
-pub pack-session : (r : Receiver) → Within (r .settings .limit) (r .settings .resends) → r .capacity ≤ 1048575 → isSession (packOf r) ≡ true
+pub pack-session : (r : Receiver) → Within (r .settings .limit) (r .settings .resends) → r .capacity ≤ imageSizeMost → isSession (packOf r) ≡ true
 pack-session r within room = whole-session (packOf r) (record { within = within; room = room; standing = phase-standing (r .phase) })

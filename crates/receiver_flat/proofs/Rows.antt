@@ -4,9 +4,9 @@ use mathlib.Core.Path.{_≡_, refl}
 use mathlib.Core.List.{List, [], _∷_, map}
 use lib.ListN.{replicate}
 use Rattle.wire.specs.declared.response.Identity.{Identity}
-use Rattle.receiver_phases.specs.declared.phase.Accepted.{Accepted}
-use Rattle.receiver_phases.specs.declared.phase.Progress.{Progress}
-use Rattle.receiver_phases.specs.declared.phase.Phase.the-variants.{Idle, Transfer, Await, Good}
+use Rattle.receiver_state.specs.declared.phase.Accepted.{Accepted}
+use Rattle.receiver_state.specs.declared.phase.Progress.{Progress}
+use Rattle.receiver_state.specs.declared.phase.Phase.the-variants.{Idle, Transfer, Await, Good}
 use Rattle.receiver_flat.specs.Flat.{codeOf, none}
 use Rattle.receiver_flat.specs.declared.flat.FlatReceiver.{FlatReceiver}
 

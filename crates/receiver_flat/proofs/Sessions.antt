@@ -12,11 +12,13 @@ use Rattle.silence.specs.declared.Checked.{Checked}
 use Rattle.silence.specs.declared.Checked.the-variants as Che
 use Rattle.silence.proofs.Laws.{made-within}
 use Rattle.wire.specs.declared.response.Identity.{Identity}
-use Rattle.receiver_phases.specs.declared.phase.Accepted.{Accepted}
-use Rattle.receiver.specs.Session.{capacityMost, freshOf, startOf, numberOf}
-use Rattle.receiver.specs.declared.session.Started.{Started}
-use Rattle.receiver.specs.declared.session.Started.the-variants as Sta
-use Rattle.receiver.proofs.SessionLaws.{start-made}
+use Rattle.receiver_state.specs.declared.phase.Accepted.{Accepted}
+use Rattle.wire.specs.Codes.{imageSizeMost}
+use Rattle.receiver_rules.specs.Session.{freshOf, startOf}
+use Rattle.receiver_state.specs.Session.{numberOf}
+use Rattle.receiver_state.specs.declared.session.Started.{Started}
+use Rattle.receiver_state.specs.declared.session.Started.the-variants as Sta
+use Rattle.receiver_rules.proofs.Beginning.{start-made}
 use Rattle.receiver_flat.specs.Flat.{standsOf, isSession, none}
 use Rattle.receiver_flat.specs.Whole.{Standing, Whole}
 use Rattle.receiver_flat.specs.declared.flat.FlatReceiver.{FlatReceiver}
@@ -28,12 +30,12 @@ module _ (limit resends : ℕ) (identity : Identity) (capacity : ℕ) where
   fresh-within Che.Refused p e = absurd (omega arith)
 
   -- What a start takes is within the limits.
-  pub taken-within : numberOf (startOf limit resends identity capacity) ≡ 0 → Within limit resends × (capacity ≤ 1048575)
+  pub taken-within : numberOf (startOf limit resends identity capacity) ≡ 0 → Within limit resends × (capacity ≤ imageSizeMost)
   unfolding startOf
   taken-within =
-      pick-all (λ (x : Started). numberOf x ≡ 0 → Within limit resends × (capacity ≤ 1048575)) (ltb capacityMost capacity) _ _
+      pick-all (λ (x : Started). numberOf x ≡ 0 → Within limit resends × (capacity ≤ imageSizeMost)) (ltb imageSizeMost capacity) _ _
       (λ _ e. absurd (omega arith))
-      (λ t e. (fresh-within (silent.settingsOf limit resends) refl e, ltb-false capacityMost capacity t))
+      (λ t e. (fresh-within (silent.settingsOf limit resends) refl e, ltb-false imageSizeMost capacity t))
 
 module _ (code : ℕ) (accepted : Accepted) (short : ℕ) where
   stands-standing : standsOf code accepted short ≡ true → Standing code accepted short

@@ -3,8 +3,8 @@ use Prim.Native.Nat.{ℕ}
 use mathlib.Core.Bool.{Bool}
 use mathlib.Core.Path.{_≡_}
 use Rattle.basis.specs.Only.{only}
-use Rattle.receiver_phases.specs.declared.verdict.Verdict.{Verdict}
-use Rattle.receiver.specs.declared.session.Receiver.{Receiver}
+use Rattle.receiver_state.specs.declared.verdict.Verdict.{Verdict}
+use Rattle.receiver_state.specs.declared.session.Receiver.{Receiver}
 use Rattle.receiver_flat.specs.Flat.{packOf, unpackOf, isSession, none}
 use Rattle.receiver_flat.specs.Verdict.{verdictOf}
 use Rattle.receiver_flat.specs.declared.flat.FlatReceiver.{FlatReceiver}

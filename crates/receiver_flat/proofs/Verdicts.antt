@@ -5,7 +5,7 @@ use mathlib.Core.Path.{_≡_, refl}
 use borrow.Author.Tests.{ne-eqb}
 use lib.Dec.{ltb}
 use Rattle.basis.specs.Pick.{pick, pick-all, tests}
-use Rattle.receiver_phases.specs.declared.verdict.Verdict.the-variants.{Good, Bad, Later}
+use Rattle.receiver_state.specs.declared.verdict.Verdict.the-variants.{Good, Bad, Later}
 use Rattle.receiver_rules.specs.Range.{waitMost, laterOutside, verdictOutside, outOfRange}
 use Rattle.receiver_flat.specs.Verdict.{verdictOf}
 

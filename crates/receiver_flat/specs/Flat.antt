@@ -6,12 +6,13 @@ use Rattle.basis.specs.Flag.{byteOf}
 use Rattle.basis.specs.Pick.{pick}
 use Rattle.silence.specs.declared.Settings.{Settings}
 use Rattle.wire.specs.declared.response.Identity.{Identity}
-use Rattle.receiver_phases.specs.Phase.{nothing, acceptedOf}
-use Rattle.receiver_phases.specs.declared.phase.Accepted.{Accepted}
-use Rattle.receiver_phases.specs.declared.phase.Phase.{Phase}
-use Rattle.receiver_phases.specs.declared.phase.Phase.the-variants.{Idle, Transfer, Await, Good}
-use Rattle.receiver.specs.Session.{startOf, numberOf}
-use Rattle.receiver.specs.declared.session.Receiver.{Receiver}
+use Rattle.receiver_state.specs.Phase.{nothing, acceptedOf}
+use Rattle.receiver_state.specs.declared.phase.Accepted.{Accepted}
+use Rattle.receiver_state.specs.declared.phase.Phase.{Phase}
+use Rattle.receiver_state.specs.declared.phase.Phase.the-variants.{Idle, Transfer, Await, Good}
+use Rattle.receiver_rules.specs.Session.{startOf}
+use Rattle.receiver_state.specs.Session.{numberOf}
+use Rattle.receiver_state.specs.declared.session.Receiver.{Receiver}
 use Rattle.receiver_flat.specs.declared.flat.FlatReceiver.{FlatReceiver}
 use Rattle.receiver_flat.specs.declared.pack.Place.{Place}
 

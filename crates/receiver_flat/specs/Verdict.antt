@@ -2,8 +2,8 @@
 use Prim.Native.Nat.{ℕ}
 use lib.Dec.{eqb}
 use Rattle.basis.specs.Pick.{pick}
-use Rattle.receiver_phases.specs.declared.verdict.Verdict.{Verdict}
-use Rattle.receiver_phases.specs.declared.verdict.Verdict.the-variants.{Good, Bad, Later}
+use Rattle.receiver_state.specs.declared.verdict.Verdict.{Verdict}
+use Rattle.receiver_state.specs.declared.verdict.Verdict.the-variants.{Good, Bad, Later}
 
 unfoldable pub verdictOf : ℕ → ℕ → Verdict
 verdictOf code later = pick (eqb code 1) Good (pick (eqb code 2) Bad (pick (eqb code 3) (Later later) (Later 0)))

@@ -1,8 +1,9 @@
 -- Which numbers are a session's, in the paper's own numbers (include/harsolvek.h; 01, Sizes and numbers; 01, The receiver's phases).
 use Prim.Native.Nat.{ℕ, _≤_}
 use mathlib.Core.Path.{_≡_}
+use Rattle.wire.specs.Codes.{imageSizeMost}
 use Rattle.silence.specs.Within.{Within}
-use Rattle.receiver_phases.specs.declared.phase.Accepted.{Accepted}
+use Rattle.receiver_state.specs.declared.phase.Accepted.{Accepted}
 use Rattle.receiver_flat.specs.declared.flat.FlatReceiver.{FlatReceiver}
 
 -- Idle 0, Transfer 1, Await 2, Good 3: a flag in Transfer alone, no counts in Idle.
@@ -14,5 +15,5 @@ pub record Standing (phase : ℕ) (accepted : Accepted) (short : ℕ) : Type 0 w
 
 pub record Whole (f : FlatReceiver) : Type 0 where
   pub within : Within (f .settings .limit) (f .settings .resends)
-  pub room : f .capacity ≤ 1048575
+  pub room : f .capacity ≤ imageSizeMost
   pub standing : Standing (f .phase) (f .accepted) (f .«last_short»)

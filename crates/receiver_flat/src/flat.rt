@@ -1,5 +1,5 @@
 // The numbers of a session, in the order of include/harsolvek.h.
-use receiver_phases::phase::Accepted;
+use receiver_state::phase::Accepted;
 use silence::Settings;
 use wire::request::Versions;
 use wire::response::Identity;
@@ -37,7 +37,7 @@ impl FlatReceiver {
             resends: 0,
         };
         let identity = blank();
-        let accepted = Accepted::nothing();
+        let accepted = receiver_decide::nothing_accepted();
         FlatReceiver {
             settings,
             identity,

@@ -1,9 +1,9 @@
 // A session as its numbers.
 use crate::flat;
 use crate::flat::FlatReceiver;
-use receiver::Receiver;
-use receiver_phases::phase::Accepted;
-use receiver_phases::phase::Phase;
+use receiver_state::phase::Accepted;
+use receiver_state::phase::Phase;
+use receiver_state::session::Receiver;
 ghost use mathlib.Core.Path.{_≡_};
 ghost use Rattle.receiver_flat.specs.Flat.{place, placeOf, packOf};
 
@@ -51,7 +51,7 @@ impl Place {
         ensures { λ r. ⌜ r ≡ placeOf phase ⌝ }
     {
         match phase {
-            Phase::Idle => Place::new(flat::IDLE, Accepted::nothing(), 0),
+            Phase::Idle => Place::new(flat::IDLE, receiver_decide::nothing_accepted(), 0),
             Phase::Transfer(p) => Place::new(flat::TRANSFER, p.accepted, p.short as u8),
             Phase::Await(a) => Place::new(flat::AWAIT, a, 0),
             Phase::Good(a) => Place::new(flat::GOOD, a, 0),

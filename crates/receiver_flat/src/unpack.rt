@@ -2,10 +2,10 @@
 // capacity, in a phase.
 use crate::flat;
 use crate::flat::FlatReceiver;
-use receiver::Receiver;
-use receiver_phases::phase::Accepted;
-use receiver_phases::phase::Phase;
-use receiver_phases::phase::Progress;
+use receiver_state::phase::Accepted;
+use receiver_state::phase::Phase;
+use receiver_state::phase::Progress;
+use receiver_state::session::Receiver;
 ghost use mathlib.Core.Path.{_≡_};
 ghost use Rattle.receiver_flat.specs.Flat.{phaseOf, unpackOf, standsOf, isSession};
 
@@ -33,13 +33,13 @@ impl FlatReceiver {
         let settings = self.settings;
         let identity = self.identity;
         let accepted = self.accepted;
-        let started = Receiver::new(
+        let started = receiver::start(
             settings.limit,
             settings.resends,
             identity,
             self.capacity as usize,
         );
-        if started.number() != 0 {
+        if receiver::started_number(started) != 0 {
             return false;
         }
         stands(self.phase, accepted, self.last_short)

@@ -1,6 +1,6 @@
 // The verdict that a code says: 1 good, 2 bad, 3 later. Any other is a later verdict without a wait, which is refused (26); 0 among them,
 // so that a verdict that was forgotten is never a good one.
-use receiver_phases::verdict::Verdict;
+use receiver_state::verdict::Verdict;
 ghost use mathlib.Core.Path.{_≡_};
 ghost use Rattle.receiver_flat.specs.Verdict.{verdictOf};
 

@@ -7,16 +7,16 @@ use Rattle.silence.proofs.Laws.{below-quiet, left-resends, none-left-ends, one-
 use Rattle.silence.specs.declared.Settings.{Settings}
 use Rattle.silence.specs.declared.Event.{Event}
 use Rattle.silence.specs.declared.Event.the-variants.{Quiet, Resend, NoneLeft}
-use Rattle.receiver_phases.proofs.Truth.{Tells}
-use Rattle.receiver_phases.specs.Answer.{numberOf}
-use Rattle.receiver_phases.specs.declared.answer.Answer.{Answer}
-use Rattle.receiver_phases.specs.declared.answer.Answer.the-variants.{Asking, Closed, Passed}
-use Rattle.receiver_rules.specs.Time.{after, expireOf, waitOf, passOf}
-use Rattle.receiver_phases.specs.declared.phase.Accepted.{Accepted}
-use Rattle.receiver_phases.specs.declared.phase.Progress.{Progress}
-use Rattle.receiver_phases.specs.declared.phase.Phase.{Phase}
-use Rattle.receiver_phases.specs.declared.phase.Phase.the-variants.{Idle, Transfer, Await, Good}
-use Rattle.receiver_phases.specs.declared.step.Tick.{Tick}
+use Rattle.receiver_state.proofs.Truth.{Tells}
+use Rattle.receiver_state.specs.Answer.{numberOf}
+use Rattle.receiver_state.specs.declared.answer.Answer.{Answer}
+use Rattle.receiver_state.specs.declared.answer.Answer.the-variants.{Asking, Closed, Passed}
+use Rattle.receiver_rules.specs.Pass.{after, expireOf, waitOf, passOf}
+use Rattle.receiver_state.specs.declared.phase.Accepted.{Accepted}
+use Rattle.receiver_state.specs.declared.phase.Progress.{Progress}
+use Rattle.receiver_state.specs.declared.phase.Phase.{Phase}
+use Rattle.receiver_state.specs.declared.phase.Phase.the-variants.{Idle, Transfer, Await, Good}
+use Rattle.receiver_state.specs.declared.step.Tick.{Tick}
 
 module _ (silence elapsed made : ℕ) (settings : Settings) where
   abbrev then : Phase → Tick

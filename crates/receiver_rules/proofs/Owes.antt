@@ -8,19 +8,19 @@ use lib.Dec.{ltb, eqb}
 use Rattle.basis.specs.Pick.{pick-all, When}
 use Rattle.wire.specs.declared.request.Request.{Request}
 use Rattle.wire.specs.declared.request.Request.the-variants as Req
-use Rattle.receiver_phases.specs.Answer.{numberOf}
-use Rattle.receiver_phases.specs.Phase.{accepts}
-use Rattle.receiver_phases.proofs.Truth.{Tells}
-use Rattle.receiver_rules.specs.Request.{progress, offerOf, againOf, initiateOf, passesCapacity, closeOf, takeOf, transferOf, dataOf, judgeOf, validateOf, abortOf, decideOf}
-use Rattle.receiver_phases.specs.declared.phase.Accepted.{Accepted}
-use Rattle.receiver_phases.specs.declared.phase.Progress.{Progress}
-use Rattle.receiver_phases.specs.declared.phase.Phase.{Phase}
-use Rattle.receiver_phases.specs.declared.phase.Phase.the-variants.{Idle, Transfer, Await, Good}
-use Rattle.receiver_phases.specs.declared.verdict.Verdict.{Verdict}
-use Rattle.receiver_phases.specs.declared.verdict.Verdict.the-variants as Ver
-use Rattle.receiver_phases.specs.declared.step.Store.{Store}
-use Rattle.receiver_phases.specs.declared.step.Store.the-variants.{Nowhere, At}
-use Rattle.receiver_phases.specs.declared.step.Step.{Step}
+use Rattle.receiver_state.specs.Answer.{numberOf}
+use Rattle.receiver_state.specs.Phase.{accepts}
+use Rattle.receiver_state.proofs.Truth.{Tells}
+use Rattle.receiver_rules.specs.Decide.{progress, offerOf, againOf, initiateOf, passesCapacity, closeOf, takeOf, transferOf, dataOf, judgeOf, validateOf, abortOf, decideOf}
+use Rattle.receiver_state.specs.declared.phase.Accepted.{Accepted}
+use Rattle.receiver_state.specs.declared.phase.Progress.{Progress}
+use Rattle.receiver_state.specs.declared.phase.Phase.{Phase}
+use Rattle.receiver_state.specs.declared.phase.Phase.the-variants.{Idle, Transfer, Await, Good}
+use Rattle.receiver_state.specs.declared.verdict.Verdict.{Verdict}
+use Rattle.receiver_state.specs.declared.verdict.Verdict.the-variants as Ver
+use Rattle.receiver_state.specs.declared.step.Store.{Store}
+use Rattle.receiver_state.specs.declared.step.Store.the-variants.{Nowhere, At}
+use Rattle.receiver_state.specs.declared.step.Step.{Step}
 use Rattle.receiver_rules.proofs.Within.{within}
 
 -- 01, Numbers we answer: "kept" (20, 26, 27, 28), "phase kept" and "image kept" (21, 22), "Idle" (23, 24, 25)

@@ -7,7 +7,7 @@ use borrow.Author.Tests.{lt-ltb, le-ltb, ltb-true, ltb-false}
 use lib.Dec.{ltb}
 use Rattle.basis.specs.Pick.{pick-all}
 use Rattle.image.specs.Blocks.{passesOf}
-use Rattle.receiver_rules.specs.Request.{lastNumber, passesCapacity}
+use Rattle.receiver_rules.specs.Decide.{lastNumber, passesCapacity}
 
 pub within : (number size capacity : ℕ) → passesCapacity number size capacity ≡ false → (number ≤ lastNumber) × (256 * number + size ≤ capacity)
 unfolding passesCapacity passesOf

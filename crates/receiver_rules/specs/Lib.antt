@@ -1,3 +1,9 @@
 pub mod Range
+pub mod Decide
+pub mod Pass
+pub mod Session
+pub mod Respond
 pub mod Request
 pub mod Time
+pub mod Sum
+pub mod History

@@ -3,8 +3,8 @@ use Prim.Native.Nat.{ℕ}
 use mathlib.Core.Bool.{Bool, true, false}
 use lib.Dec.{ltb, eqb}
 use Rattle.basis.specs.Pick.{pick}
-use Rattle.receiver_phases.specs.declared.verdict.Verdict.{Verdict}
-use Rattle.receiver_phases.specs.declared.verdict.Verdict.the-variants.{Good, Bad, Later}
+use Rattle.receiver_state.specs.declared.verdict.Verdict.{Verdict}
+use Rattle.receiver_state.specs.declared.verdict.Verdict.the-variants.{Good, Bad, Later}
 
 abbrev pub waitMost : ℕ
 waitMost = 254

@@ -1,104 +1,69 @@
--- What the receiver does with a well-formed request, by its phase: a definition for each row (01, The receiver's phases).
-use Prim.Native.Nat.{ℕ, _+_}
-use mathlib.Core.Bool.{Bool, true, false}
+-- What one request does: everything that the call returns and leaves, for every session, image, request, readiness, verdict and buffer.
+use Prim.Native.Nat.{ℕ, _≤_}
+use mathlib.Core.List.{List}
 use lib.Dec.{ltb, eqb}
+use lib.ListN.{length, drop}
 use Rattle.basis.specs.Pick.{pick}
-use Rattle.image.specs.Blocks.{blockSize, placeOf, passesOf}
-use Rattle.wire.specs.declared.request.Request.{Request}
-use Rattle.wire.specs.declared.request.Request.the-variants as Req
-use Rattle.receiver_phases.specs.Phase.{accepts, nothing}
-use Rattle.receiver_phases.specs.declared.phase.Accepted.{Accepted}
-use Rattle.receiver_phases.specs.declared.phase.Progress.{Progress}
-use Rattle.receiver_phases.specs.declared.phase.Phase.{Phase}
-use Rattle.receiver_phases.specs.declared.phase.Phase.the-variants.{Idle, Transfer, Await, Good}
-use Rattle.receiver_phases.specs.declared.verdict.Verdict.{Verdict}
-use Rattle.receiver_phases.specs.declared.verdict.Verdict.the-variants as Ver
-use Rattle.receiver_phases.specs.declared.answer.Answer.{Answer}
-use Rattle.receiver_phases.specs.declared.answer.Answer.the-variants.{Identified, Offered, Asking, Closed, Success, Later, Aborted, UnexpectedInitiate, UnexpectedData, UnexpectedValidate, Unexpected, NotDue, PassesCapacity, WrongFile, VerdictBad}
-use Rattle.receiver_phases.specs.declared.step.Store.the-variants.{Nowhere, At}
-use Rattle.receiver_phases.specs.declared.step.Step.{Step}
+use Rattle.lent.specs.Led.{led}
+use Rattle.image.specs.Blocks.{putBlockOf}
+use Rattle.wire.specs.Codes.{longest, dataHead}
+use Rattle.wire.specs.Request as message
+use Rattle.wire.specs.declared.request.Parsed.{Parsed}
+use Rattle.wire.specs.declared.request.Parsed.the-variants as Par
+use Rattle.receiver_rules.specs.Range.{outOfRange}
+use Rattle.receiver_rules.specs.Decide.{decideOf}
+use Rattle.receiver_state.specs.declared.verdict.Verdict.{Verdict}
+use Rattle.receiver_state.specs.declared.answer.Answer.{Answer}
+use Rattle.receiver_state.specs.declared.answer.Answer.the-variants.{Malformed, OutOfRange, BufferShort, ImageLength}
+use Rattle.receiver_state.specs.declared.step.Store.{Store}
+use Rattle.receiver_state.specs.declared.step.Store.the-variants.{Nowhere, At}
+use Rattle.receiver_state.specs.declared.step.Step.{Step}
+use Rattle.receiver_rules.specs.Session.{ends, moved}
+use Rattle.receiver_rules.specs.Respond.{bytesOf}
+use Rattle.receiver_state.specs.declared.session.Receiver.{Receiver}
+use Rattle.receiver_state.specs.declared.session.Outcome.{Outcome}
 
-abbrev pub to : Phase → Answer → Step
-to phase answer = record { phase = phase; answer = answer; store = Nowhere }
+-- The outcome, the image and the output buffer.
+pub record Effect : Type 0 where
+  pub outcome : Outcome
+  pub image : List ℕ
+  pub out : List ℕ
 
-abbrev pub progress : Accepted → Bool → Progress
-progress accepted short = record { accepted = accepted; short = short }
+abbrev pub effect : Outcome → List ℕ → List ℕ → Effect
+effect outcome image out = record { outcome = outcome; image = image; out = out }
 
--- INITIATE. Readiness 0: ready, phase Transfer with nothing accepted. Above 0: that wait, phase kept.
-unfoldable pub offerOf : Phase → ℕ → Step
-offerOf phase readiness =
-    pick (eqb readiness 0) (to (Transfer (progress nothing false)) (Offered 0))
-    (to phase (Offered readiness))
+-- Kept: nothing changes.
+abbrev pub kept : Receiver → Answer → List ℕ → List ℕ → Effect
+kept r answer image out = effect (ends r answer 0) image out
 
--- .. in Transfer only with nothing accepted
-unfoldable pub againOf : Progress → ℕ → Step
-againOf p readiness = pick (eqb (p .accepted .blocks) 0) (offerOf (Transfer p) readiness) (to (Transfer p) UnexpectedInitiate)
+-- The block is the part of the request from its fifth byte.
+unfoldable pub imageOf : Store → List ℕ → List ℕ → List ℕ
+imageOf Nowhere image request = image
+imageOf (At number) image request = putBlockOf image number (drop dataHead request) .memory
 
-unfoldable pub initiateOf : Phase → ℕ → Step
-initiateOf Idle readiness = offerOf Idle readiness
-initiateOf (Transfer p) readiness = againOf p readiness
-initiateOf (Await a) readiness = to (Await a) UnexpectedInitiate
-initiateOf (Good a) readiness = to (Good a) UnexpectedInitiate
+-- A request whose block is put somewhere has one.
+abbrev pub Long : Store → List ℕ → Type 0
+Long Nowhere request = Unit
+Long (At number) request = dataHead ≤ length request
 
--- An image of 1,048,575 bytes has no block above this number.
-abbrev pub lastNumber : ℕ
-lastNumber = 4095
+-- A well-formed request sets silence and resends to zero.
+abbrev pub doneOf : Receiver → Step → List ℕ → List ℕ → List ℕ → Effect
+doneOf r step image request out =
+    effect (ends (moved r (step .phase) 0 0) (step .answer) (length (bytesOf r (step .answer))))
+    (imageOf (step .store) image request)
+    (led (bytesOf r (step .answer)) out)
 
--- 23. A block that no image has passes every capacity.
-unfoldable pub passesCapacity : ℕ → ℕ → ℕ → Bool
-passesCapacity number size capacity = pick (ltb lastNumber number) true (passesOf number size capacity)
+-- 20, and then what the request asks for
+unfoldable pub readOf : Receiver → Parsed → List ℕ → List ℕ → ℕ → Verdict → List ℕ → Effect
+readOf r Par.Malformed image request readiness verdict out = kept r Malformed image out
+readOf r (Par.Valid valid) image request readiness verdict out =
+    doneOf r (decideOf (r .phase) valid (r .capacity) readiness verdict) image request out
 
--- The empty block: 24 with none accepted, else phase Await and the closing answer.
-unfoldable pub closeOf : Accepted → Step
-closeOf accepted = pick (eqb (accepted .blocks) 0) (to Idle WrongFile) (to (Await accepted) (Closed (accepted .blocks)))
-
--- A block that is taken: put at 256 × number, counted, answered with the readiness wait, asking for the next number.
-unfoldable pub takeOf : ℕ → ℕ → ℕ → Step
-takeOf number size readiness = record {
-  phase = Transfer (progress (accepts (number + 1) (placeOf number + size)) (ltb size blockSize));
-  answer = Asking readiness (number + 1);
-  store = At number;
-}
-
--- DATA in Transfer: 22, 24, 23, or taken.
-unfoldable pub transferOf : Progress → ℕ → ℕ → ℕ → ℕ → Step
-transferOf p number size capacity readiness =
-    pick (eqb number (p .accepted .blocks))
-    (pick (eqb size 0) (closeOf (p .accepted))
-    (pick (p .short) (to Idle WrongFile)
-    (pick (passesCapacity number size capacity) (to Idle PassesCapacity)
-    (takeOf number size readiness))))
-    (to (Transfer p) (NotDue (p .accepted .blocks)))
-
-unfoldable pub dataOf : Phase → ℕ → ℕ → ℕ → ℕ → Step
-dataOf Idle number size capacity readiness = to Idle UnexpectedData
-dataOf (Transfer p) number size capacity readiness = transferOf p number size capacity readiness
-dataOf (Await a) number size capacity readiness = to (Await a) (Closed (a .blocks))
-dataOf (Good a) number size capacity readiness = to (Good a) UnexpectedData
-
--- VALIDATE in Await
-unfoldable pub judgeOf : Accepted → Verdict → Step
-judgeOf accepted Ver.Good = to (Good accepted) Success
-judgeOf accepted Ver.Bad = to Idle VerdictBad
-judgeOf accepted (Ver.Later wait) = to (Await accepted) (Later wait)
-
-unfoldable pub validateOf : Phase → Verdict → Step
-validateOf Idle verdict = to Idle UnexpectedValidate
-validateOf (Transfer p) verdict = to (Transfer p) UnexpectedValidate
-validateOf (Await a) verdict = judgeOf a verdict
-validateOf (Good a) verdict = to (Good a) Success
-
-unfoldable pub abortOf : Phase → Step
-abortOf Idle = to Idle Unexpected
-abortOf (Transfer p) = to Idle Aborted
-abortOf (Await a) = to Idle Aborted
-abortOf (Good a) = to (Good a) Unexpected
-
--- DATA_NR, DATA_PAUSE and VENDOR_SPECIFIC: 21 in every phase (01, The parts of the cable job).
-unfoldable pub decideOf : Phase → Request → ℕ → ℕ → Verdict → Step
-decideOf phase Req.GetFwId capacity readiness verdict = to phase Identified
-decideOf phase (Req.Initiate versions) capacity readiness verdict = initiateOf phase readiness
-decideOf phase (Req.Data number size) capacity readiness verdict = dataOf phase number size capacity readiness
-decideOf phase Req.Validate capacity readiness verdict = validateOf phase verdict
-decideOf phase Req.Abort capacity readiness verdict = abortOf phase
-decideOf phase Req.NotBuilt capacity readiness verdict = to phase Unexpected
+-- 28, 27, 26, 20, and then what the request asks for
+unfoldable pub requestOf : Receiver → List ℕ → List ℕ → ℕ → Verdict → List ℕ → Effect
+requestOf r image request readiness verdict out =
+    pick (eqb (length image) (r .capacity))
+    (pick (ltb (length out) longest) (kept r BufferShort image out)
+    (pick (outOfRange readiness verdict) (kept r OutOfRange image out)
+    (readOf r (message.requestOf request) image request readiness verdict out)))
+    (kept r ImageLength image out)

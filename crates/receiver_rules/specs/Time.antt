@@ -1,35 +1,28 @@
--- Time: in Transfer and Await, silence grows. At the limit, while resends are left, a DATA response is sent; with none left: Idle
--- (01, The receiver's phases).
+-- What one time call does: the outcome and the output buffer, for every session, elapsed time and buffer.
 use Prim.Native.Nat.{ℕ}
-use Rattle.silence.specs.Expiry.{grownOf}
-use Rattle.silence.specs.declared.Settings.{Settings}
-use Rattle.silence.specs.declared.Grown.{Grown}
-use Rattle.silence.specs.declared.Event.{Event}
-use Rattle.silence.specs.declared.Event.the-variants.{Quiet, Resend, NoneLeft}
-use Rattle.receiver_phases.specs.declared.phase.Phase.{Phase}
-use Rattle.receiver_phases.specs.declared.phase.Phase.the-variants.{Idle, Transfer, Await, Good}
-use Rattle.receiver_phases.specs.declared.answer.Answer.{Answer}
-use Rattle.receiver_phases.specs.declared.answer.Answer.the-variants.{Asking, Closed, Passed}
-use Rattle.receiver_phases.specs.declared.step.Tick.{Tick}
+use mathlib.Core.List.{List}
+use lib.Dec.{ltb}
+use lib.ListN.{length}
+use Rattle.basis.specs.Pick.{pick}
+use Rattle.basis.specs.Left.{Left, left}
+use Rattle.lent.specs.Led.{led}
+use Rattle.wire.specs.Codes.{longest}
+use Rattle.receiver_rules.specs.Pass.{passOf}
+use Rattle.receiver_state.specs.declared.answer.Answer.the-variants.{BufferShort}
+use Rattle.receiver_state.specs.declared.step.Tick.{Tick}
+use Rattle.receiver_rules.specs.Session.{ends, moved}
+use Rattle.receiver_rules.specs.Respond.{bytesOf}
+use Rattle.receiver_state.specs.declared.session.Receiver.{Receiver}
+use Rattle.receiver_state.specs.declared.session.Outcome.{Outcome}
 
-abbrev pub after : Phase → ℕ → ℕ → Answer → Tick
-after phase silence resends answer = record { phase = phase; silence = silence; resends = resends; answer = answer }
+abbrev pub tickedOf : Receiver → Tick → List ℕ → Left Outcome
+tickedOf r tick out =
+    left (ends (moved r (tick .phase) (tick .silence) (tick .resends)) (tick .answer) (length (bytesOf r (tick .answer))))
+    (led (bytesOf r (tick .answer)) out)
 
--- `again` is what a resend sends.
-unfoldable pub expireOf : Phase → Answer → ℕ → ℕ → Event → Tick
-expireOf phase again silence resends Quiet = after phase silence resends Passed
-expireOf phase again silence resends Resend = after phase silence resends again
-expireOf phase again silence resends NoneLeft = after Idle silence resends Passed
+unfoldable pub spendOf : Receiver → ℕ → List ℕ → Left Outcome
+spendOf r elapsed out = tickedOf r (passOf (r .phase) (r .silence) elapsed (r .resends) (r .settings)) out
 
-abbrev expiredOf : Phase → Answer → Grown → Tick
-expiredOf phase again grown = expireOf phase again (grown .silence) (grown .resends) (grown .event)
-
-unfoldable pub waitOf : Phase → Answer → ℕ → ℕ → ℕ → Settings → Tick
-waitOf phase again silence elapsed made settings = expiredOf phase again (grownOf silence elapsed made settings)
-
--- Transfer asks for the next number with wait 0, Await repeats the closing answer; in Idle and Good nothing changes.
-unfoldable pub passOf : Phase → ℕ → ℕ → ℕ → Settings → Tick
-passOf Idle silence elapsed made settings = after Idle silence made Passed
-passOf (Transfer p) silence elapsed made settings = waitOf (Transfer p) (Asking 0 (p .accepted .blocks)) silence elapsed made settings
-passOf (Await a) silence elapsed made settings = waitOf (Await a) (Closed (a .blocks)) silence elapsed made settings
-passOf (Good a) silence elapsed made settings = after (Good a) silence made Passed
+-- 27, and then what time does
+unfoldable pub timeOf : Receiver → ℕ → List ℕ → Left Outcome
+timeOf r elapsed out = pick (ltb (length out) longest) (left (ends r BufferShort 0) out) (spendOf r elapsed out)

@@ -9,10 +9,10 @@ use lib.ListN.{length, take, drop, length-drop}
 use lib.Seq.{take-add, length-take-le, take-at, take-nil}
 use Rattle.basis.specs.Left.{left}
 use Rattle.lent.specs.Led.{led}
-use Rattle.lines.specs.Line.{longest}
+use Rattle.printing.specs.Line.{longest}
 use Rattle.recording.specs.Apart.{apartOf}
 use Rattle.recording.specs.declared.reader.Ending.the-variants.{Whole, Cut, UnknownKind}
-use Rattle.mailbox.specs.declared.state.Mailbox.{Mailbox}
+use Rattle.mailbox_state.specs.declared.state.Mailbox.{Mailbox}
 use Rattle.playing.specs.Part.{partOf, playOf}
 use Rattle.playing.proofs.PartLaws.{play-state, play-taken, play-stop, NotFull, never-full, Leaves, part-leaves}
 use Rattle.playing.specs.declared.part.Stop.{Stop}

@@ -7,7 +7,7 @@ use lib.ListN.{take, drop}
 use Rattle.recording.specs.Apart.{apartOf}
 use Rattle.recording.specs.declared.reader.Ending.{Ending}
 use Rattle.recording.specs.declared.reader.Ending.the-variants.{Whole, Cut, UnknownKind}
-use Rattle.mailbox.specs.declared.state.Mailbox.{Mailbox}
+use Rattle.mailbox_state.specs.declared.state.Mailbox.{Mailbox}
 use Rattle.playing.specs.Replay.{begun}
 use Rattle.playing.specs.Part.{partOf}
 use Rattle.playing.specs.declared.part.Stop.{Stop}

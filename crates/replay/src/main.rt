@@ -6,7 +6,7 @@ mod say;
 use progress::Progress;
 ghost use Prim.Native.Nat.{_*_, _<_, _≤_};
 ghost use lib.ListN.{length};
-ghost use Rattle.lines.specs.Line.{longest};
+ghost use Rattle.printing.specs.Line.{longest};
 ghost use Rattle.replay.specs.Held.{heldMost};
 
 // As much as is read at once.

@@ -2,14 +2,14 @@
 use crate::buffer;
 use crate::say;
 use libc::STDIN_FILENO;
-use mailbox::Mailbox;
+use mailbox_state::state::Mailbox;
 use playing::Stop;
 use recording::Ending;
 ghost use mathlib.Core.Bool.{true, false};
 ghost use mathlib.Core.Path.{_≡_};
 ghost use Prim.Native.Nat.{_*_, _<_, _≤_};
 ghost use lib.ListN.{length, take};
-ghost use Rattle.lines.specs.Line.{longest};
+ghost use Rattle.printing.specs.Line.{longest};
 ghost use Rattle.replay.specs.Held.{begins, heldMost, Carried, Onward, unknownKind, unknownOf};
 
 // The first `held` bytes of the buffer are not played yet, and `stop` says why.

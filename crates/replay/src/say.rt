@@ -1,8 +1,8 @@
 // What goes to standard output. A write that fails is told on standard error.
 use libc::STDOUT_FILENO;
-use lines::Line;
+use printing::Line;
 ghost use Prim.Native.Nat.{_≤_};
-ghost use Rattle.lines.specs.Line.{longest};
+ghost use Rattle.printing.specs.Line.{longest};
 
 pub(crate) fn text(text: &[u8]) -> bool {
     let is_written = io::write_all(STDOUT_FILENO, text);

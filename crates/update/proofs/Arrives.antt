@@ -12,20 +12,20 @@ use Rattle.basis.specs.Pick.{pick, pick-all}
 use Rattle.basis.specs.Left.{Left, left}
 use Rattle.lent.specs.Led.{led}
 use Rattle.lent.specs.Sent.{withSent}
-use Rattle.receiver_phases.specs.Phase.{acceptedOf}
-use Rattle.receiver_phases.specs.declared.phase.Phase.{Phase}
-use Rattle.receiver_phases.specs.declared.verdict.Verdict.the-variants.{Good}
-use Rattle.receiver.specs.Request.{requestOf}
-use Rattle.receiver.specs.Respond.{bytesOf as receiverBytesOf}
-use Rattle.receiver.specs.Time.{timeOf as receiverTimeOf}
-use Rattle.receiver.specs.declared.session.Outcome.{Outcome as ReceiverOutcome}
-use Rattle.receiver.proofs.Written as receiver
-use Rattle.indoor_phases.specs.declared.phase.Phase.the-variants.{Done}
-use Rattle.indoor.specs.Response.{responseOf}
-use Rattle.indoor.specs.Send.{bytesOf as indoorBytesOf}
-use Rattle.indoor.specs.Time.{timeOf as indoorTimeOf}
-use Rattle.indoor.specs.declared.session.Outcome.{Outcome as IndoorOutcome}
-use Rattle.indoor.proofs.Written as indoor
+use Rattle.receiver_state.specs.Phase.{acceptedOf}
+use Rattle.receiver_state.specs.declared.phase.Phase.{Phase}
+use Rattle.receiver_state.specs.declared.verdict.Verdict.the-variants.{Good}
+use Rattle.receiver_rules.specs.Request.{requestOf}
+use Rattle.receiver_rules.specs.Respond.{bytesOf as receiverBytesOf}
+use Rattle.receiver_rules.specs.Time.{timeOf as receiverTimeOf}
+use Rattle.receiver_state.specs.declared.session.Outcome.{Outcome as ReceiverOutcome}
+use Rattle.receiver_rules.proofs.Written as receiver
+use Rattle.indoor_state.specs.declared.phase.Phase.the-variants.{Done}
+use Rattle.indoor_rules.specs.Response.{responseOf}
+use Rattle.indoor_rules.specs.Send.{bytesOf as indoorBytesOf}
+use Rattle.indoor_rules.specs.Time.{timeOf as indoorTimeOf}
+use Rattle.indoor_state.specs.declared.session.Outcome.{Outcome as IndoorOutcome}
+use Rattle.indoor_rules.proofs.Written as indoor
 use Rattle.line.specs.Line.{Reached, toReceiver, toIndoor, atReceiver, atIndoor}
 use Rattle.line.proofs.Demand3.{demand3}
 use Rattle.update.specs.declared.way.Way.{Way}

@@ -6,15 +6,15 @@ use mathlib.Core.List.{List, [], _∷_, List·Memᴰ·head}
 use native.Mathlib.Omega.{arith}
 use lib.ListN.{length, take, length-take}
 use Rattle.basis.specs.Left.{left}
-use Rattle.receiver.specs.Session.{startOf as receiverStartOf}
-use Rattle.receiver.specs.declared.session.Receiver.{Receiver}
-use Rattle.receiver.specs.declared.session.Started.the-variants as Rec
-use Rattle.indoor_phases.specs.declared.plan.Release.{Release}
-use Rattle.indoor.specs.Start.{startOf}
-use Rattle.indoor.specs.declared.session.Indoor.{Indoor}
-use Rattle.indoor.specs.declared.session.Started.{Started}
-use Rattle.indoor.specs.declared.session.Started.the-variants as Ind
-use Rattle.indoor.proofs.Fresh.{start-fresh}
+use Rattle.receiver_rules.specs.Session.{startOf as receiverStartOf}
+use Rattle.receiver_state.specs.declared.session.Receiver.{Receiver}
+use Rattle.receiver_state.specs.declared.session.Started.the-variants as Rec
+use Rattle.indoor_state.specs.declared.plan.Release.{Release}
+use Rattle.indoor_rules.specs.Start.{startOf}
+use Rattle.indoor_state.specs.declared.session.Indoor.{Indoor}
+use Rattle.indoor_state.specs.declared.session.Started.{Started}
+use Rattle.indoor_state.specs.declared.session.Started.the-variants as Ind
+use Rattle.indoor_rules.proofs.Fresh.{start-fresh}
 use Rattle.line.specs.Line.{Wide, begins}
 use Rattle.update.specs.declared.ends.Ends.{Ends}
 use Rattle.update.specs.Turn.{nothing, sentOf}

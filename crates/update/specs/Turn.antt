@@ -6,13 +6,13 @@ use lib.Dec.{eqb}
 use lib.ListN.{take}
 use Rattle.basis.specs.Pick.{pick}
 use Rattle.basis.specs.Left.{Left, left}
-use Rattle.receiver_phases.specs.declared.verdict.Verdict.the-variants.{Good}
-use Rattle.receiver.specs.Request.{Effect, requestOf}
-use Rattle.receiver.specs.Time.{timeOf as receiverTimeOf}
-use Rattle.receiver.specs.declared.session.Outcome.{Outcome as ReceiverOutcome}
-use Rattle.indoor.specs.Response.{responseOf}
-use Rattle.indoor.specs.Time.{timeOf as indoorTimeOf}
-use Rattle.indoor.specs.declared.session.Outcome.{Outcome as IndoorOutcome}
+use Rattle.receiver_state.specs.declared.verdict.Verdict.the-variants.{Good}
+use Rattle.receiver_rules.specs.Request.{Effect, requestOf}
+use Rattle.receiver_rules.specs.Time.{timeOf as receiverTimeOf}
+use Rattle.receiver_state.specs.declared.session.Outcome.{Outcome as ReceiverOutcome}
+use Rattle.indoor_rules.specs.Response.{responseOf}
+use Rattle.indoor_rules.specs.Time.{timeOf as indoorTimeOf}
+use Rattle.indoor_state.specs.declared.session.Outcome.{Outcome as IndoorOutcome}
 use Rattle.update.specs.declared.way.Way.{Way}
 use Rattle.update.specs.declared.ends.Ends.{Ends}
 

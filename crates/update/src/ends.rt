@@ -1,11 +1,11 @@
 // Both ends and what is on its way between them. The line carries one message each way: a newer one takes the place of one that is still
 // on its way.
 use crate::way::Way;
-use indoor::Indoor;
-use indoor_phases::phase::Phase;
-use receiver::Receiver;
-use receiver_phases::phase::Phase as Roof;
-use receiver_phases::verdict::Verdict;
+use indoor_state::phase::Phase;
+use indoor_state::session::Indoor;
+use receiver_state::phase::Phase as Roof;
+use receiver_state::session::Receiver;
+use receiver_state::verdict::Verdict;
 ghost use mathlib.Core.Path.{_≡_};
 ghost use Prim.Native.Nat.{_≤_};
 ghost use lib.ListN.{length};
@@ -40,7 +40,7 @@ impl Ends {
         let rising = self.up;
         let falling = self.down;
         let n = rising.bytes;
-        let heard = receiver.request(image, &up[..n], 0, Verdict::Good, down);
+        let heard = receiver::request(receiver, image, &up[..n], 0, Verdict::Good, down);
         let state = heard.state;
         let answer = heard.answer;
         let written = heard.written;
@@ -53,7 +53,7 @@ impl Ends {
                 up: behind,
                 down: after,
             },
-            number: answer.number(),
+            number: receiver_decide::answer_number(answer),
             sent: written != 0,
             pushed: falling.pushed(written),
         }
@@ -69,7 +69,7 @@ impl Ends {
         let rising = self.up;
         let falling = self.down;
         let n = falling.bytes;
-        let heard = indoor.response(file, &down[..n], up);
+        let heard = indoor::response(indoor, file, &down[..n], up);
         let state = heard.state;
         let answer = heard.answer;
         let written = heard.written;
@@ -82,7 +82,7 @@ impl Ends {
                 up: after,
                 down: behind,
             },
-            number: answer.number(),
+            number: indoor_decide::answer_number(answer),
             sent: written != 0,
             pushed: rising.pushed(written),
         }
@@ -96,7 +96,7 @@ impl Ends {
         let indoor = self.indoor;
         let rising = self.up;
         let falling = self.down;
-        let ticked = receiver.time(elapsed, down);
+        let ticked = receiver::time(receiver, elapsed, down);
         let state = ticked.state;
         let answer = ticked.answer;
         let written = ticked.written;
@@ -108,7 +108,7 @@ impl Ends {
                 up: rising,
                 down: after,
             },
-            number: answer.number(),
+            number: receiver_decide::answer_number(answer),
             sent: written != 0,
             pushed: falling.pushed(written),
         }
@@ -122,7 +122,7 @@ impl Ends {
         let indoor = self.indoor;
         let rising = self.up;
         let falling = self.down;
-        let ticked = indoor.time(file, elapsed, up);
+        let ticked = indoor::time(indoor, file, elapsed, up);
         let state = ticked.state;
         let answer = ticked.answer;
         let written = ticked.written;
@@ -134,7 +134,7 @@ impl Ends {
                 up: after,
                 down: falling,
             },
-            number: answer.number(),
+            number: indoor_decide::answer_number(answer),
             sent: written != 0,
             pushed: rising.pushed(written),
         }

@@ -13,15 +13,16 @@ mod view;
 mod way;
 mod words;
 
-use indoor_phases::plan::Release;
+use indoor_state::plan::Release;
 use libc::STDIN_FILENO;
+use wire::codes;
 use wire::request::Versions;
 use wire::response::Identity;
 
 // The largest image memory, and one byte more for the file, so that one that is too long is seen to be so (46).
-const IMAGE: usize = 1048575;
+const IMAGE: usize = codes::IMAGE_SIZE_MOST;
 
-const FILE: usize = 1048576;
+const FILE: usize = codes::IMAGE_SIZE_MOST + 1;
 
 fn main() {
     let mut file = [0u8; FILE];

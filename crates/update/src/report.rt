@@ -5,16 +5,16 @@ use crate::page::Page;
 use crate::session::Ended;
 use crate::stands;
 use crate::turn;
-use indoor_phases::phase::Phase;
-use indoor_phases::phase::Reason;
-use receiver::Receiver;
-use receiver::Summed;
-use receiver_phases::phase::Accepted;
+use indoor_state::phase::Phase;
+use indoor_state::phase::Reason;
+use receiver_state::phase::Accepted;
+use receiver_state::session::Receiver;
+use receiver_state::sum::Summed;
 ghost use mathlib.Core.Bool.{true};
 ghost use mathlib.Core.Path.{_≡_};
 ghost use Prim.Native.Nat.{_≤_};
 ghost use lib.ListN.{length, take};
-ghost use Rattle.indoor_phases.specs.declared.phase.Phase.the-variants.{Done};
+ghost use Rattle.indoor_state.specs.declared.phase.Phase.the-variants.{Done};
 ghost use Rattle.update.specs.Over.{Same, doneOf};
 
 // A start was refused with this number (01, Numbers we answer).
@@ -66,7 +66,7 @@ fn judge(ends: Ends, file: &[u8], image: &[u8]) -> Judged
     let phase = stand.phase;
     let receiver = ends.receiver;
     let roof = receiver.phase;
-    let same = equal(roof.accepted(), image, file);
+    let same = equal(receiver_decide::accepted(roof), image, file);
     match phase {
         Phase::Done => Judged { done: true, same },
         Phase::Identify => Judged { done: false, same },
@@ -113,7 +113,11 @@ fn failure(page: Page, phase: Phase) -> Page
     let Phase::Failed(reason) = phase else {
         return page;
     };
-    named(page.word(b" ").number(reason.number() as u64), reason)
+    named(
+        page.word(b" ")
+            .number(indoor_decide::reason_number(reason) as u64),
+        reason,
+    )
 }
 
 // 01, Numbers we answer.
@@ -147,12 +151,12 @@ fn messages(counts: Counts, turns: u32) -> bool {
 // How many bytes the receiver has accepted, and their sum (01, Sizes and numbers).
 fn held(receiver: Receiver, image: &[u8]) -> bool {
     let phase = receiver.phase;
-    let accepted = phase.accepted();
+    let accepted = receiver_decide::accepted(phase);
     let counted = Page::blank()
         .word(b"image: ")
         .number(accepted.bytes as u64)
         .word(b" bytes, sum ");
-    let summed = receiver.sum(image);
+    let summed = receiver::sum(receiver, image);
     match summed {
         Summed::Sum(sum) => say(counted.number(sum as u64)),
         Summed::ImageLength => say(counted.word(b"unknown")),

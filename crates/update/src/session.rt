@@ -6,18 +6,18 @@ use crate::report;
 use crate::turn;
 use crate::view::View;
 use crate::way::Way;
-use indoor::Indoor;
-use indoor::Started as Begun;
-use indoor_phases::plan::Release;
-use receiver::Receiver;
-use receiver::Started;
+use indoor_state::plan::Release;
+use indoor_state::session::Indoor;
+use indoor_state::session::Started as Begun;
+use receiver_state::session::Receiver;
+use receiver_state::session::Started;
 use wire::codes;
 use wire::response::Identity;
 ghost use mathlib.Core.Path.{_≡_};
 ghost use lib.ListN.{length};
-ghost use Rattle.indoor_phases.specs.declared.phase.Phase.the-variants.{Done};
-ghost use Rattle.receiver.specs.Session.{startOf};
-ghost use Rattle.receiver.specs.declared.session.Started.the-variants.{Made};
+ghost use Rattle.indoor_state.specs.declared.phase.Phase.the-variants.{Done};
+ghost use Rattle.receiver_rules.specs.Session.{startOf};
+ghost use Rattle.receiver_state.specs.declared.session.Started.the-variants.{Made};
 ghost use Rattle.line.specs.Line.{Wide};
 ghost use Rattle.update.specs.Over.{Over, Same};
 
@@ -89,8 +89,8 @@ pub(crate) fn start(
     file: &[u8],
     image: &mut [u8],
 ) {
-    let started = Receiver::new(ROOF_LIMIT, RESENDS, identity, image.len());
-    let number = started.number();
+    let started = receiver::start(ROOF_LIMIT, RESENDS, identity, image.len());
+    let number = receiver::started_number(started);
     let Started::Made(receiver) = started else {
         report::refused(number);
         return;
@@ -111,8 +111,8 @@ fn begin(
 {
     let mut up = [0u8; codes::LONGEST];
     let mut down = [0u8; codes::LONGEST];
-    let begun = Indoor::start(INDOORS_LIMIT, RESENDS, release, file, &mut up);
-    let number = begun.number();
+    let begun = indoor::start(INDOORS_LIMIT, RESENDS, release, file, &mut up);
+    let number = indoor::started_number(begun);
     let Begun::Made { state, written } = begun else {
         report::refused(number);
         return;

@@ -1,7 +1,7 @@
 // Where each end stands (01, The receiver's phases; The indoor end's phases).
 use crate::page::Page;
-use indoor_phases::phase::Phase as Indoors;
-use receiver_phases::phase::Phase;
+use indoor_state::phase::Phase as Indoors;
+use receiver_state::phase::Phase;
 ghost use Prim.Native.Nat.{_≤_};
 
 // With the blocks that it has accepted, of those that the file has.
@@ -9,7 +9,7 @@ pub(crate) fn receiver(page: Page, phase: Phase, blocks: u64) -> Page
     requires { ⌜ page .at ≤ 120 ⌝ }
     ensures { λ r. ⌜ r .at ≤ 120 ⌝ }
 {
-    let accepted = phase.accepted();
+    let accepted = receiver_decide::accepted(phase);
     let named = above(page, phase);
     named
         .word(b", ")

@@ -1,12 +1,13 @@
 // What lines work on: the sessions of both ends, how much memory is lent to each, and the mailbox.
 use crate::mailbox_held::Held;
 use crate::say;
-use indoor::Indoor;
-use receiver::Started;
+use indoor_state::session::Indoor;
+use receiver_state::session::Started;
+use wire::codes;
 ghost use Rattle.io.specs.Counts.{Counts};
 
 // One byte more than the largest image or file, so that a script can lend too much (01, Sizes and numbers).
-pub(crate) const MEMORY: usize = 1048576;
+pub(crate) const MEMORY: usize = codes::IMAGE_SIZE_MOST + 1;
 
 pub(crate) const BUFFER: usize = 320;
 

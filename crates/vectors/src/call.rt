@@ -5,10 +5,10 @@ use crate::script::Call;
 use crate::verdict;
 use crate::verdict::Given;
 use crate::verdict::Judged;
-use receiver::Outcome;
-use receiver::Receiver;
-use receiver::Summed;
-use receiver_phases::verdict::Verdict;
+use receiver_state::session::Outcome;
+use receiver_state::session::Receiver;
+use receiver_state::sum::Summed;
+use receiver_state::verdict::Verdict;
 use wire::codes;
 ghost use Prim.Native.Nat.{_≤_};
 
@@ -70,7 +70,14 @@ fn spelled(
         return Called::NotUnderstood;
     }
     let verdict = given.verdict;
-    let outcome = receiver.request(image, &space[..n], given.readiness, verdict, buffer);
+    let outcome = receiver::request(
+        receiver,
+        image,
+        &space[..n],
+        given.readiness,
+        verdict,
+        buffer,
+    );
     Called::Ended(outcome)
 }
 
@@ -100,14 +107,14 @@ fn row(receiver: Receiver, count: usize, image: &mut [u8], buffer: &mut [u8]) ->
 // The block that is due, each of its bytes the low byte of its number, so that it shows where a block lies.
 fn block(receiver: Receiver, image: &mut [u8], buffer: &mut [u8]) -> Outcome {
     let phase = receiver.phase;
-    let number = phase.accepted().blocks;
+    let number = receiver_decide::accepted(phase).blocks;
     let low = (number % 256) as u8;
     let mut request = [low; 260];
     request[0] = codes::VERSION;
     request[1] = codes::DATA;
     request[2] = low;
     request[3] = (number / 256) as u8;
-    receiver.request(image, &request, 0, Verdict::Good, buffer)
+    receiver::request(receiver, image, &request, 0, Verdict::Good, buffer)
 }
 
 fn time(words: &[u8], receiver: Receiver, buffer: &mut [u8]) -> Called {
@@ -115,12 +122,12 @@ fn time(words: &[u8], receiver: Receiver, buffer: &mut [u8]) -> Called {
     if !elapsed.ends(words) {
         return Called::NotUnderstood;
     }
-    Called::Ended(receiver.time(elapsed.word(), buffer))
+    Called::Ended(receiver::time(receiver, elapsed.word(), buffer))
 }
 
 fn sum(words: &[u8], receiver: Receiver, image: &[u8]) -> Called {
     if words.len() != 0 {
         return Called::NotUnderstood;
     }
-    Called::Summed(receiver.sum(image))
+    Called::Summed(receiver::sum(receiver, image))
 }

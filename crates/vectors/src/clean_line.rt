@@ -5,7 +5,7 @@ use crate::number::Field;
 use crate::say;
 use crate::session;
 use clean::Ran;
-use indoor_phases::plan::Release;
+use indoor_state::plan::Release;
 use wire::request::Versions;
 
 // The run gets the lent parts alone.

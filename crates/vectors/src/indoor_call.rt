@@ -4,10 +4,10 @@ use crate::indoor_word::Call;
 use crate::indoor_word::Step;
 use crate::number::Field;
 use crate::script;
-use indoor::Indoor;
-use indoor::Outcome;
-use indoor::Started;
-use indoor_phases::plan::Release;
+use indoor_state::plan::Release;
+use indoor_state::session::Indoor;
+use indoor_state::session::Outcome;
+use indoor_state::session::Started;
 use wire::codes;
 use wire::request::Versions;
 
@@ -53,7 +53,7 @@ fn start(words: &[u8], file: &[u8], buffer: &mut [u8]) -> Called {
             fourth: fourth.word(),
         },
     };
-    Called::Begun(Indoor::start(limit.word(), resends.byte(), release, file, buffer))
+    Called::Begun(indoor::start(limit.word(), resends.byte(), release, file, buffer))
 }
 
 fn within(step: Step, words: &[u8], session: Session, file: &[u8], buffer: &mut [u8]) -> Called {
@@ -74,7 +74,7 @@ fn response(words: &[u8], indoor: Indoor, file: &[u8], buffer: &mut [u8]) -> Cal
     if !spelled.known {
         return Called::NotUnderstood;
     }
-    Called::Ended(indoor.response(file, &space[..n], buffer))
+    Called::Ended(indoor::response(indoor, file, &space[..n], buffer))
 }
 
 // DATA responses without a wait, which ask for the blocks from the first number to the last. Only the last one's answer is printed.
@@ -105,7 +105,7 @@ fn asked(indoor: Indoor, number: u16, file: &[u8], buffer: &mut [u8]) -> Outcome
     response[1] = codes::DATA_RESPONSE;
     response[5] = (number % 256) as u8;
     response[6] = (number / 256) as u8;
-    indoor.response(file, &response, buffer)
+    indoor::response(indoor, file, &response, buffer)
 }
 
 fn time(words: &[u8], indoor: Indoor, file: &[u8], buffer: &mut [u8]) -> Called {
@@ -113,5 +113,5 @@ fn time(words: &[u8], indoor: Indoor, file: &[u8], buffer: &mut [u8]) -> Called 
     if !elapsed.ends(words) {
         return Called::NotUnderstood;
     }
-    Called::Ended(indoor.time(file, elapsed.word(), buffer))
+    Called::Ended(indoor::time(indoor, file, elapsed.word(), buffer))
 }

@@ -5,20 +5,20 @@ use crate::hex;
 use crate::indoor_phase;
 use crate::say;
 use crate::written;
-use indoor::Indoor;
-use indoor::Outcome;
-use indoor::Started;
+use indoor_state::session::Indoor;
+use indoor_state::session::Outcome;
+use indoor_state::session::Started;
 use wire::codes;
 
 pub(crate) fn print(outcome: Outcome, buffer: &[u8]) {
     let answer = outcome.answer;
     let state = outcome.state;
-    say::number(answer.number() as u64);
+    say::number(indoor_decide::answer_number(answer) as u64);
     left(state, outcome.written, buffer);
 }
 
 pub(crate) fn print_start(started: Started, buffer: &[u8]) {
-    say::number(started.number() as u64);
+    say::number(indoor::started_number(started) as u64);
     match started {
         Started::Made { state, written } => left(state, written, buffer),
         _ => {}

@@ -1,7 +1,7 @@
 // Where the indoor end stands, with the milliseconds left of a wait (01, The indoor end's phases).
 use crate::say;
-use indoor_phases::phase::Phase;
-use indoor_phases::phase::Progress;
+use indoor_state::phase::Phase;
+use indoor_state::phase::Progress;
 
 pub(crate) fn print(phase: Phase) {
     match phase {
@@ -10,7 +10,7 @@ pub(crate) fn print(phase: Phase) {
         Phase::Transfer(progress) => transfer(progress),
         Phase::Validate { wait } => with(b" Validate", wait as u64),
         Phase::Done => say::text(b" Done"),
-        Phase::Failed(reason) => with(b" Failed", reason.number() as u64),
+        Phase::Failed(reason) => with(b" Failed", indoor_decide::reason_number(reason) as u64),
     }
 }
 

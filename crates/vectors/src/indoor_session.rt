@@ -12,7 +12,7 @@ use crate::lend;
 use crate::lend::Lending;
 use crate::say;
 use crate::script;
-use indoor::Started;
+use indoor_state::session::Started;
 
 pub(crate) fn run(words: &[u8], indoors: Indoors, file: &[u8], buffer: &mut [u8]) -> Indoors {
     let next = script::next(words);

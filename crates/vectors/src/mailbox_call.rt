@@ -5,7 +5,7 @@ use crate::mailbox_word::Step;
 use crate::memory;
 use crate::number::Field;
 use crate::script;
-use mailbox::Outcome;
+use mailbox_state::state::Outcome;
 
 pub(crate) fn run(step: Step, words: &[u8], held: Held) -> Held {
     match step {
@@ -26,15 +26,15 @@ fn spelled(reported: bool, words: &[u8], held: Held) -> Held {
     }
     let mailbox = held.mailbox;
     if reported {
-        return ended(mailbox.report_success(&space[..n]));
+        return ended(mailbox::report_success(mailbox, &space[..n]));
     }
-    ended(mailbox.write(&space[..n]))
+    ended(mailbox::write(mailbox, &space[..n]))
 }
 
 fn ended(outcome: Outcome) -> Held {
     let answer = outcome.answer;
     let state = outcome.state;
-    mailbox_outcome::left(answer.number(), state)
+    mailbox_outcome::left(mailbox_decide::answer_number(answer), state)
 }
 
 fn failure(words: &[u8], held: Held) -> Held {
@@ -42,7 +42,7 @@ fn failure(words: &[u8], held: Held) -> Held {
         return held.heard(false);
     }
     let mailbox = held.mailbox;
-    ended(mailbox.report_failure())
+    ended(mailbox::report_failure(mailbox))
 }
 
 // Every connector number of 8 bits is spelled, for 9 (01, Numbers we answer).
@@ -53,11 +53,11 @@ fn change(words: &[u8], held: Held) -> Held {
         return held.heard(false);
     }
     let mailbox = held.mailbox;
-    ended(mailbox.change(connector.byte(), reason.word()))
+    ended(mailbox::change(mailbox, connector.byte(), reason.word()))
 }
 
 fn message(words: &[u8], held: Held) -> Held {
     let mailbox = held.mailbox;
-    let message = mailbox.message_in();
+    let message = mailbox::message_in(mailbox);
     held.heard(memory::print(words, &message))
 }

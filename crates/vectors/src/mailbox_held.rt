@@ -1,7 +1,7 @@
 // The mailbox that lines work on, if there is one (01, The mailbox).
 use crate::say;
-use mailbox::Mailbox;
 use mailbox_state::connectors::Connectors;
+use mailbox_state::state::Mailbox;
 
 // No enum can hold the bytes of MESSAGE_IN, so `there` says whether `mailbox` is one that a line made.
 pub(crate) struct Held {
@@ -13,7 +13,7 @@ impl Held {
     pub(crate) fn nothing() -> Held {
         Held {
             there: false,
-            mailbox: Mailbox::fresh(Connectors { count: 1 }),
+            mailbox: mailbox::fresh(Connectors { count: 1 }),
         }
     }
 

@@ -8,9 +8,9 @@ use crate::mailbox_word::Step;
 use crate::number::Field;
 use crate::say;
 use crate::script;
-use mailbox::Mailbox;
 use mailbox_state::connectors::Connectors;
 use mailbox_state::connectors::Counted;
+use mailbox_state::state::Mailbox;
 
 pub(crate) fn run(words: &[u8], held: Held) -> Held {
     let next = script::next(words);
@@ -31,12 +31,15 @@ fn new(words: &[u8], held: Held) -> Held {
     if !count.ends(words) {
         return held.heard(false);
     }
-    let counted = Connectors::new(count.byte());
+    let counted = mailbox_decide::counted(count.byte());
     let Counted::Made(connectors) = counted else {
-        say::number(counted.number() as u64);
+        say::number(mailbox_decide::counted_number(counted) as u64);
         return Held::nothing();
     };
-    mailbox_outcome::left(counted.number(), Mailbox::fresh(connectors))
+    mailbox_outcome::left(
+        mailbox_decide::counted_number(counted),
+        mailbox::fresh(connectors),
+    )
 }
 
 fn within(step: Step, words: &[u8], held: Held) -> Held {

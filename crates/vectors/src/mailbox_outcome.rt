@@ -2,7 +2,7 @@
 use crate::hex;
 use crate::mailbox_held::Held;
 use crate::say;
-use mailbox::Mailbox;
+use mailbox_state::state::Mailbox;
 use mailbox_state::told::Command;
 use mailbox_state::told::Told;
 
@@ -12,7 +12,7 @@ pub(crate) fn left(number: u8, mailbox: Mailbox) -> Held {
     let told = stand.told;
     say::number(number as u64);
     say::text(b" :");
-    hex::print_wide(mailbox.cci());
+    hex::print_wide(mailbox::cci(mailbox));
     say::text(b" :");
     running(told);
     Held {

@@ -3,23 +3,23 @@ use crate::bench;
 use crate::phase;
 use crate::say;
 use crate::written;
-use receiver::Outcome;
-use receiver::Receiver;
-use receiver::Started;
-use receiver::Summed;
+use receiver_state::session::Outcome;
+use receiver_state::session::Receiver;
+use receiver_state::session::Started;
+use receiver_state::sum::Summed;
 
 pub(crate) fn print(outcome: Outcome, buffer: &[u8]) {
     let answer = outcome.answer;
     let state = outcome.state;
     let n = bench::part(outcome.written, buffer);
-    say::number(answer.number() as u64);
+    say::number(receiver_decide::answer_number(answer) as u64);
     say::text(b" :");
     written::shown(&buffer[..n]);
     print_state(state);
 }
 
 pub(crate) fn print_start(started: Started) {
-    say::number(started.number() as u64);
+    say::number(receiver::started_number(started) as u64);
     match started {
         Started::Made(state) => print_state(state),
         Started::Refused => {}
@@ -36,7 +36,7 @@ fn print_state(state: Receiver) {
 }
 
 pub(crate) fn print_sum(summed: Summed) {
-    say::number(summed.number() as u64);
+    say::number(receiver::summed_number(summed) as u64);
     match summed {
         Summed::Sum(sum) => {
             say::text(b" :");

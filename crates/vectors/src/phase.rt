@@ -1,8 +1,8 @@
 // Where a receiver stands, with the blocks and bytes that it has accepted (01, The receiver's phases).
 use crate::say;
-use receiver_phases::phase::Accepted;
-use receiver_phases::phase::Phase;
-use receiver_phases::phase::Progress;
+use receiver_state::phase::Accepted;
+use receiver_state::phase::Phase;
+use receiver_state::phase::Progress;
 
 pub(crate) fn print(phase: Phase) {
     match phase {

@@ -13,8 +13,8 @@ use crate::say;
 use crate::script;
 use crate::script::Act;
 use crate::script::Call;
-use receiver::Receiver;
-use receiver::Started;
+use receiver_state::session::Receiver;
+use receiver_state::session::Started;
 use wire::codes;
 use wire::request::Versions;
 use wire::response::Identity;
@@ -64,7 +64,7 @@ fn start(words: &[u8], bench: Bench) -> Bench {
     if !capacity.ends(words) {
         return bench.heard(false);
     }
-    let session = Receiver::new(limit.word(), resends.byte(), identity(), capacity.value);
+    let session = receiver::start(limit.word(), resends.byte(), identity(), capacity.value);
     outcome::print_start(session);
     let lent = Lent {
         memory: capacity.value,

@@ -1,6 +1,6 @@
 // The readiness wait and the verdict that come with a request (01, The receiver's phases).
 use crate::number;
-use receiver_phases::verdict::Verdict;
+use receiver_state::verdict::Verdict;
 
 pub(crate) struct Given {
     pub readiness: u8,

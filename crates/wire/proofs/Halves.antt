@@ -1,16 +1,17 @@
 -- Numbers taken into bytes and put together again.
-use Prim.Native.Nat.{ℕ, _+_, _*_, _/_, _%_, _<_}
+use Prim.Native.Nat.{ℕ, _+_, _*_, _/_, _%_, _<_, _≤_}
 use mathlib.Core.Path.{_≡_}
 use mathlib.Core.List.{List}
 use native.Mathlib.Nat.{mod-mod}
 use native.Mathlib.Omega.{arith}
 use Rattle.basis.specs.Bytes.{Bytes, byteAt}
+use Rattle.wire.specs.Codes.{imageSizeMost}
 use Rattle.wire.specs.Numbers.{wordAt}
 
 pub word-back : (n : ℕ) → n < 65536 → n % 256 + 256 * (n / 256 % 256) ≡ n
 word-back n h = omega arith
 
-pub size-back : (n : ℕ) → n < 1048576 → n % 256 + 256 * (n / 256 % 256) + 65536 * (n / 65536 % 16 % 16) ≡ n
+pub size-back : (n : ℕ) → n ≤ imageSizeMost → n % 256 + 256 * (n / 256 % 256) + 65536 * (n / 65536 % 16 % 16) ≡ n
 size-back n h = omega arith
 
 pub upper-twice : (x : ℕ) → x / 16 * 16 / 16 * 16 ≡ x / 16 * 16

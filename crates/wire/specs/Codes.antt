@@ -87,3 +87,7 @@ validateResponseLength = 5
 -- The WaitTime of a responder that takes no more (001 T5-20, T5-22, T5-24)
 abbrev pub unable : ℕ
 unable = 255
+
+-- MaxImageSize has 20 bits: an image, and the memory for one, has at most so many bytes (001 T5-20; 01, Sizes and numbers)
+abbrev pub imageSizeMost : ℕ
+imageSizeMost = 1048575

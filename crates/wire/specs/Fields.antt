@@ -3,7 +3,7 @@ use Prim.Native.Nat.{ℕ, _%_, _<_, _≤_}
 use mathlib.Core.Path.{_≡_}
 use mathlib.Core.List.{List, []}
 use lib.ListN.{length, drop}
-use Rattle.wire.specs.Codes.{dataHead}
+use Rattle.wire.specs.Codes.{dataHead, imageSizeMost}
 use Rattle.basis.specs.Bytes.{byteAt}
 use Rattle.wire.specs.Identity.{cleared}
 use Rattle.wire.specs.declared.request.Versions.{Versions}
@@ -58,10 +58,10 @@ Sized m Req.Validate = Unit
 Sized m Req.Abort = Unit
 Sized m Req.NotBuilt = Unit
 
--- A response whose numbers are as wide as their fields, MaxImageSize below 2^20.
+-- A response whose numbers are as wide as their fields, MaxImageSize of 20 bits.
 abbrev pub Answerable : Response → Type 0
 Answerable (Res.GetFwId st i) = (i .vendor < 65536) × (i .product < 65536) × Words (i .versions)
-Answerable (Res.Initiate st w size) = size < 1048576
+Answerable (Res.Initiate st w size) = size ≤ imageSizeMost
 Answerable (Res.Data st w n) = n < 65536
 Answerable (Res.Validate st w success) = Unit
 Answerable Res.NotBuilt = Unit

@@ -61,3 +61,6 @@ pub const VALIDATE_RESPONSE_LENGTH: usize = 5;
 
 // The WaitTime of a responder that takes no more (001 T5-20, T5-22, T5-24).
 pub const UNABLE: u8 = 255;
+
+// MaxImageSize has 20 bits: an image, and the memory for one, has at most so many bytes (001 T5-20; 01, Sizes and numbers).
+pub const IMAGE_SIZE_MOST: usize = 1048575;

@@ -2,8 +2,8 @@ use mathlib.Core.Path.{_≡_, _∙_, sym, subst}
 use denote.Ref.{now}
 use lib.ListN.{length}
 use Rattle.wire.specs.declared.response.Identity.{Identity}
-use Rattle.receiver.specs.Session.{startOf}
-use Rattle.receiver.specs.declared.session.Started.the-variants.{Made}
+use Rattle.receiver_rules.specs.Session.{startOf}
+use Rattle.receiver_state.specs.declared.session.Started.the-variants.{Made}
 use Rattle.line.specs.Line.{Wide}
 use Rattle.line.proofs.Widths.{values-wide}
 use Rattle.clean.proofs.Starts.{refused-29, same-identity, made-begun}
@@ -19,11 +19,11 @@ run-spec =
     (λ c. search needs)
     (λ c. search needs)
     (λ c. let g = c .before .before .before .before .before .args in
-    refused-29 (g .limit) (g .resends) (g .identity) (g .release) (now (g .file)) (now (g .image)) (sym (c .before .before .new .ensures) ∙ c .enum-told .given .1))
+    refused-29 (g .limit) (g .resends) (g .identity) (g .release) (now (g .file)) (now (g .image)) (sym (c .before .before .start .ensures) ∙ c .enum-told .given .1))
     (λ c κs. let g = c .before .before .before .before .before .before .before .args in
     let good = c .before .before .before .before .before .before .before .good .1 .1 in
     let b = c .before .before .started .given in
-    let made = sym (c .before .before .before .before .new .ensures) ∙ b .1 in
+    let made = sym (c .before .before .before .before .start .ensures) ∙ b .1 in
     let same = same-identity (g .limit) (g .resends) (g .identity) (g .release) (now (g .file)) (now (g .image)) (b .0 .0) made in (
       subst (λ (i : Identity). startOf (g .limit) (g .resends) i (length (now (g .image))) ≡ Made (b .0 .0)) (sym same) made,
       subst (Wide (g .release)) (sym same) (values-wide (g .release) (g .identity) _ _ (good .1 .0) (good .0)),
@@ -32,4 +32,4 @@ run-spec =
     (λ c. let g = c .before .before .before .before .before .before .before .before .before .before .args in
     let b = c .before .before .before .before .before .started .given in
     c .before .before .begin .ensures
-    ∙ made-begun (g .limit) (g .resends) (g .identity) (g .release) (now (g .file)) (now (g .image)) (b .0 .0) (sym (c .before .before .before .before .before .before .before .new .ensures) ∙ b .1)))
+    ∙ made-begun (g .limit) (g .resends) (g .identity) (g .release) (now (g .file)) (now (g .image)) (b .0 .0) (sym (c .before .before .before .before .before .before .before .start .ensures) ∙ b .1)))

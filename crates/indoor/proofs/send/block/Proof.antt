@@ -1,8 +1,8 @@
 use Rattle.basis.specs.Left.{answers, leaves}
 use denote.Ref.{now}
 use lib.ListN.{length-append}
-use Rattle.indoor.specs.Send.{blockBytes}
-use Rattle.indoor.proofs.Block.{block-written, together-most}
+use Rattle.indoor_rules.specs.Send.{blockBytes}
+use Rattle.indoor_rules.proofs.Block.{block-written, together-most}
 use borrow.Author.Needs.{needs}
 use Rattle.indoor.proofs.send.block.Statement.{statement}
 use Rattle.indoor.proofs.send.block.Tie as tie

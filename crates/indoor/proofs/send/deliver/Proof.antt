@@ -1,4 +1,4 @@
-use Rattle.indoor.specs.Send.{sendsBytes}
+use Rattle.indoor_rules.specs.Send.{sendsBytes}
 use borrow.Author.Needs.{needs}
 use Rattle.indoor.proofs.send.deliver.Statement.{statement}
 use Rattle.indoor.proofs.send.deliver.Tie as tie

@@ -9,4 +9,4 @@ send-spec =
     (λ c κs. search needs)
     (λ c κs. search needs)
     (λ c. search needs)
-    (λ c. rw (← (c .before .before .before .before .before .sends .ensures)) (c .before .before .deliver .ensures)))
+    (λ c. rw (← (c .before .before .before .before .before .answer-sends .ensures)) (c .before .before .deliver .ensures)))

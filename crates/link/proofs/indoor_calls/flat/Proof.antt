@@ -8,4 +8,4 @@ flat-spec =
     (tie.spec
     (λ c κs. search needs)
     (λ c κs. search needs)
-    (λ c. rw (c .before .pack .ensures, c .number .ensures)))
+    (λ c. rw (c .before .pack .ensures, c .answer-number .ensures)))

@@ -12,4 +12,4 @@ harsolvek-indoor-start-spec =
     (λ c κs. search needs)
     (λ c κs. search needs)
     (λ c. search needs)
-    (λ c. rw (c .begun .ensures, c .before .number .ensures) (ap startedOf (c .before .before .before .before .start .ensures))))
+    (λ c. rw (c .begun .ensures, c .before .started-number .ensures) (ap startedOf (c .before .before .before .before .start .ensures))))

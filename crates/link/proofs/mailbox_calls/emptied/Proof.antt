@@ -1,4 +1,4 @@
-use Rattle.mailbox.specs.Mailbox.{zeros}
+use Rattle.mailbox_rules.specs.Mailbox.{zeros}
 use borrow.Author.Needs.{needs}
 use Rattle.link.proofs.mailbox_calls.emptied.Statement.{statement}
 use Rattle.link.proofs.mailbox_calls.emptied.Tie as tie

@@ -9,4 +9,4 @@ harsolvek-mailbox-fresh-spec =
     (λ c κs. search needs)
     (λ c κs. search needs)
     (λ c κs. search needs)
-    (λ c. rw (c .made .ensures, c .before .number .ensures, c .before .before .new .ensures)))
+    (λ c. rw (c .made .ensures, c .before .counted-number .ensures, c .before .before .counted .ensures)))

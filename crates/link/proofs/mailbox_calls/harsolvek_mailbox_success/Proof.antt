@@ -2,8 +2,8 @@ use mathlib.Core.Path.{sym, _∙_}
 use denote.Ref.{now}
 use Rattle.basis.specs.Pick.{pick}
 use borrow.Author.Needs.{needs}
-use Rattle.mailbox.specs.History.{succeeds}
-use Rattle.mailbox.proofs.Laws.{refused-keeps}
+use Rattle.mailbox_rules.specs.History.{succeeds}
+use Rattle.mailbox_rules.proofs.Laws.{refused-keeps}
 use Rattle.mailbox_flat.specs.Flat.{unpackOf}
 use Rattle.link.proofs.Handing.{refused-stays}
 use Rattle.link.proofs.mailbox_calls.harsolvek_mailbox_success.Statement.{statement}
@@ -23,7 +23,7 @@ harsolvek-mailbox-success-spec =
     let is = u .before .before .is-mailbox .ensures in
     rw (← is, u .before .if1 .taken)
     (refused-stays (a .state) _ _ (sym is ∙ u .before .if1 .taken) (refused-keeps (unpackOf (a .state)) (succeeds (now (a .bytes))))
-    (c .before .number .ensures ∙ rw (c .before .before .report-success .ensures, u .unpack .ensures)) (c .if2 .taken)))
+    (c .before .answer-number .ensures ∙ rw (c .before .before .report-success .ensures, u .unpack .ensures)) (c .if2 .taken)))
     (λ c κs. search needs)
     (λ c. let u = c .before .before .before .before in
     rw (c .flat .ensures, ← (u .before .before .is-mailbox .ensures), u .before .if1 .taken, c .before .before .before .report-success .ensures, u .unpack .ensures))

@@ -2,9 +2,9 @@ use mathlib.Core.Path.{sym, _∙_}
 use denote.Ref.{now}
 use Rattle.basis.specs.Pick.{pick}
 use borrow.Author.Needs.{needs}
-use Rattle.mailbox.specs.History.{writes}
-use Rattle.mailbox.proofs.Laws.{refused-keeps}
-use Rattle.mailbox.proofs.Settled.{read-settled}
+use Rattle.mailbox_rules.specs.History.{writes}
+use Rattle.mailbox_rules.proofs.Laws.{refused-keeps}
+use Rattle.mailbox_rules.proofs.Settled.{read-settled}
 use Rattle.mailbox_flat.specs.Flat.{unpackOf}
 use Rattle.link.proofs.Handing.{kept-settles, emptied-settles, refused-stays}
 use Rattle.link.proofs.mailbox_calls.harsolvek_mailbox_write.Statement.{statement}
@@ -24,7 +24,7 @@ harsolvek-mailbox-write-spec =
     let is = u .before .before .is-mailbox .ensures in
     rw (← is, u .before .if1 .taken)
     (refused-stays (a .state) _ _ (sym is ∙ u .before .if1 .taken) (refused-keeps (unpackOf (a .state)) (writes (now (a .control))))
-    (c .before .number .ensures ∙ rw (c .before .before .write-step .ensures, u .unpack .ensures, read-settled _ _)) (c .if2 .taken)))
+    (c .before .answer-number .ensures ∙ rw (c .before .before .write-step .ensures, u .unpack .ensures, read-settled _ _)) (c .if2 .taken)))
     (λ c κs. search needs)
     (λ c κs. search needs)
     (λ c. let u = c .before .before .before .before .before .before .before in

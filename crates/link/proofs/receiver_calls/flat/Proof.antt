@@ -8,4 +8,4 @@ flat-spec =
     (tie.spec
     (λ c κs. search needs)
     (λ c κs. search needs)
-    (λ c. let kept = c .before .before .before .before .before .before .pre in rw (c .before .before .pack .ensures, c .number .ensures, kept .0, kept .1, kept .2)))
+    (λ c. let kept = c .before .before .before .before .before .before .pre in rw (c .before .before .pack .ensures, c .answer-number .ensures, kept .0, kept .1, kept .2)))

@@ -1,6 +1,6 @@
 use Rattle.basis.specs.Pick.{pick}
 use mathlib.Core.Path.{ap}
-use Rattle.receiver.specs.Request.{Effect}
+use Rattle.receiver_rules.specs.Request.{Effect}
 use Rattle.link.proofs.Kept.{request-keeps}
 use Rattle.link.specs.Receiver.{requestedOf, requestOf}
 use borrow.Author.Needs.{needs}

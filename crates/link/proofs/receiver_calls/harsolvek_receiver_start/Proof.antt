@@ -9,4 +9,4 @@ harsolvek-receiver-start-spec =
     (λ c κs. search needs)
     (λ c κs. search needs)
     (λ c κs. search needs)
-    (λ c. rw (c .made .ensures, c .before .number .ensures, c .before .before .new .ensures)))
+    (λ c. rw (c .made .ensures, c .before .started-number .ensures, c .before .before .start .ensures)))

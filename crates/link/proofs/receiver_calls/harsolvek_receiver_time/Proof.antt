@@ -1,7 +1,7 @@
 use Rattle.basis.specs.Pick.{pick}
 use mathlib.Core.Path.{ap}
 use Rattle.basis.specs.Left.{answers}
-use Rattle.receiver.specs.declared.session.Outcome.{Outcome}
+use Rattle.receiver_state.specs.declared.session.Outcome.{Outcome}
 use Rattle.link.proofs.Kept.{time-keeps}
 use Rattle.link.specs.Receiver.{passedOf, timeOf}
 use borrow.Author.Needs.{needs}

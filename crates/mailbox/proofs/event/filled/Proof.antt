@@ -2,7 +2,7 @@ use denote.Ref.{now}
 use lib.ListN.{replicate}
 use native.Mathlib.Omega.{arith}
 use mathlib.Core.Path.{_∙_}
-use Rattle.mailbox.specs.Mailbox.{zeros, filledOf}
+use Rattle.mailbox_rules.specs.Mailbox.{zeros, filledOf}
 use Rattle.lent.proofs.Laws.{put-leads}
 use Rattle.basis.specs.Left.{leaves}
 use borrow.Author.Needs.{needs}

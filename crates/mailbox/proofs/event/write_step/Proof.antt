@@ -1,4 +1,4 @@
-use Rattle.mailbox.specs.Events.{stepOf}
+use Rattle.mailbox_rules.specs.Events.{stepOf}
 use borrow.Author.Needs.{needs}
 use Rattle.mailbox.proofs.event.write_step.Statement.{statement}
 use Rattle.mailbox.proofs.event.write_step.Tie as tie

@@ -4,7 +4,7 @@ use lib.ListN.{length}
 use native.Mathlib.Omega.{arith}
 use denote.Ref.{now}
 use mathlib.Core.Path.{refl, sym, _∙_}
-use Rattle.mailbox.specs.Mailbox.{mailbox}
+use Rattle.mailbox_rules.specs.Mailbox.{mailbox}
 use Rattle.playing.proofs.Mid.{Mid, mid-begins, mid-ends, mid-full, mid-turn, line-len, line-fits}
 use Rattle.playing.proofs.Steps.{turn-is}
 use Rattle.recording.proofs.Cases.{found-past}

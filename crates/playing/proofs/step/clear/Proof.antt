@@ -1,4 +1,4 @@
-use Rattle.mailbox.specs.Mailbox.{zeros, clearedOf}
+use Rattle.mailbox_rules.specs.Mailbox.{zeros, clearedOf}
 use borrow.Author.Needs.{needs}
 use Rattle.playing.proofs.step.clear.Statement.{statement}
 use Rattle.playing.proofs.step.clear.Tie as tie

@@ -9,4 +9,4 @@ line-after-spec =
     (λ c κs. search needs)
     (λ c κs. search needs)
     (λ c κs. search needs)
-    (λ c. rw (c .line-of .ensures, c .before .number .ensures, c .before .before .cci .ensures)))
+    (λ c. rw (c .line-of .ensures, c .before .answer-number .ensures, c .before .before .cci .ensures)))

@@ -12,5 +12,5 @@ success-spec =
     (λ c κs. search needs)
     (λ c κs. search needs)
     (λ c κs. search needs)
-    (λ c. rw (← c .before .before .before .succeed .ensures, ← c .before .before .number .ensures) (search (c .refused .ensures, tests)))
-    (λ c. rw (← c .before .before .before .succeed .ensures, ← c .before .before .number .ensures) (search tests)))
+    (λ c. rw (← c .before .before .before .succeed .ensures, ← c .before .before .answer-number .ensures) (search (c .refused .ensures, tests)))
+    (λ c. rw (← c .before .before .before .succeed .ensures, ← c .before .before .answer-number .ensures) (search tests)))

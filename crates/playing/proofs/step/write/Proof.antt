@@ -1,4 +1,4 @@
-use Rattle.mailbox.specs.Events.{writeStep}
+use Rattle.mailbox_rules.specs.Events.{writeStep}
 use mathlib.Core.Path.{_∙_, ap}
 use borrow.Author.Needs.{needs}
 use Rattle.playing.proofs.step.write.Statement.{statement}

@@ -1,4 +1,4 @@
-use Rattle.receiver.specs.Respond.{replyBytes}
+use Rattle.receiver_rules.specs.Respond.{replyBytes}
 use borrow.Author.Needs.{needs}
 use Rattle.receiver.proofs.respond.deliver.Statement.{statement}
 use Rattle.receiver.proofs.respond.deliver.Tie as tie

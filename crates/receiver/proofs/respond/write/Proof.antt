@@ -1,4 +1,5 @@
-use Rattle.writing.proofs.Laws.{sends-whole, response-fits}
+use Rattle.writing.proofs.Laws.{sends-whole}
+use Rattle.wire.proofs.Fits.{response-fits}
 use native.Mathlib.Omega.{arith}
 use denote.Ref.{now}
 use Rattle.basis.specs.Left.{leaves}

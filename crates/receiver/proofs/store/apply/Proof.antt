@@ -1,4 +1,4 @@
-use Rattle.receiver.specs.Request.{imageOf}
+use Rattle.receiver_rules.specs.Request.{imageOf}
 use borrow.Author.Needs.{needs}
 use Rattle.receiver.proofs.store.apply.Statement.{statement}
 use Rattle.receiver.proofs.store.apply.Tie as tie

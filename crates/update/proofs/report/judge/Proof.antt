@@ -1,6 +1,6 @@
 use mathlib.Core.Bool.{true≢false}
 use mathlib.Core.Path.{sym, _∙_, ap}
-use Rattle.receiver_phases.specs.declared.phase.Accepted.{Accepted}
+use Rattle.receiver_state.specs.declared.phase.Accepted.{Accepted}
 use borrow.Author.Needs.{needs}
 use Rattle.update.proofs.report.judge.Statement.{statement}
 use Rattle.update.proofs.report.judge.Tie as tie

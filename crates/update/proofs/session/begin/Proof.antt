@@ -11,8 +11,8 @@ slice-aggregate-start c = search needs
 start-requires : tie.Need-start-requires
 start-requires c κs = search needs
 
-number-requires : tie.Need-number-requires
-number-requires c κs = search needs
+started-number-requires : tie.Need-started-number-requires
+started-number-requires c κs = search needs
 
 enum-known-begun : tie.Need-enum-known-begun
 enum-known-begun c = search needs
@@ -66,7 +66,7 @@ begin-spec =
     (tie.spec
     slice-aggregate-start
     start-requires
-    number-requires
+    started-number-requires
     enum-known-begun
     refused-requires
     returns

@@ -2,20 +2,20 @@ use mathlib.Core.Path.{_≡_, _∙_, sym, subst}
 use denote.Ref.{now}
 use lib.ListN.{length}
 use Rattle.wire.specs.declared.response.Identity.{Identity}
-use Rattle.receiver.specs.Session.{startOf}
-use Rattle.receiver.specs.declared.session.Started.the-variants.{Made}
-use Rattle.receiver.proofs.Fresh.{start-fresh}
+use Rattle.receiver_rules.specs.Session.{startOf}
+use Rattle.receiver_state.specs.declared.session.Started.the-variants.{Made}
+use Rattle.receiver_rules.proofs.Fresh.{start-fresh}
 use Rattle.line.specs.Line.{Wide}
 use Rattle.line.proofs.Widths.{values-wide}
 use borrow.Author.Needs.{needs}
 use Rattle.update.proofs.session.start.Statement.{statement}
 use Rattle.update.proofs.session.start.Tie as tie
 
-new-requires : tie.Need-new-requires
-new-requires c κs = search needs
+start-requires : tie.Need-start-requires
+start-requires c κs = search needs
 
-number-requires : tie.Need-number-requires
-number-requires c κs = search needs
+started-number-requires : tie.Need-started-number-requires
+started-number-requires c κs = search needs
 
 enum-known-started : tie.Need-enum-known-started
 enum-known-started c = search needs
@@ -33,7 +33,7 @@ begin-requires : tie.Need-begin-requires
 begin-requires c κs = let g = c .before .before .before .before .before .before .before .before .args in
     let good = c .before .before .before .before .before .before .before .before .good in
     let b = c .before .before .started .given in
-    let made = sym (c .before .before .before .before .before .new .ensures) ∙ b .1 in
+    let made = sym (c .before .before .before .before .before .start .ensures) ∙ b .1 in
     let same = start-fresh 200 10 (g .identity) (length (now (g .image))) (b .0 .0) made .who in (
       subst (λ (i : Identity). startOf 200 10 i (length (now (g .image))) ≡ Made (b .0 .0)) (sym same) made,
       subst (Wide (g .release)) (sym same) (values-wide (g .release) (g .identity) _ _ (good .1 .0) (good .0)),
@@ -49,8 +49,8 @@ pub start-spec : {M : Type 1} → statement M
 start-spec =
     tie.close
     (tie.spec
-    new-requires
-    number-requires
+    start-requires
+    started-number-requires
     enum-known-started
     enum-told
     refused-requires

@@ -27,4 +27,4 @@ of-spec =
     (λ c. rw (c .before .before .before .phase2 .given .1) (c .new3 .ensures))
     (λ c. rw (c .before .before .phase3 .given .1) (c .new4 .ensures))
     (λ c. rw (c .before .enum-told2 .given .1) (c .new5 .ensures))
-    (λ c. rw (c .before .before .before .phase4 .given .1, ← (c .before .number .ensures)) (c .new6 .ensures)))
+    (λ c. rw (c .before .before .before .phase4 .given .1, ← (c .before .reason-number .ensures)) (c .new6 .ensures)))

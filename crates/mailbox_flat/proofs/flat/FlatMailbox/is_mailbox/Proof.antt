@@ -11,8 +11,8 @@ is-mailbox-spec =
     (tie.spec
     (λ c κs. search needs)
     (λ c κs. search needs)
-    (λ c. search (← (c .before .before .new .ensures), ← (c .before .number .ensures), tests))
+    (λ c. search (← (c .before .before .counted .ensures), ← (c .before .counted-number .ensures), tests))
     (λ c κs. search needs)
     (λ c κs. search needs)
-    (λ c. search (← (c .before .before .before .before .before .before .new .ensures), ← (c .before .before .before .before .before .number .ensures), ← (c .before .before .are-flags .ensures), c .says .ensures, tests))
-    (λ c. search (← (c .before .before .before .before .before .new .ensures), ← (c .before .before .before .before .number .ensures), ← (c .before .are-flags .ensures), tests)))
+    (λ c. search (← (c .before .before .before .before .before .before .counted .ensures), ← (c .before .before .before .before .before .counted-number .ensures), ← (c .before .before .are-flags .ensures), c .says .ensures, tests))
+    (λ c. search (← (c .before .before .before .before .before .counted .ensures), ← (c .before .before .before .before .counted-number .ensures), ← (c .before .are-flags .ensures), tests)))

@@ -12,6 +12,6 @@ is-session-spec =
     (λ c. search needs)
     (λ c κs. search needs)
     (λ c κs. search needs)
-    (λ c. search (← (c .before .before .new .ensures), ← (c .before .number .ensures), tests))
+    (λ c. search (← (c .before .before .start .ensures), ← (c .before .started-number .ensures), tests))
     (λ c κs. search needs)
-    (λ c. search (← (c .before .before .before .new .ensures), ← (c .before .before .number .ensures), c .stands .ensures, tests)))
+    (λ c. search (← (c .before .before .before .start .ensures), ← (c .before .before .started-number .ensures), c .stands .ensures, tests)))

@@ -8,4 +8,4 @@ none-spec =
     (tie.spec
     (λ c κs. search needs)
     (λ c κs. search needs)
-    (λ c. rw (c .before .blank .ensures, c .nothing .ensures)))
+    (λ c. rw (c .before .blank .ensures, c .nothing-accepted .ensures)))

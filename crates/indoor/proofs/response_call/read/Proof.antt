@@ -1,0 +1,22 @@
+use Rattle.basis.specs.Left.{answers, leaves}
+use Rattle.indoor_rules.specs.Response.{readOf}
+use borrow.Author.Needs.{needs}
+use Rattle.indoor.proofs.response_call.read.Statement.{statement}
+use Rattle.indoor.proofs.response_call.read.Tie as tie
+
+pub read-spec : {M : Type 1} → statement M
+unfolding readOf
+read-spec =
+    tie.close
+    (tie.spec
+    (λ c κs. search needs)
+    (λ c. search needs)
+    (λ c. search needs)
+    (λ c κs. search needs)
+    (λ c. rw (← (c .before .before .before .read-response .ensures), c .before .enum-told .given .1, c .refused .ensures))
+    (λ c κs. search needs)
+    (λ c κs. search needs)
+    (λ c κs. search needs)
+    (λ c. search needs)
+    (λ c. let s = c .before .before .before .send in
+    rw (← (c .before .before .before .before .before .before .before .before .before .before .before .read-response .ensures), c .before .before .before .before .before .before .before .before .before .parsed .given .1, ← (c .before .before .before .before .before .decide .ensures), c .finish .ensures, answers (s .ensures), leaves (s .ensures))))

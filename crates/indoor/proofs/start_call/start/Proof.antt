@@ -1,0 +1,17 @@
+use Rattle.indoor_rules.specs.Start.{startedOf}
+use borrow.Author.Needs.{needs}
+use Rattle.indoor.proofs.start_call.start.Statement.{statement}
+use Rattle.indoor.proofs.start_call.start.Tie as tie
+
+pub start-spec : {M : Type 1} → statement M
+unfolding startedOf
+start-spec =
+    tie.close
+    (tie.spec
+    (λ c κs. search needs)
+    (λ c. search needs)
+    (λ c. search needs)
+    (λ c. rw (← (c .before .before .new .ensures), c .enum-told .given .1))
+    (λ c κs. search needs)
+    (λ c. search needs)
+    (λ c. rw (← (c .before .before .before .before .before .before .before .new .ensures), c .before .before .before .before .before .checked .given .1) (c .before .before .begin .ensures)))

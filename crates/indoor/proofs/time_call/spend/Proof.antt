@@ -1,0 +1,14 @@
+use Rattle.basis.specs.Left.{answers, leaves}
+use borrow.Author.Needs.{needs}
+use Rattle.indoor.proofs.time_call.spend.Statement.{statement}
+use Rattle.indoor.proofs.time_call.spend.Tie as tie
+
+pub spend-spec : {M : Type 1} → statement M
+spend-spec =
+    tie.close
+    (tie.spec
+    (λ c κs. search needs)
+    (λ c κs. search needs)
+    (λ c κs. search needs)
+    (λ c. search needs)
+    (λ c. let p = c .before .before .before .prompt in rw (← (c .before .before .before .before .before .pass .ensures), c .finish .ensures, answers (p .ensures), leaves (p .ensures))))

@@ -1,0 +1,31 @@
+// What a call returns of the session.
+use indoor_state::answer::Answer;
+use indoor_state::plan::Plan;
+use indoor_state::session::Indoor;
+use indoor_state::session::Outcome;
+use indoor_state::step::Step;
+ghost use mathlib.Core.Path.{_≡_};
+ghost use Rattle.indoor_rules.specs.Session.{ends, finishOf};
+
+pub(crate) fn refused(session: Indoor, answer: Answer) -> Outcome
+    ensures { λ r. ⌜ r ≡ ends session answer 0 ⌝ }
+{
+    Outcome {
+        state: session,
+        answer,
+        written: 0,
+    }
+}
+
+// The step that was decided, and how many bytes of its request were written.
+pub(crate) fn finish(plan: Plan, step: Step, written: usize) -> Outcome
+    ensures { λ r. ⌜ r ≡ finishOf plan step written ⌝ }
+{
+    let answer = step.answer;
+    let stand = step.stand;
+    Outcome {
+        state: Indoor { plan, stand },
+        answer,
+        written,
+    }
+}

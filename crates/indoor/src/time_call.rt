@@ -1,0 +1,55 @@
+// One time call. It borrows the file and the output buffer, so that 28 and 27 can refuse it.
+use crate::outcome::finish;
+use crate::outcome::refused;
+use crate::send::send;
+use indoor_decide::pass;
+use indoor_state::answer::Answer;
+use indoor_state::plan::Plan;
+use indoor_state::session::Indoor;
+use indoor_state::session::Outcome;
+use wire::codes;
+ghost use mathlib.Core.Path.{_≡_};
+ghost use Prim.Native.Nat.{_≤_};
+ghost use lib.ListN.{length};
+ghost use Rattle.basis.specs.Left.{left};
+ghost use Rattle.lent.specs.Led.{leads};
+ghost use Rattle.wire.specs.Codes.{longest};
+ghost use Rattle.indoor_rules.specs.Pass.{passOf};
+ghost use Rattle.indoor_rules.specs.Send.{bytesOf};
+ghost use Rattle.indoor_rules.specs.Session.{doneOf};
+ghost use Rattle.indoor_rules.specs.Time.{timeOf};
+
+pub fn time(session: Indoor, file: &[u8], elapsed: u16, out: &mut [u8]) -> Outcome
+    ensures { λ r. ⌜ left r (now (out .exit)) ≡ timeOf session (now (file .entry)) elapsed (now (out .entry)) ⌝ }
+{
+    if file.len() != session.plan.length as usize {
+        return refused(session, Answer::FileLength);
+    }
+    if out.len() < codes::LONGEST {
+        return refused(session, Answer::BufferShort);
+    }
+    spend(session, file, elapsed, out)
+}
+
+fn spend(session: Indoor, file: &[u8], elapsed: u16, out: &mut [u8]) -> Outcome
+    requires { ⌜ longest ≤ length (now out) ⌝ }
+    ensures { λ r. ⌜ left r (now (out .exit)) ≡ doneOf (session .plan) (passOf (session .plan) (session .stand) elapsed) (now (file .entry)) (now (out .entry)) ⌝ }
+{
+    let plan = session.plan;
+    let stand = session.stand;
+    let step = pass(plan, stand, elapsed);
+    let answer = step.answer;
+    let written = prompt(out, file, plan, answer);
+    finish(plan, step, written)
+}
+
+// Most time calls only count: nothing goes out then, and the file is not looked at.
+fn prompt(out: &mut [u8], file: &[u8], plan: Plan, answer: Answer) -> usize
+    requires { ⌜ longest ≤ length (now out) ⌝ }
+    ensures { λ r. ⌜ left r (now (out .exit)) ≡ leads (bytesOf plan (now (file .entry)) answer) (now (out .entry)) ⌝ }
+{
+    let Answer::Passed = answer else {
+        return send(out, file, plan, answer);
+    };
+    0
+}

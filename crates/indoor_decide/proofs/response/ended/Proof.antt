@@ -1,0 +1,16 @@
+use Rattle.basis.specs.Pick.{tests}
+use Rattle.indoor_rules.specs.Decide.{endedOf}
+use borrow.Author.Needs.{needs}
+use Rattle.indoor_decide.proofs.response.ended.Statement.{statement}
+use Rattle.indoor_decide.proofs.response.ended.Tie as tie
+
+pub ended-spec : {M : Type 1} → statement M
+unfolding endedOf
+ended-spec =
+    tie.close
+    (tie.spec
+    (λ c κs. search needs)
+    (λ c κs. search needs)
+    (λ c. search (tests, ← (c .before .before .last .ensures)))
+    (λ c κs. search needs)
+    (λ c. search (tests, ← (c .before .before .last .ensures))))

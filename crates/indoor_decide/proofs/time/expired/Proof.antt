@@ -1,0 +1,19 @@
+use Rattle.indoor_rules.specs.Pass.{expiredOf}
+use borrow.Author.Needs.{needs}
+use Rattle.indoor_decide.proofs.time.expired.Statement.{statement}
+use Rattle.indoor_decide.proofs.time.expired.Tie as tie
+
+pub expired-spec : {M : Type 1} → statement M
+unfolding expiredOf
+expired-spec =
+    tie.close
+    (tie.spec
+    (λ c. search needs)
+    (λ c κs. search needs)
+    (λ c. search needs)
+    (λ c κs. search needs)
+    (λ c. search needs)
+    (λ c κs. search needs)
+    (λ c. rw (c .before .enum-told .given .1) search)
+    (λ c. rw (c .before .enum-told2 .given .1) search)
+    (λ c. rw (c .before .enum-told3 .given .1) search))

@@ -1,0 +1,19 @@
+use Rattle.indoor_rules.specs.Pass.{resentOf}
+use borrow.Author.Needs.{needs}
+use Rattle.indoor_decide.proofs.time.resent.Statement.{statement}
+use Rattle.indoor_decide.proofs.time.resent.Tie as tie
+
+pub resent-spec : {M : Type 1} → statement M
+unfolding resentOf
+resent-spec =
+    tie.close
+    (tie.spec
+    (λ c. search needs)
+    (λ c κs. search needs)
+    (λ c. search needs)
+    (λ c κs. search needs)
+    (λ c. search needs)
+    (λ c κs. search needs)
+    (λ c. rw (c .before .enum-told .given .1) (c .at .ensures))
+    (λ c. rw (c .before .enum-told2 .given .1) (c .at2 .ensures))
+    (λ c. rw (c .before .enum-told3 .given .1) (c .fails .ensures)))

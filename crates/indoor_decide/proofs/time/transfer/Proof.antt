@@ -1,0 +1,15 @@
+use Rattle.indoor_rules.specs.Pass.{transferPassOf}
+use borrow.Author.Needs.{needs}
+use Rattle.indoor_decide.proofs.time.transfer.Statement.{statement}
+use Rattle.indoor_decide.proofs.time.transfer.Tie as tie
+
+pub transfer-spec : {M : Type 1} → statement M
+unfolding transferPassOf
+transfer-spec =
+    tie.close
+    (tie.spec
+    (λ c κs. search needs)
+    (λ c κs. search needs)
+    (λ c κs. search needs)
+    (λ c κs. search needs)
+    (λ c. rw (← (c .before .before .left-of .ensures), ← (c .before .before .before .expires .ensures), ← (c .before .sent .ensures)) (c .paced .ensures)))

@@ -1,0 +1,14 @@
+use Rattle.indoor_rules.specs.Pass.{validatePassOf}
+use borrow.Author.Needs.{needs}
+use Rattle.indoor_decide.proofs.time.validate.Statement.{statement}
+use Rattle.indoor_decide.proofs.time.validate.Tie as tie
+
+pub validate-spec : {M : Type 1} → statement M
+unfolding validatePassOf
+validate-spec =
+    tie.close
+    (tie.spec
+    (λ c κs. search needs)
+    (λ c κs. search needs)
+    (λ c κs. search needs)
+    (λ c. rw (← (c .before .left-of .ensures), ← (c .before .before .resends .ensures)) (c .paced .ensures)))

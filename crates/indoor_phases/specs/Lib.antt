@@ -1,3 +1,0 @@
-pub mod Phase
-pub mod Answer
-pub mod Step

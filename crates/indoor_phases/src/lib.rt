@@ -1,5 +1,0 @@
-// Where the indoor end stands, what it answers and what goes out with it (01, The indoor end's phases; 01, Numbers we answer).
-pub mod answer;
-pub mod phase;
-pub mod plan;
-pub mod step;

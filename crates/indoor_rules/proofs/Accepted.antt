@@ -1,0 +1,48 @@
+-- What a decision says, said back: what is accepted and what failed, n, and how the empty block is remembered (01, The indoor end's phases).
+use Prim.Native.Nat.{ℕ, _*_, _≤_}
+use mathlib.Core.Bool.{Bool, true}
+use mathlib.Core.Logic.{_⊎_, inl, inr}
+use mathlib.Core.Path.{_≡_, refl}
+use borrow.Author.Tests.{eq-eqb, eqb-true}
+use Rattle.basis.specs.Pick.{pick, pick-all}
+use Rattle.image.proofs.Laws.{enough, least}
+use Rattle.indoor_state.specs.Phase.{stands}
+use Rattle.indoor_state.specs.Step.{step}
+use Rattle.indoor_rules.specs.Step.{goes, fails, last, emptiedBy}
+use Rattle.indoor_state.specs.declared.plan.Plan.{Plan}
+use Rattle.indoor_state.specs.declared.phase.Reason.{Reason}
+use Rattle.indoor_state.specs.declared.phase.Phase.{Phase}
+use Rattle.indoor_state.specs.declared.phase.Phase.the-variants.{Failed}
+use Rattle.indoor_state.specs.declared.answer.Answer.{Answer}
+use Rattle.indoor_state.specs.declared.answer.Answer.the-variants as Ans
+
+-- Silence and resends are zero.
+pub accepted : (phase : Phase) (answer : Answer) → goes phase answer ≡ step (stands phase 0 0) answer
+accepted phase answer = refl
+
+-- Nothing is left but the reason, and it is the answer too.
+pub failed : (reason : Reason) → fails reason ≡ step (stands (Failed reason) 0 0) (Ans.Failed reason)
+failed reason = refl
+
+-- n is the least whole number with 256·n ≥ L.
+pub last-enough : (plan : Plan) → plan .length ≤ 256 * last plan
+last-enough plan = enough (plan .length)
+
+pub last-least : (plan : Plan) (n : ℕ) → plan .length ≤ 256 * n → last plan ≤ n
+last-least plan n h = least (plan .length) n h
+
+module _ (plan : Plan) (number : ℕ) (emptied : Bool) where
+  pub emptied-stays : emptied ≡ true → emptiedBy plan number emptied ≡ true
+  unfolding emptiedBy pick
+  emptied-stays e = rw e
+
+  pub emptied-last : number ≡ last plan → emptiedBy plan number emptied ≡ true
+  unfolding emptiedBy
+  emptied-last h = pick-all (λ (t : Bool). t ≡ true) emptied _ _ (λ _. refl) (λ _. eq-eqb number (last plan) h)
+
+  pub emptied-only : emptiedBy plan number emptied ≡ true → (emptied ≡ true) ⊎ (number ≡ last plan)
+  unfolding emptiedBy
+  emptied-only =
+      pick-all (λ (t : Bool). t ≡ true → (emptied ≡ true) ⊎ (number ≡ last plan)) emptied _ _
+      (λ e _. inl e)
+      (λ _ t. inr (eqb-true number (last plan) t))

@@ -1,0 +1,52 @@
+-- The order of the refusals in the paper's own numbers: 28, 27, 20, and then the step (01, Numbers we answer).
+use Prim.Native.Nat.{ℕ, _<_, _≤_}
+use mathlib.Core.Path.{_≡_}
+use mathlib.Core.List.{List}
+use borrow.Author.Tests.{eq-eqb, ne-eqb, lt-ltb, le-ltb}
+use lib.ListN.{length}
+use Rattle.basis.specs.Pick.{pick}
+use Rattle.basis.specs.Left.{left}
+use Rattle.wire.specs.Response as message
+use Rattle.wire.specs.declared.response.Response.{Response}
+use Rattle.wire.specs.declared.response.Parsed.the-variants as Par
+use Rattle.indoor_rules.specs.Decide.{decideOf}
+use Rattle.indoor_rules.specs.Pass.{passOf}
+use Rattle.indoor_state.specs.declared.answer.Answer.the-variants.{Malformed, BufferShort, FileLength}
+use Rattle.indoor_rules.specs.Session.{ends, doneOf}
+use Rattle.indoor_rules.specs.Response.{readOf, responseOf}
+use Rattle.indoor_rules.specs.Time.{timeOf}
+use Rattle.indoor_state.specs.declared.session.Indoor.{Indoor}
+
+module _ (s : Indoor) (file response out : List ℕ) where
+  pub response-28 : (length file ≡ s .plan .length → ⊥) → responseOf s file response out ≡ left (ends s FileLength 0) out
+  unfolding responseOf pick
+  response-28 h = rw (ne-eqb (length file) (s .plan .length) h)
+
+  module _ (lent : length file ≡ s .plan .length) where
+    pub response-27 : length out < 260 → responseOf s file response out ≡ left (ends s BufferShort 0) out
+    unfolding responseOf pick
+    response-27 h = rw (eq-eqb (length file) (s .plan .length) lent, lt-ltb (length out) 260 h)
+
+    module _ (room : 260 ≤ length out) where
+      pub response-20 : message.responseOf response ≡ Par.Malformed → responseOf s file response out ≡ left (ends s Malformed 0) out
+      unfolding responseOf readOf pick
+      response-20 e = rw (eq-eqb (length file) (s .plan .length) lent, le-ltb (length out) 260 room, e)
+
+      pub response-step : (r : Response) → message.responseOf response ≡ Par.Valid r
+          → responseOf s file response out ≡ doneOf (s .plan) (decideOf (s .plan) (s .stand) r) file out
+      unfolding responseOf readOf pick
+      response-step r e = rw (eq-eqb (length file) (s .plan .length) lent, le-ltb (length out) 260 room, e)
+
+module _ (s : Indoor) (file : List ℕ) (elapsed : ℕ) (out : List ℕ) where
+  pub time-28 : (length file ≡ s .plan .length → ⊥) → timeOf s file elapsed out ≡ left (ends s FileLength 0) out
+  unfolding timeOf pick
+  time-28 h = rw (ne-eqb (length file) (s .plan .length) h)
+
+  module _ (lent : length file ≡ s .plan .length) where
+    pub time-27 : length out < 260 → timeOf s file elapsed out ≡ left (ends s BufferShort 0) out
+    unfolding timeOf pick
+    time-27 h = rw (eq-eqb (length file) (s .plan .length) lent, lt-ltb (length out) 260 h)
+
+    pub time-step : 260 ≤ length out → timeOf s file elapsed out ≡ doneOf (s .plan) (passOf (s .plan) (s .stand) elapsed) file out
+    unfolding timeOf pick
+    time-step room = rw (eq-eqb (length file) (s .plan .length) lent, le-ltb (length out) 260 room)

@@ -1,0 +1,60 @@
+-- What a session that was started begins with: Identify, the file that was lent, and GET_FW_ID written.
+use Prim.Native.Nat.{ℕ, _≤_}
+use mathlib.Core.Path.{_≡_, refl}
+use mathlib.Core.List.{List, [], _∷_}
+use native.Mathlib.Omega.{arith}
+use borrow.Author.Tests.{eqb-false, ltb-false}
+use lib.Dec.{eqb, ltb}
+use lib.ListN.{length, take}
+use Rattle.basis.specs.Pick.{pick-all}
+use Rattle.basis.specs.Left.{Left, left}
+use Rattle.silence.specs.Settings.{settingsOf}
+use Rattle.silence.specs.declared.Settings.{Settings}
+use Rattle.silence.specs.declared.Checked.{Checked}
+use Rattle.silence.specs.declared.Checked.the-variants as Che
+use Rattle.wire.specs.Codes.{longest, imageSizeMost}
+use Rattle.wire.specs.Written.{requestBytes, bareBytes}
+use Rattle.indoor_state.specs.declared.plan.Release.{Release}
+use Rattle.indoor_state.specs.declared.phase.Phase.the-variants.{Identify}
+use Rattle.wire.specs.Codes.{imageSizeMost}
+use Rattle.indoor_rules.specs.Start.{beginOf, startedOf, startOf}
+use Rattle.indoor_state.specs.declared.session.Indoor.{Indoor}
+use Rattle.indoor_state.specs.declared.session.Started.{Started}
+use Rattle.indoor_state.specs.declared.session.Started.the-variants as Sta
+
+pub record Fresh (release : Release) (file : List ℕ) (s : Indoor) (first : List ℕ) : Type 0 where
+  pub offered : s .plan .release ≡ release
+  pub lent : s .plan .length ≡ length file
+  pub some : 1 ≤ length file
+  pub most : length file ≤ imageSizeMost
+  pub identify : s .stand .phase ≡ Identify
+  pub written : first ≡ 0x01 ∷ 0x81 ∷ []
+
+module _ (release : Release) (file out : List ℕ) where
+  abbrev Begins : Started → List ℕ → Type 0
+  Begins (Sta.Made s written) out′ = Fresh release file s (take written out′)
+  Begins Sta.Settings out′ = Unit
+  Begins Sta.FileSize out′ = Unit
+  Begins Sta.BufferShort out′ = Unit
+
+  abbrev B : Left Started → Type 0
+  B x = Begins (x .answer) (x .memory)
+
+  begin-fresh : (settings : Settings) → B (beginOf settings release file out)
+  unfolding beginOf requestBytes bareBytes
+  begin-fresh settings =
+      pick-all B (eqb (length file) 0) _ _ (λ _. tt)
+      (λ a. let none = eqb-false (length file) 0 a in
+      pick-all B (ltb imageSizeMost (length file)) _ _ (λ _. tt)
+      (λ b. let most = ltb-false imageSizeMost (length file) b in
+      pick-all B (ltb (length out) longest) _ _ (λ _. tt)
+      (λ _. record { offered = refl; lent = refl; some = omega arith; most = omega arith; identify = refl; written = refl })))
+
+  checked-fresh : (x : Checked) → B (startedOf x release file out)
+  unfolding startedOf
+  checked-fresh (Che.Made settings) = begin-fresh settings
+  checked-fresh Che.Refused = tt
+
+  pub start-fresh : (limit resends : ℕ) (s : Indoor) (written : ℕ) (out′ : List ℕ) → startOf limit resends release file out ≡ left (Sta.Made s written) out′
+      → Fresh release file s (take written out′)
+  start-fresh limit resends s written out′ e = rw e at (checked-fresh (settingsOf limit resends))

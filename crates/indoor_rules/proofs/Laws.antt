@@ -1,0 +1,140 @@
+-- The paper's sentences on the indoor end's calls, said back of the definitions (01, The indoor end's phases; 01, Numbers we answer).
+use Prim.Native.Nat.{ℕ}
+use mathlib.Core.Bool.{Bool, true, false, true≢false, _||_}
+use mathlib.Core.Path.{_≡_, refl, sym}
+use mathlib.Core.List.{List}
+use native.Mathlib.Omega.{arith}
+use borrow.Author.Tests.{eq-eqb}
+use lib.Dec.{eqb}
+use Rattle.basis.specs.Pick.{When, when-met}
+use Rattle.basis.specs.Left.{Left}
+use Rattle.wire.specs.declared.response.Response.{Response}
+use Rattle.indoor_state.specs.Answer.{numberOf, sendsOf}
+use Rattle.indoor_state.specs.Step.{step}
+use Rattle.indoor_rules.specs.Decide.{decideOf}
+use Rattle.indoor_rules.specs.Pass.{passOf}
+use Rattle.indoor_state.specs.declared.phase.Reason.{Reason}
+use Rattle.indoor_state.specs.declared.phase.Reason.the-variants as Why
+use Rattle.indoor_state.specs.declared.phase.Phase.{Phase}
+use Rattle.indoor_state.specs.declared.phase.Phase.the-variants.{Done, Failed}
+use Rattle.indoor_state.specs.declared.phase.Stand.{Stand}
+use Rattle.indoor_state.specs.declared.answer.Answer.{Answer}
+use Rattle.indoor_state.specs.declared.answer.Answer.the-variants as Ans
+use Rattle.indoor_state.specs.declared.answer.Sends.the-variants.{Nothing}
+use Rattle.indoor_state.specs.declared.step.Step.{Step}
+use Rattle.indoor_rules.proofs.Owes.{hears, Row, Stays, decide-row}
+use Rattle.indoor_rules.proofs.Ticks.{Ticks, Rests, pass-ticks}
+use Rattle.indoor_rules.specs.Session.{doneOf}
+use Rattle.indoor_rules.specs.Send.{sendsBytes}
+use Rattle.indoor_rules.specs.Response.{responseOf}
+use Rattle.indoor_rules.specs.Time.{timeOf}
+use Rattle.indoor_state.specs.declared.session.Indoor.{Indoor}
+use Rattle.indoor_state.specs.declared.session.Outcome.{Outcome}
+use Rattle.indoor_rules.proofs.Walk.{response-walk, time-walk}
+
+-- 01, Numbers we answer: "kept"
+abbrev pub keepsAll : ℕ → Bool
+keepsAll n = eqb n 20 || eqb n 21 || eqb n 27 || eqb n 28
+
+-- The session and the buffer are as they were, and nothing was written.
+abbrev pub Kept : Indoor → List ℕ → Left Outcome → Type 0
+Kept s out x = (x .answer .state ≡ s) × (x .memory ≡ out) × (x .answer .written ≡ 0)
+
+only-unexpected : (a : Answer) → hears (numberOf a) ≡ true → keepsAll (numberOf a) ≡ true → a ≡ Ans.Unexpected
+only-unexpected Ans.Identifying h k = absurd (true≢false (sym k))
+only-unexpected Ans.Initiating h k = absurd (true≢false (sym k))
+only-unexpected (Ans.Sending number) h k = absurd (true≢false (sym k))
+only-unexpected Ans.Validating h k = absurd (true≢false (sym k))
+only-unexpected Ans.Waiting h k = absurd (true≢false (sym k))
+only-unexpected Ans.Finished h k = absurd (true≢false (sym k))
+only-unexpected Ans.Passed h k = absurd (true≢false (sym k))
+only-unexpected Ans.Malformed h k = absurd (true≢false (sym h))
+only-unexpected Ans.Unexpected h k = refl
+only-unexpected Ans.BufferShort h k = absurd (true≢false (sym h))
+only-unexpected Ans.FileLength h k = absurd (true≢false (sym h))
+only-unexpected (Ans.Failed Why.Silence) h k = absurd (true≢false (sym k))
+only-unexpected (Ans.Failed Why.Refused) h k = absurd (true≢false (sym k))
+only-unexpected (Ans.Failed Why.NotNewer) h k = absurd (true≢false (sym k))
+only-unexpected (Ans.Failed Why.TooLarge) h k = absurd (true≢false (sym k))
+only-unexpected (Ans.Failed Why.WrongNumber) h k = absurd (true≢false (sym k))
+only-unexpected (Ans.Failed Why.NotValid) h k = absurd (true≢false (sym k))
+
+stays-at : (before phase : Phase) (stand : Stand) (x : Step) → before ≡ phase → Stays before stand x → Stays phase stand x
+stays-at before phase stand x e h = rw e at h
+
+rests-at : (before phase : Phase) (stand : Stand) (x : Step) → before ≡ phase → Rests before stand x → Rests phase stand x
+rests-at before phase stand x e h = rw e at h
+
+module _ (s : Indoor) (file out : List ℕ) where
+  -- A step that changes nothing, with an answer that sends nothing.
+  rested : (x : Step) (answer : Answer) → sendsOf answer ≡ Nothing → x ≡ step (s .stand) answer → Kept s out (doneOf (s .plan) x file out)
+  unfolding sendsBytes
+  rested x answer n e = (rw e, rw (e, n), rw (e, n))
+
+  passed : (x : Step) → When (eqb (numberOf (x .answer)) 21) (x .stand ≡ s .stand) → hears (numberOf (x .answer)) ≡ true → keepsAll (numberOf (x .answer)) ≡ true
+      → x ≡ step (s .stand) Ans.Unexpected
+  passed x w h k =
+      let e : x .answer ≡ Ans.Unexpected = only-unexpected (x .answer) h k in
+      let same : x .stand ≡ s .stand = when-met (eqb (numberOf (x .answer)) 21) w (rw e) in
+      let all : step (x .stand) (x .answer) ≡ step (s .stand) Ans.Unexpected = rw (e, same) in
+      all
+
+module _ (s : Indoor) (file response out : List ℕ) where
+  abbrev pub after : Left Outcome
+  after = responseOf s file response out
+
+  row : (r : Response) → Row (s .plan) (s .stand) r (decideOf (s .plan) (s .stand) r)
+  row r = decide-row (s .plan) (s .stand) r
+
+  -- Answers 20, 21, 27 and 28 keep the state and the buffer whole.
+  pub refused-keeps : keepsAll (numberOf (after .answer .answer)) ≡ true → Kept s out after
+  refused-keeps =
+      response-walk s file response out (λ x. keepsAll (numberOf (x .answer .answer)) ≡ true → Kept s out x)
+      (λ _. (refl, refl, refl)) (λ _. (refl, refl, refl)) (λ _. (refl, refl, refl))
+      (λ r _ _ _ k.
+      let x = decideOf (s .plan) (s .stand) r in
+      rested s file out x Ans.Unexpected refl (passed s file out x (row r .passes) (row r .number) k))
+
+  -- What the session was started with is the session's to its end.
+  pub plan-stays : after .answer .state .plan ≡ s .plan
+  plan-stays = response-walk s file response out (λ x. x .answer .state .plan ≡ s .plan) refl refl refl (λ _ _ _ _. refl)
+
+  -- Done and Failed are never left: a response there changes nothing and writes nothing.
+  pub done-stays : s .stand .phase ≡ Done → Kept s out after
+  done-stays e =
+      response-walk s file response out (Kept s out) (refl, refl, refl) (refl, refl, refl) (refl, refl, refl)
+      (λ r _ _ _. let x = decideOf (s .plan) (s .stand) r in rested s file out x Ans.Unexpected refl (stays-at (s .stand .phase) Done (s .stand) x e (row r .stays)))
+
+  pub failed-stays : (reason : Reason) → s .stand .phase ≡ Failed reason → Kept s out after
+  failed-stays reason e =
+      response-walk s file response out (Kept s out) (refl, refl, refl) (refl, refl, refl) (refl, refl, refl)
+      (λ r _ _ _. let x = decideOf (s .plan) (s .stand) r in rested s file out x Ans.Unexpected refl (stays-at (s .stand .phase) (Failed reason) (s .stand) x e (row r .stays)))
+
+  -- An accepted response sets silence and resends to zero.
+  pub accepted-resets : numberOf (after .answer .answer) ≡ 0 → (after .answer .state .stand .silence ≡ 0) × (after .answer .state .stand .resends ≡ 0)
+  accepted-resets =
+      response-walk s file response out
+      (λ x. numberOf (x .answer .answer) ≡ 0 → (x .answer .state .stand .silence ≡ 0) × (x .answer .state .stand .resends ≡ 0))
+      (λ e. absurd (omega arith)) (λ e. absurd (omega arith)) (λ e. absurd (omega arith))
+      (λ r _ _ _ e. when-met (eqb (numberOf (decideOf (s .plan) (s .stand) r .answer)) 0) (row r .taken) (eq-eqb (numberOf (decideOf (s .plan) (s .stand) r .answer)) 0 e))
+
+module _ (s : Indoor) (file : List ℕ) (elapsed : ℕ) (out : List ℕ) where
+  abbrev pub ticked : Left Outcome
+  ticked = timeOf s file elapsed out
+
+  tick : Ticks (s .plan) (s .stand) elapsed (passOf (s .plan) (s .stand) elapsed)
+  tick = pass-ticks (s .plan) (s .stand) elapsed
+
+  pub time-plan-stays : ticked .answer .state .plan ≡ s .plan
+  time-plan-stays = time-walk s file elapsed out (λ x. x .answer .state .plan ≡ s .plan) refl refl (λ _ _. refl)
+
+  -- Time does nothing in Done and Failed.
+  pub time-done-stays : s .stand .phase ≡ Done → Kept s out ticked
+  time-done-stays e =
+      time-walk s file elapsed out (Kept s out) (refl, refl, refl) (refl, refl, refl)
+      (λ _ _. rested s file out (passOf (s .plan) (s .stand) elapsed) Ans.Passed refl (rests-at (s .stand .phase) Done (s .stand) (passOf (s .plan) (s .stand) elapsed) e (tick .rests)))
+
+  pub time-failed-stays : (reason : Reason) → s .stand .phase ≡ Failed reason → Kept s out ticked
+  time-failed-stays reason e =
+      time-walk s file elapsed out (Kept s out) (refl, refl, refl) (refl, refl, refl)
+      (λ _ _. rested s file out (passOf (s .plan) (s .stand) elapsed) Ans.Passed refl (rests-at (s .stand .phase) (Failed reason) (s .stand) (passOf (s .plan) (s .stand) elapsed) e (tick .rests)))

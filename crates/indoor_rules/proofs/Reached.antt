@@ -1,0 +1,83 @@
+-- Every session that calls lead to has written nothing but what the paper allows, and never closes early (01, The indoor end's phases).
+use Prim.Native.Nat.{ℕ, _≤_}
+use mathlib.Core.Path.{_≡_, sym, subst}
+use mathlib.Core.List.{List, [], _∷_, List·Memᴰ, List·Memᴰ·head, List·Memᴰ·tail}
+use native.Mathlib.Omega.{arith}
+use lib.ListN.{length, take}
+use Rattle.basis.specs.Left.{left}
+use Rattle.wire.specs.Fields.{Words}
+use Rattle.wire.specs.Request as message
+use Rattle.wire.specs.declared.request.Versions.{Versions}
+use Rattle.wire.specs.Written.{requestBytes, bareBytes}
+use Rattle.indoor_state.specs.declared.plan.Plan.{Plan}
+use Rattle.indoor_state.specs.declared.plan.Release.{Release}
+use Rattle.indoor_state.specs.declared.phase.Progress.{Progress}
+use Rattle.indoor_state.specs.declared.phase.Phase.{Phase}
+use Rattle.indoor_state.specs.declared.phase.Phase.the-variants.{Transfer, Validate, Done}
+use Rattle.indoor_state.specs.declared.answer.Answer.the-variants.{Identifying}
+use Rattle.indoor_rules.specs.Send.{sendsBytes}
+use Rattle.indoor_rules.specs.History.{Reached, starts, hears, passes, Genuine, AllGenuine, emptyBlock}
+use Rattle.indoor_state.specs.declared.session.Indoor.{Indoor}
+use Rattle.indoor_rules.specs.Step.{last}
+use Rattle.indoor_rules.proofs.Owes.{Fit}
+use Rattle.indoor_rules.proofs.Fresh.{Fresh, start-fresh}
+use Rattle.indoor_rules.proofs.Genuine.{bytes-genuine}
+use Rattle.indoor_rules.proofs.Holds.{EmptySent, Holds, heard-holds, ticked-holds}
+
+-- A session that was made holds it from the start.
+fresh-holds : (file : List ℕ) (release : Release) (s : Indoor) (first : List ℕ) → Words (release .versions) → Fresh release file s first → Holds file release s (first ∷ [])
+unfolding sendsBytes requestBytes bareBytes
+fresh-holds file release s first words f = record {
+  offered = f .offered;
+  lent = f .lent;
+  some = f .some;
+  most = f .most;
+  fit = subst (Fit (s .plan)) (sym (f .identify)) tt;
+  genuine = (
+    subst (λ (m : List ℕ). Genuine (s .plan .release .versions) file m (message.requestOf m)) (sym (f .written))
+        (bytes-genuine (s .plan) file Identifying (rw (f .offered) words) (f .lent) (f .most) tt (λ e. omega arith)),
+    tt,
+  );
+  emptied = subst (λ (p : Phase). EmptySent file p (first ∷ [])) (sym (f .identify)) tt;
+}
+
+pub reach-holds : (file : List ℕ) (release : Release) (s : Indoor) (sent : List (List ℕ)) → Words (release .versions) → Reached file release s sent → Holds file release s sent
+reach-holds file release s sent words (starts limit resends _ out _ written out′ e) =
+    fresh-holds file release s (take written out′) words (start-fresh release file out limit resends s written out′ e)
+reach-holds file release s sent words (hears {s = t} {sent = before} h lent response out same) =
+    heard-holds file release words t before (reach-holds file release t before words h) lent response out same
+reach-holds file release s sent words (passes {s = t} {sent = before} h lent elapsed out same) =
+    ticked-holds file release words t before (reach-holds file release t before words h) lent elapsed out same
+
+genuine-each : (versions : Versions) (file : List ℕ) (sent : List (List ℕ)) (m : List ℕ) → AllGenuine versions file sent → List·Memᴰ m sent → Genuine versions file m (message.requestOf m)
+genuine-each versions file (x ∷ sent) m all (List·Memᴰ·head e) = rw e (all .0)
+genuine-each versions file (x ∷ sent) m all (List·Memᴰ·tail h) = genuine-each versions file sent m (all .1) h
+
+emptied-at : (file : List ℕ) (before phase : Phase) (sent : List (List ℕ)) → before ≡ phase → EmptySent file before sent → EmptySent file phase sent
+emptied-at file before phase sent e h = rw e at h
+
+fit-at : (plan : Plan) (before phase : Phase) → before ≡ phase → Fit plan before → Fit plan phase
+fit-at plan before phase e h = rw e at h
+
+module _ (file : List ℕ) (release : Release) (s : Indoor) (sent : List (List ℕ)) (words : Words (release .versions)) (reached : Reached file release s sent) where
+  -- Every request ever written is GET_FW_ID, INITIATE with the file's versions, a DATA whose number j ≤ n carries exactly block j of the
+  -- file, VALIDATE or ABORT.
+  pub all-genuine : AllGenuine (release .versions) file sent
+  all-genuine = let h = reach-holds file release s sent words reached in rw (h .offered) at (h .genuine)
+
+  pub each-genuine : (m : List ℕ) → List·Memᴰ m sent → Genuine (release .versions) file m (message.requestOf m)
+  each-genuine m = genuine-each (release .versions) file sent m all-genuine
+
+  -- There is no Validate and no Done before the empty block has gone out.
+  pub validate-emptied : (left : ℕ) → s .stand .phase ≡ Validate left → List·Memᴰ (emptyBlock file) sent
+  validate-emptied left e = emptied-at file (s .stand .phase) (Validate left) sent e (reach-holds file release s sent words reached .emptied)
+
+  pub done-emptied : s .stand .phase ≡ Done → List·Memᴰ (emptyBlock file) sent
+  done-emptied e = emptied-at file (s .stand .phase) Done sent e (reach-holds file release s sent words reached .emptied)
+
+  -- The file is 1 to 1,048,575 bytes, and the block last asked for is one of its n blocks or the empty one.
+  pub length-within : (1 ≤ length file) × (length file ≤ 1048575) × (s .plan .length ≡ length file)
+  length-within = let h = reach-holds file release s sent words reached in (h .some, h .most, h .lent)
+
+  pub asked-within : (p : Progress) → s .stand .phase ≡ Transfer p → p .asked ≤ last (s .plan)
+  asked-within p e = fit-at (s .plan) (s .stand .phase) (Transfer p) e (reach-holds file release s sent words reached .fit)

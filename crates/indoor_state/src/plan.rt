@@ -1,0 +1,19 @@
+// What a session was started with (01, Sizes and numbers).
+use silence::Settings;
+use wire::request::Versions;
+
+// What the file is offered as.
+#[repr(C)]
+pub struct Release {
+    pub vendor: u16,
+    pub product: u16,
+    pub versions: Versions,
+}
+
+// `length` is the file's.
+#[repr(C)]
+pub struct Plan {
+    pub settings: Settings,
+    pub release: Release,
+    pub length: u32,
+}

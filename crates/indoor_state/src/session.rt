@@ -1,0 +1,24 @@
+// A session of the indoor end: what it was started with, where it stands, and what a call returns of it.
+use crate::answer::Answer;
+use crate::phase::Stand;
+use crate::plan::Plan;
+
+pub struct Indoor {
+    pub plan: Plan,
+    pub stand: Stand,
+}
+
+// `written` is how many bytes of the output buffer the first request took.
+pub enum Started {
+    Made { state: Indoor, written: usize },
+    Settings,
+    FileSize,
+    BufferShort,
+}
+
+// What a response and a time call answer: the session as it then stands, and how many bytes of the output buffer were written.
+pub struct Outcome {
+    pub state: Indoor,
+    pub answer: Answer,
+    pub written: usize,
+}

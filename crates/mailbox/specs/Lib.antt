@@ -1,3 +1,0 @@
-pub mod Mailbox
-pub mod Events
-pub mod History

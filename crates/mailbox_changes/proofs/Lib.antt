@@ -1,2 +1,0 @@
-pub mod Lowest
-pub mod Unique

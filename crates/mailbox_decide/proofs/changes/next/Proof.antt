@@ -1,0 +1,13 @@
+use Rattle.mailbox_rules.specs.Changes.{nextOf}
+use borrow.Author.Needs.{needs}
+use Rattle.mailbox_decide.proofs.changes.next.Statement.{statement}
+use Rattle.mailbox_decide.proofs.changes.next.Tie as tie
+
+pub next-spec : {M : Type 1} → statement M
+unfolding nextOf
+next-spec =
+    tie.close
+    (tie.spec
+    (λ c κs. search needs)
+    (λ c κs. search needs)
+    (λ c. cc))

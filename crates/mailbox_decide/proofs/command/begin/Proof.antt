@@ -1,0 +1,18 @@
+use Rattle.basis.specs.Pick.{pick}
+use Rattle.basis.specs.Pick.{tests}
+use Rattle.mailbox_rules.specs.Write.{begins}
+use borrow.Author.Needs.{needs}
+use Rattle.mailbox_decide.proofs.command.begin.Statement.{statement}
+use Rattle.mailbox_decide.proofs.command.begin.Tie as tie
+
+pub begin-spec : {M : Type 1} → statement M
+unfolding begins pick
+begin-spec =
+    tie.close
+    (tie.spec
+    (λ c κs. search needs)
+    (λ c κs. search needs)
+    (λ c. search (tests, c .tell .ensures, c .before .if1 .taken, ← c .before .before .there .ensures))
+    (λ c κs. search needs)
+    (λ c κs. search needs)
+    (λ c. rw (← c .before .before .before .there .ensures, c .before .before .if1 .left, ← c .before .command .ensures) (c .tell2 .ensures)))

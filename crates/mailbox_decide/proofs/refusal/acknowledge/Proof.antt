@@ -1,0 +1,16 @@
+use Rattle.basis.specs.Pick.{pick}
+use Rattle.mailbox_decide.proofs.Judged.{acknowledges}
+use borrow.Author.Needs.{needs}
+use Rattle.mailbox_decide.proofs.refusal.acknowledge.Statement.{statement}
+use Rattle.mailbox_decide.proofs.refusal.acknowledge.Tie as tie
+
+pub acknowledge-spec : {M : Type 1} → statement M
+unfolding pick
+acknowledge-spec =
+    tie.close
+    (tie.spec
+    (λ c κs. search needs)
+    (λ c κs. search needs)
+    (λ c. rw (← acknowledges _ _ _ _ _, ← c .before .before .clears-nothing .ensures, c .before .if1 .taken) (c .stopped .ensures))
+    (λ c κs. search needs)
+    (λ c. rw (← acknowledges _ _ _ _ _, ← c .before .before .clears-nothing .ensures, c .before .if1 .left) (c .stopped2 .ensures)))

@@ -1,0 +1,21 @@
+// What the mailbox decides on a write, on a report of the port and on a change, and what CCI then says; no memory (01, The mailbox).
+mod answer;
+mod bits;
+mod changes;
+mod command;
+mod connectors;
+mod notice;
+mod refusal;
+mod report;
+mod step;
+mod told;
+
+pub use answer::answer_number;
+pub use bits::cci;
+pub use command::write;
+pub use connectors::counted;
+pub use connectors::counted_number;
+pub use notice::change;
+pub use report::fail;
+pub use report::succeed;
+pub use step::refused;

@@ -1,0 +1,23 @@
+use Rattle.basis.specs.Pick.{tests}
+use Rattle.receiver_rules.specs.Request.{requestOf}
+use borrow.Author.Needs.{needs}
+use Rattle.receiver.proofs.request_call.request.Statement.{statement}
+use Rattle.receiver.proofs.request_call.request.Tie as tie
+
+pub request-spec : {M : Type 1} → statement M
+unfolding requestOf
+request-spec =
+    tie.close
+    (tie.spec
+    (λ c. search needs)
+    (λ c κs. search needs)
+    (λ c. search (c .refused .ensures, tests))
+    (λ c κs. search needs)
+    (λ c. search (c .refused2 .ensures, tests))
+    (λ c κs. search needs)
+    (λ c κs. search needs)
+    (λ c. search (c .refused3 .ensures, ← (c .before .before .out-of-range .ensures), tests))
+    (λ c κs. search needs)
+    (λ c. search needs)
+    (λ c. search needs)
+    (λ c. search (← (c .before .before .before .before .before .before .before .before .out-of-range .ensures), tests)))

@@ -1,0 +1,16 @@
+use Rattle.receiver_rules.specs.Time.{spendOf}
+use Rattle.basis.specs.Left.{answers, leaves}
+use borrow.Author.Needs.{needs}
+use Rattle.receiver.proofs.time_call.spend.Statement.{statement}
+use Rattle.receiver.proofs.time_call.spend.Tie as tie
+
+pub spend-spec : {M : Type 1} → statement M
+unfolding spendOf
+spend-spec =
+    tie.close
+    (tie.spec
+    (λ c κs. search needs)
+    (λ c κs. search needs)
+    (λ c κs. search needs)
+    (λ c. search needs)
+    (λ c. rw (← (c .before .before .before .before .before .pass .ensures), c .moved .ensures, answers (c .before .before .before .prompt .ensures), leaves (c .before .before .before .prompt .ensures))))

@@ -1,0 +1,28 @@
+use Rattle.receiver_rules.specs.Decide.{decideOf}
+use borrow.Author.Needs.{needs}
+use Rattle.receiver_decide.proofs.request.decide.Statement.{statement}
+use Rattle.receiver_decide.proofs.request.decide.Tie as tie
+
+pub decide-spec : {M : Type 1} → statement M
+unfolding decideOf
+decide-spec =
+    tie.close
+    (tie.spec
+    (λ c. search needs)
+    (λ c κs. search needs)
+    (λ c. search needs)
+    (λ c κs. search needs)
+    (λ c. search needs)
+    (λ c κs. search needs)
+    (λ c. search needs)
+    (λ c κs. search needs)
+    (λ c. search needs)
+    (λ c κs. search needs)
+    (λ c. search needs)
+    (λ c κs. search needs)
+    (λ c. rw (c .before .enum-told .given .1) (c .to .ensures))
+    (λ c. rw (c .before .enum-told2 .given .1) (c .initiate .ensures))
+    (λ c. rw (c .before .before .request .given .1) (c .block .ensures))
+    (λ c. rw (c .before .enum-told3 .given .1) (c .validate .ensures))
+    (λ c. rw (c .before .enum-told4 .given .1) (c .abort .ensures))
+    (λ c. rw (c .before .enum-told5 .given .1) (c .to2 .ensures)))

@@ -1,0 +1,19 @@
+use Rattle.receiver_rules.specs.Pass.{expireOf}
+use borrow.Author.Needs.{needs}
+use Rattle.receiver_decide.proofs.time.expire.Statement.{statement}
+use Rattle.receiver_decide.proofs.time.expire.Tie as tie
+
+pub expire-spec : {M : Type 1} → statement M
+unfolding expireOf
+expire-spec =
+    tie.close
+    (tie.spec
+    (λ c. search needs)
+    (λ c κs. search needs)
+    (λ c. search needs)
+    (λ c κs. search needs)
+    (λ c. search needs)
+    (λ c κs. search needs)
+    (λ c. rw (c .before .enum-told .given .1) (c .after .ensures))
+    (λ c. rw (c .before .enum-told2 .given .1) (c .after2 .ensures))
+    (λ c. rw (c .before .enum-told3 .given .1) (c .after3 .ensures)))

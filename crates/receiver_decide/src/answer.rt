@@ -1,0 +1,101 @@
+// The number of an answer, and the response that goes out with it (01, Numbers we answer).
+use receiver_state::answer::Answer;
+use receiver_state::answer::Reply;
+use wire::codes;
+use wire::response::Identity;
+use wire::response::Response;
+use wire::status::Status;
+ghost use mathlib.Core.Path.{_≡_};
+ghost use Rattle.receiver_state.specs.Answer.{identified, initiated, receipt, validated, numberOf, replyOf};
+
+// 01, Numbers we answer.
+pub fn answer_number(answer: Answer) -> u8
+    ensures { λ r. ⌜ r ≡ numberOf answer ⌝ }
+{
+    match answer {
+        Answer::Identified => 0,
+        Answer::Offered { wait: _ } => 0,
+        Answer::Asking { wait: _, number: _ } => 0,
+        Answer::Closed { number: _ } => 0,
+        Answer::Success => 0,
+        Answer::Later { wait: _ } => 0,
+        Answer::Aborted => 0,
+        Answer::Passed => 0,
+        Answer::Malformed => 20,
+        Answer::UnexpectedInitiate => 21,
+        Answer::UnexpectedData => 21,
+        Answer::UnexpectedValidate => 21,
+        Answer::Unexpected => 21,
+        Answer::NotDue { due: _ } => 22,
+        Answer::PassesCapacity => 23,
+        Answer::WrongFile => 24,
+        Answer::VerdictBad => 25,
+        Answer::OutOfRange => 26,
+        Answer::BufferShort => 27,
+        Answer::ImageLength => 28,
+    }
+}
+
+// Status, wait and later fields of the response, for every case.
+pub fn reply(answer: Answer, identity: Identity, capacity: u32) -> Reply
+    ensures { λ r. ⌜ r ≡ replyOf identity capacity answer ⌝ }
+{
+    match answer {
+        Answer::Identified => identified(identity),
+        Answer::Offered { wait } => initiated(Status::Ok, wait, capacity),
+        Answer::Asking { wait, number } => receipt(Status::Ok, wait, number),
+        Answer::Closed { number } => receipt(Status::Ok, codes::UNABLE, number),
+        Answer::Success => validated(Status::Ok, 0, true),
+        Answer::Later { wait } => validated(Status::Ok, wait, false),
+        Answer::Aborted => Reply::Nothing,
+        Answer::Passed => Reply::Nothing,
+        Answer::Malformed => Reply::Nothing,
+        Answer::UnexpectedInitiate => initiated(Status::UnexpectedRequest, codes::UNABLE, 0),
+        Answer::UnexpectedData => receipt(Status::UnexpectedRequest, codes::UNABLE, 0),
+        Answer::UnexpectedValidate => validated(Status::UnexpectedRequest, codes::UNABLE, false),
+        Answer::Unexpected => Reply::Nothing,
+        Answer::NotDue { due } => receipt(Status::Ok, 0, due),
+        Answer::PassesCapacity => receipt(Status::Address, codes::UNABLE, 0),
+        Answer::WrongFile => receipt(Status::File, codes::UNABLE, 0),
+        Answer::VerdictBad => validated(Status::Ok, 0, false),
+        Answer::OutOfRange => Reply::Nothing,
+        Answer::BufferShort => Reply::Nothing,
+        Answer::ImageLength => Reply::Nothing,
+    }
+}
+
+fn identified(identity: Identity) -> Reply
+    ensures { λ r. ⌜ r ≡ identified identity ⌝ }
+{
+    let status = Status::Ok.code();
+    Reply::Sends(Response::GetFwId { status, identity })
+}
+
+fn initiated(status: Status, wait: u8, size: u32) -> Reply
+    ensures { λ r. ⌜ r ≡ initiated status wait size ⌝ }
+{
+    let status = status.code();
+    Reply::Sends(Response::Initiate { status, wait, size })
+}
+
+fn receipt(status: Status, wait: u8, number: u16) -> Reply
+    ensures { λ r. ⌜ r ≡ receipt status wait number ⌝ }
+{
+    let status = status.code();
+    Reply::Sends(Response::Data {
+        status,
+        wait,
+        number,
+    })
+}
+
+fn validated(status: Status, wait: u8, success: bool) -> Reply
+    ensures { λ r. ⌜ r ≡ validated status wait success ⌝ }
+{
+    let status = status.code();
+    Reply::Sends(Response::Validate {
+        status,
+        wait,
+        success,
+    })
+}

@@ -1,0 +1,77 @@
+// What the receiver does when time passes (01, The receiver's phases).
+use receiver_state::answer::Answer;
+use receiver_state::phase::Phase;
+use receiver_state::step::Tick;
+use silence::Event;
+use silence::Settings;
+ghost use mathlib.Core.Path.{_≡_};
+ghost use Rattle.receiver_rules.specs.Pass.{after, expireOf, waitOf, passOf};
+
+// Transfer asks for the next number with wait 0, Await repeats the closing answer.
+pub fn pass(phase: Phase, silence: u16, elapsed: u16, resends: u8, settings: Settings) -> Tick
+    ensures { λ r. ⌜ r ≡ passOf phase silence elapsed resends settings ⌝ }
+{
+    match phase {
+        Phase::Idle => after(Phase::Idle, silence, resends, Answer::Passed),
+        Phase::Transfer(p) => {
+            wait(
+                Phase::Transfer(p),
+                Answer::Asking {
+                    wait: 0,
+                    number: p.accepted.blocks,
+                },
+                silence,
+                elapsed,
+                resends,
+                settings,
+            )
+        }
+        Phase::Await(a) => {
+            wait(
+                Phase::Await(a),
+                Answer::Closed { number: a.blocks },
+                silence,
+                elapsed,
+                resends,
+                settings,
+            )
+        }
+        Phase::Good(a) => after(Phase::Good(a), silence, resends, Answer::Passed),
+    }
+}
+
+fn after(phase: Phase, silence: u16, resends: u8, answer: Answer) -> Tick
+    ensures { λ r. ⌜ r ≡ after phase silence resends answer ⌝ }
+{
+    Tick {
+        phase,
+        silence,
+        resends,
+        answer,
+    }
+}
+
+fn wait(
+    phase: Phase,
+    again: Answer,
+    silence: u16,
+    elapsed: u16,
+    resends: u8,
+    settings: Settings,
+) -> Tick
+    ensures { λ r. ⌜ r ≡ waitOf phase again silence elapsed resends settings ⌝ }
+{
+    let grown = silence::grow(silence, elapsed, resends, settings);
+    let event = grown.event;
+    expire(phase, again, grown.silence, grown.resends, event)
+}
+
+fn expire(phase: Phase, again: Answer, silence: u16, resends: u8, event: Event) -> Tick
+    ensures { λ r. ⌜ r ≡ expireOf phase again silence resends event ⌝ }
+{
+    match event {
+        Event::Quiet => after(phase, silence, resends, Answer::Passed),
+        Event::Resend => after(phase, silence, resends, again),
+        Event::NoneLeft => after(Phase::Idle, silence, resends, Answer::Passed),
+    }
+}

@@ -1,2 +1,0 @@
-pub mod Phase
-pub mod Answer

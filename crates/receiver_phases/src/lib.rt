@@ -1,5 +1,0 @@
-// Where a receiver stands, what comes with a request, what it answers and what is decided (01, The receiver's phases; 01, Numbers we answer).
-pub mod answer;
-pub mod phase;
-pub mod step;
-pub mod verdict;

@@ -1,0 +1,45 @@
+-- What a session that was started begins with.
+use Prim.Native.Nat.{ℕ, _≤_}
+use mathlib.Core.Path.{_≡_, sym, ap}
+use native.Mathlib.Omega.{arith}
+use borrow.Author.Tests.{ltb-false}
+use lib.Dec.{ltb}
+use Rattle.basis.specs.Pick.{pick-all}
+use Rattle.silence.specs.Settings as silent
+use Rattle.silence.specs.declared.Checked.{Checked}
+use Rattle.silence.specs.declared.Checked.the-variants as Che
+use Rattle.wire.specs.declared.response.Identity.{Identity}
+use Rattle.receiver_state.specs.declared.phase.Phase.the-variants.{Idle}
+use Rattle.wire.specs.Codes.{imageSizeMost}
+use Rattle.receiver_rules.specs.Session.{freshOf, startOf}
+use Rattle.receiver_state.specs.declared.session.Receiver.{Receiver}
+use Rattle.receiver_state.specs.declared.session.Started.{Started}
+use Rattle.receiver_state.specs.declared.session.Started.the-variants.{Made, Refused}
+
+-- A fresh session is in Idle, with the identity and the capacity that it was started with, this within the limit.
+pub record Fresh (identity : Identity) (capacity : ℕ) (r : Receiver) : Type 0 where
+  pub idle : r .phase ≡ Idle
+  pub who : r .identity ≡ identity
+  pub room : r .capacity ≡ capacity
+  pub within : r .capacity ≤ imageSizeMost
+
+made-same : (a b : Receiver) → Made a ≡ Made b → a ≡ b
+made-same a b e = cc
+
+pub refused-made : (r : Receiver) → Refused ≡ Made r → ⊥
+refused-made r e = let z : _≡_ {A = ℕ} 0 1 = cc in omega arith
+
+made-fresh : (identity : Identity) (capacity : ℕ) (r : Receiver) (x : Checked) → capacity ≤ imageSizeMost → freshOf x identity capacity ≡ Made r → Fresh identity capacity r
+unfolding freshOf
+made-fresh identity capacity r (Che.Made settings) h e =
+    let same = made-same _ r e in
+    let room = ap (λ x. x .capacity) (sym same) in
+    record { idle = ap (λ x. x .phase) (sym same); who = ap (λ x. x .identity) (sym same); room = room; within = omega arith }
+made-fresh identity capacity r Che.Refused h e = absurd (refused-made r e)
+
+pub start-fresh : (limit resends : ℕ) (identity : Identity) (capacity : ℕ) (r : Receiver) → startOf limit resends identity capacity ≡ Made r → Fresh identity capacity r
+unfolding startOf
+start-fresh limit resends identity capacity r =
+    pick-all (λ (x : Started). x ≡ Made r → Fresh identity capacity r) (ltb imageSizeMost capacity) _ _
+    (λ _ e. absurd (refused-made r e))
+    (λ t. made-fresh identity capacity r (silent.settingsOf limit resends) (let few = ltb-false imageSizeMost capacity t in omega arith))

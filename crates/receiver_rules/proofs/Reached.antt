@@ -1,0 +1,84 @@
+-- Every session that calls lead to holds what was accepted.
+use Prim.Native.Nat.{ℕ, _≤_}
+use mathlib.Core.Bool.{false}
+use mathlib.Core.Path.{_≡_, refl}
+use mathlib.Core.List.{List}
+use lib.Dec.{eqb}
+use lib.ListN.{drop}
+use Rattle.basis.specs.Pick.{pick}
+use Rattle.wire.specs.Request as message
+use Rattle.wire.specs.declared.request.Request.the-variants as Req
+use Rattle.wire.specs.declared.request.Parsed.{Parsed}
+use Rattle.wire.specs.declared.request.Parsed.the-variants as Par
+use Rattle.receiver_rules.proofs.Elapsed.{Lasts}
+use Rattle.receiver_state.specs.declared.phase.Phase.{Phase}
+use Rattle.receiver_state.specs.declared.phase.Phase.the-variants.{Idle, Transfer, Await, Good}
+use Rattle.receiver_state.specs.declared.verdict.Verdict.{Verdict}
+use Rattle.receiver_rules.specs.Request.{requestOf}
+use Rattle.receiver_rules.specs.Time.{timeOf}
+use Rattle.receiver_rules.specs.History.{carried, acceptsBlock, forgets, takenBy, takenAfter, Reached, starts, asks, passes}
+use Rattle.receiver_state.specs.declared.session.Receiver.{Receiver}
+use Rattle.receiver_rules.proofs.Walk.{request-walk}
+use Rattle.receiver_rules.proofs.Laws.{settings-stay}
+use Rattle.receiver_rules.proofs.TimeLaws.{time-lasts, time-settings}
+use Rattle.receiver_rules.proofs.Held.{Held, forgets-held}
+use Rattle.receiver_rules.proofs.Keeps.{decide-keeps}
+use Rattle.receiver_rules.proofs.Fresh.{start-fresh}
+
+-- What is refused accepts no block.
+refused-carries : (m : Parsed) (number : ℕ) → eqb number 0 ≡ false → carried m number ≡ false
+refused-carries Par.Malformed number h = refl
+refused-carries (Par.Valid Req.GetFwId) number h = refl
+refused-carries (Par.Valid (Req.Initiate v)) number h = refl
+refused-carries (Par.Valid (Req.Data n size)) number h = rw h
+refused-carries (Par.Valid Req.Validate) number h = refl
+refused-carries (Par.Valid Req.Abort) number h = refl
+refused-carries (Par.Valid Req.NotBuilt) number h = refl
+
+pub refused-accepts : (before : Phase) (m : Parsed) (number : ℕ) → eqb number 0 ≡ false → acceptsBlock before m number ≡ false
+refused-accepts Idle m number h = refl
+refused-accepts (Transfer p) m number h = refused-carries m number h
+refused-accepts (Await a) m number h = refl
+refused-accepts (Good a) m number h = refl
+
+module _ (capacity : ℕ) (image : List ℕ) (taken : List (List ℕ)) where
+  refused-holds : (before : Phase) (m : Parsed) (block : List ℕ) (number : ℕ) → eqb number 0 ≡ false → Held capacity image taken before
+      → Held capacity image (takenBy before m block number before taken) before
+  unfolding pick
+  refused-holds before m block number n h = rw (refused-accepts before m number n) (forgets-held capacity image taken before h)
+
+  lasts-holds : (before next : Phase) → Lasts before next → Held capacity image taken before → Held capacity image (forgets next taken) next
+  lasts-holds before Idle l h = refl
+  lasts-holds before (Transfer p) l h = rw (← l) at h
+  lasts-holds before (Await a) l h = rw (← l) at h
+  lasts-holds before (Good a) l h = rw (← l) at h
+
+abbrev Holds : Receiver → List ℕ → List (List ℕ) → Type 0
+Holds r image taken = Held (r .capacity) image taken (r .phase)
+
+module _ (r : Receiver) (image : List ℕ) (taken : List (List ℕ)) (h : Holds r image taken) where
+  refused : (request : List ℕ) (number : ℕ) → eqb number 0 ≡ false → Holds r image (takenBy (r .phase) (message.requestOf request) (drop 4 request) number (r .phase) taken)
+  refused request number n = refused-holds (r .capacity) image taken (r .phase) (message.requestOf request) (drop 4 request) number n h
+
+  asks-holds : (request : List ℕ) (readiness : ℕ) (verdict : Verdict) (out : List ℕ)
+      → Holds (requestOf r image request readiness verdict out .outcome .state) (requestOf r image request readiness verdict out .image)
+      (takenAfter r request (requestOf r image request readiness verdict out .outcome) taken)
+  asks-holds request readiness verdict out =
+      request-walk r image request readiness verdict out (λ x. Holds (x .outcome .state) (x .image) (takenAfter r request (x .outcome) taken))
+      (refused request 28 refl) (refused request 27 refl) (refused request 26 refl) (refused request 20 refl)
+      (λ q lent _ e. rw e (decide-keeps (r .capacity) image request taken readiness verdict lent (r .phase) q e h))
+
+  passes-holds : (elapsed : ℕ) (out : List ℕ) → Holds (timeOf r elapsed out .answer .state) image (forgets (timeOf r elapsed out .answer .state .phase) taken)
+  passes-holds elapsed out =
+      rw (time-settings r elapsed out .2)
+      (lasts-holds (r .capacity) image taken (r .phase) (timeOf r elapsed out .answer .state .phase) (time-lasts r elapsed out) h)
+
+pub reached-holds : {r : Receiver} {image : List ℕ} {taken : List (List ℕ)} → Reached r image taken → Held (r .capacity) image taken (r .phase)
+reached-holds (starts limit resends identity capacity r image e) = rw (start-fresh limit resends identity capacity r e .idle) refl
+reached-holds (asks {r = r} {image = image} {taken = taken} h request readiness verdict out) = asks-holds r image taken (reached-holds h) request readiness verdict out
+reached-holds (passes {r = r} {image = image} {taken = taken} h elapsed out) = passes-holds r image taken (reached-holds h) elapsed out
+
+pub reached-capacity : {r : Receiver} {image : List ℕ} {taken : List (List ℕ)} → Reached r image taken → r .capacity ≤ 1048575
+reached-capacity (starts limit resends identity capacity r image e) = start-fresh limit resends identity capacity r e .within
+reached-capacity (asks {r = r} {image = image} h request readiness verdict out) = rw (settings-stay r image request readiness verdict out .2) (reached-capacity h)
+reached-capacity (passes {r = r} h elapsed out) = rw (time-settings r elapsed out .2) (reached-capacity h)

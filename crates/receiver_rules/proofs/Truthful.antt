@@ -1,0 +1,116 @@
+-- What one call owes whoever reads its response: success is told by a receiver that has marked the image good, and by no other.
+use Prim.Native.Nat.{ℕ}
+use mathlib.Core.Bool.{true, true≢false}
+use mathlib.Core.Path.{_≡_, refl, sym, ap, _∙_}
+use mathlib.Core.List.{List}
+use lib.ListN.{take}
+use Rattle.basis.specs.Pick.{pick}
+use Rattle.wire.specs.Header.{headed}
+use Rattle.wire.specs.Response.{identifiedOf, initiatedOf, receiptOf, validatedOf, typedOf, responseOf}
+use Rattle.wire.specs.Written.{responseBytes, identifiedBytes, initiatedBytes, receiptBytes, validatedBytes}
+use Rattle.wire.specs.declared.response.Response.the-variants as Res
+use Rattle.wire.specs.declared.response.Parsed.{Parsed}
+use Rattle.wire.specs.declared.response.Parsed.the-variants as Par
+use Rattle.receiver_state.specs.Answer.{identified, initiated, receipt, validated, replyOf}
+use Rattle.receiver_state.specs.declared.answer.Answer.{Answer}
+use Rattle.receiver_state.specs.declared.answer.Answer.the-variants.{Identified, Offered, Asking, Closed, Success, Later, Aborted, Passed, Malformed, UnexpectedInitiate, UnexpectedData, UnexpectedValidate, Unexpected, NotDue, PassesCapacity, WrongFile, VerdictBad, OutOfRange, BufferShort, ImageLength}
+use Rattle.receiver_state.specs.declared.phase.Accepted.{Accepted}
+use Rattle.receiver_state.specs.declared.phase.Phase.{Phase}
+use Rattle.receiver_state.specs.declared.phase.Phase.the-variants.{Idle, Transfer, Await, Good}
+use Rattle.receiver_state.proofs.Truth.{IsGood, Tells}
+use Rattle.receiver_rules.specs.Decide.{decideOf}
+use Rattle.receiver_state.specs.declared.verdict.Verdict.{Verdict}
+use Rattle.receiver_rules.proofs.Owes.{decide-row}
+use Rattle.receiver_rules.specs.Pass.{passOf}
+use Rattle.receiver_rules.proofs.Elapsed.{pass-ticks}
+use Rattle.receiver_rules.specs.Request.{requestOf}
+use Rattle.receiver_rules.specs.Respond.{replyBytes, bytesOf}
+use Rattle.receiver_rules.specs.Time.{timeOf}
+use Rattle.receiver_state.specs.declared.session.Receiver.{Receiver}
+use Rattle.receiver_rules.proofs.Walk.{request-walk, time-walk}
+use Rattle.receiver_rules.proofs.Laws.{good-stays}
+use Rattle.receiver_rules.proofs.TimeLaws.{time-good}
+use Rattle.receiver_rules.proofs.Written.{first-bytes, request-leads, time-leads}
+
+-- A VALIDATE response with the success bit.
+abbrev pub Succeeds : Parsed → Type 0
+Succeeds (Par.Valid (Res.GetFwId status reported)) = ⊥
+Succeeds (Par.Valid (Res.Initiate status wait size)) = ⊥
+Succeeds (Par.Valid (Res.Data status wait number)) = ⊥
+Succeeds (Par.Valid (Res.Validate status wait success)) = success ≡ true
+Succeeds (Par.Valid Res.NotBuilt) = ⊥
+Succeeds Par.Malformed = ⊥
+
+-- What a reader may believe of a message from a receiver in this phase.
+abbrev pub Truthful : Phase → List ℕ → Type 0
+Truthful phase m = Succeeds (responseOf m) → IsGood phase
+
+module _ (r : Receiver) (phase : Phase) where
+  bytes-truthful : (answer : Answer) → Tells answer phase → Truthful phase (bytesOf r answer)
+  unfolding replyBytes replyOf identified initiated receipt validated responseBytes identifiedBytes initiatedBytes receiptBytes validatedBytes responseOf headed typedOf identifiedOf initiatedOf receiptOf validatedOf pick
+  bytes-truthful Identified h e = absurd e
+  bytes-truthful (Offered wait) h e = absurd e
+  bytes-truthful (Asking wait number) h e = absurd e
+  bytes-truthful (Closed number) h e = absurd e
+  bytes-truthful Success h e = h
+  bytes-truthful (Later wait) h e = absurd (true≢false (sym e))
+  bytes-truthful Aborted h e = absurd e
+  bytes-truthful Passed h e = absurd e
+  bytes-truthful Malformed h e = absurd e
+  bytes-truthful UnexpectedInitiate h e = absurd e
+  bytes-truthful UnexpectedData h e = absurd e
+  bytes-truthful UnexpectedValidate h e = absurd (true≢false (sym e))
+  bytes-truthful Unexpected h e = absurd e
+  bytes-truthful (NotDue due) h e = absurd e
+  bytes-truthful PassesCapacity h e = absurd e
+  bytes-truthful WrongFile h e = absurd e
+  bytes-truthful VerdictBad h e = absurd (true≢false (sym e))
+  bytes-truthful OutOfRange h e = absurd e
+  bytes-truthful BufferShort h e = absurd e
+  bytes-truthful ImageLength h e = absurd e
+
+good-carried : (before next : Phase) → ((a : Accepted) → before ≡ Good a → next ≡ Good a) → IsGood before → IsGood next
+good-carried Idle next h g = absurd g
+good-carried (Transfer p) next h g = absurd g
+good-carried (Await a) next h g = absurd g
+good-carried (Good a) next h g = rw (h a refl) tt
+
+module _ (r : Receiver) (image request : List ℕ) (readiness : ℕ) (verdict : Verdict) (out : List ℕ) where
+  abbrev then : Phase
+  then = requestOf r image request readiness verdict out .outcome .state .phase
+
+  answer-truthful : Truthful then (bytesOf r (requestOf r image request readiness verdict out .outcome .answer))
+  answer-truthful =
+      request-walk r image request readiness verdict out (λ x. Truthful (x .outcome .state .phase) (bytesOf r (x .outcome .answer)))
+      (bytes-truthful r (r .phase) ImageLength tt)
+      (bytes-truthful r (r .phase) BufferShort tt)
+      (bytes-truthful r (r .phase) OutOfRange tt)
+      (bytes-truthful r (r .phase) Malformed tt)
+      (λ q _ _ _.
+      let s = decideOf (r .phase) q (r .capacity) readiness verdict in
+      bytes-truthful r (s .phase) (s .answer) (decide-row (r .phase) q (r .capacity) readiness verdict .tells))
+
+  pub request-truthful : Truthful then (take (requestOf r image request readiness verdict out .outcome .written) (requestOf r image request readiness verdict out .out))
+  request-truthful = rw (first-bytes r out _ _ (request-leads r image request readiness verdict out)) answer-truthful
+
+  -- What was told once stays true: Good is never left.
+  pub request-stays-good : IsGood (r .phase) → IsGood then
+  request-stays-good = good-carried (r .phase) then (good-stays r image request readiness verdict out)
+
+module _ (r : Receiver) (elapsed : ℕ) (out : List ℕ) where
+  abbrev passed : Phase
+  passed = timeOf r elapsed out .answer .state .phase
+
+  tick-truthful : Truthful passed (bytesOf r (timeOf r elapsed out .answer .answer))
+  tick-truthful =
+      time-walk r elapsed out (λ x. Truthful (x .answer .state .phase) (bytesOf r (x .answer .answer)))
+      (bytes-truthful r (r .phase) BufferShort tt)
+      (λ _.
+      let t = passOf (r .phase) (r .silence) elapsed (r .resends) (r .settings) in
+      bytes-truthful r (t .phase) (t .answer) (pass-ticks (r .phase) (r .silence) elapsed (r .resends) (r .settings) .tells))
+
+  pub time-truthful : Truthful passed (take (timeOf r elapsed out .answer .written) (timeOf r elapsed out .memory))
+  time-truthful = rw (first-bytes r out _ _ (time-leads r elapsed out)) tick-truthful
+
+  pub time-stays-good : IsGood (r .phase) → IsGood passed
+  time-stays-good = good-carried (r .phase) passed (λ a e. ap (λ (x : Receiver). x .phase) (time-good r elapsed out a e) ∙ e)

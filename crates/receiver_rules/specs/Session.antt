@@ -1,0 +1,40 @@
+-- A session of the receiver: how it starts, and what a call returns of it.
+use Prim.Native.Nat.{ℕ}
+use lib.Dec.{ltb}
+use Rattle.basis.specs.Pick.{pick}
+use Rattle.silence.specs.Settings.{settingsOf}
+use Rattle.silence.specs.declared.Checked.{Checked}
+use Rattle.silence.specs.declared.Checked.the-variants as Che
+use Rattle.wire.specs.Codes.{imageSizeMost}
+use Rattle.wire.specs.declared.response.Identity.{Identity}
+use Rattle.receiver_state.specs.declared.answer.Answer.{Answer}
+use Rattle.receiver_state.specs.declared.phase.Phase.{Phase}
+use Rattle.receiver_state.specs.declared.phase.Phase.the-variants.{Idle}
+use Rattle.receiver_state.specs.declared.session.Receiver.{Receiver}
+use Rattle.receiver_state.specs.declared.session.Outcome.{Outcome}
+use Rattle.receiver_state.specs.declared.session.Started.{Started}
+use Rattle.receiver_state.specs.declared.session.Started.the-variants.{Made, Refused}
+
+unfoldable pub freshOf : Checked → Identity → ℕ → Started
+freshOf (Che.Made settings) identity capacity =
+    Made (record { settings = settings; identity = identity; capacity = capacity; phase = Idle; silence = 0; resends = 0 })
+freshOf Che.Refused identity capacity = Refused
+
+-- Capacity is the lent image memory's length; above 1,048,575: 29; 0 is allowed (01, Sizes and numbers).
+unfoldable pub startOf : ℕ → ℕ → Identity → ℕ → Started
+startOf limit resends identity capacity =
+    pick (ltb imageSizeMost capacity) Refused (freshOf (settingsOf limit resends) identity capacity)
+
+abbrev pub ends : Receiver → Answer → ℕ → Outcome
+ends r answer written = record { state = r; answer = answer; written = written }
+
+-- The session with another phase, silence and count of resends.
+abbrev pub moved : Receiver → Phase → ℕ → ℕ → Receiver
+moved r phase silence resends = record {
+  settings = r .settings;
+  identity = r .identity;
+  capacity = r .capacity;
+  phase = phase;
+  silence = silence;
+  resends = resends;
+}

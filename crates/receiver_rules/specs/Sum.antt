@@ -1,0 +1,16 @@
+-- The sum of the accepted bytes, which are the first of the image (01, Sizes and numbers).
+use Prim.Native.Nat.{ℕ}
+use mathlib.Core.List.{List}
+use lib.Dec.{eqb}
+use lib.ListN.{length, take}
+use Rattle.basis.specs.Pick.{pick}
+use Rattle.image.specs.Sum as sums
+use Rattle.receiver_state.specs.Phase.{acceptedOf}
+use Rattle.receiver_state.specs.declared.session.Receiver.{Receiver}
+use Rattle.receiver_state.specs.declared.sum.Summed.{Summed}
+use Rattle.receiver_state.specs.declared.sum.Summed.the-variants.{Sum, ImageLength}
+
+unfoldable pub sumOf : Receiver → List ℕ → Summed
+sumOf r image =
+    pick (eqb (length image) (r .capacity)) (Sum (sums.sumOf (take (acceptedOf (r .phase) .bytes) image)))
+    ImageLength

@@ -1,0 +1,72 @@
+-- For every case of the answer, document 01's number and the values of the response that goes out with it (01, Numbers we answer).
+use Prim.Native.Nat.{ℕ}
+use mathlib.Core.Bool.{Bool, true, false}
+use Rattle.wire.specs.Codes.{unable}
+use Rattle.wire.specs.Status.{codeOf}
+use Rattle.wire.specs.declared.response.Identity.{Identity}
+use Rattle.wire.specs.declared.response.Response.the-variants as Res
+use Rattle.wire.specs.declared.status.Status.{Status}
+use Rattle.wire.specs.declared.status.Status.the-variants.{Ok, File, Address, UnexpectedRequest}
+use Rattle.receiver_state.specs.declared.answer.Answer.{Answer}
+use Rattle.receiver_state.specs.declared.answer.Answer.the-variants.{Identified, Offered, Asking, Closed, Success, Later, Aborted, Passed, Malformed, UnexpectedInitiate, UnexpectedData, UnexpectedValidate, Unexpected, NotDue, PassesCapacity, WrongFile, VerdictBad, OutOfRange, BufferShort, ImageLength}
+use Rattle.receiver_state.specs.declared.answer.Reply.{Reply}
+use Rattle.receiver_state.specs.declared.answer.Reply.the-variants.{Nothing, Sends}
+
+abbrev pub numberOf : Answer → ℕ
+numberOf Identified = 0
+numberOf (Offered wait) = 0
+numberOf (Asking wait number) = 0
+numberOf (Closed number) = 0
+numberOf Success = 0
+numberOf (Later wait) = 0
+numberOf Aborted = 0
+numberOf Passed = 0
+numberOf Malformed = 20
+numberOf UnexpectedInitiate = 21
+numberOf UnexpectedData = 21
+numberOf UnexpectedValidate = 21
+numberOf Unexpected = 21
+numberOf (NotDue due) = 22
+numberOf PassesCapacity = 23
+numberOf WrongFile = 24
+numberOf VerdictBad = 25
+numberOf OutOfRange = 26
+numberOf BufferShort = 27
+numberOf ImageLength = 28
+
+-- 001 T5-18, T5-20, T5-22, T5-24
+unfoldable pub identified : Identity → Reply
+identified identity = Sends (Res.GetFwId (codeOf Ok) identity)
+
+unfoldable pub initiated : Status → ℕ → ℕ → Reply
+initiated status wait size = Sends (Res.Initiate (codeOf status) wait size)
+
+unfoldable pub receipt : Status → ℕ → ℕ → Reply
+receipt status wait number = Sends (Res.Data (codeOf status) wait number)
+
+unfoldable pub validated : Status → ℕ → Bool → Reply
+validated status wait success = Sends (Res.Validate (codeOf status) wait success)
+
+-- An INITIATE answer carries the capacity, the closing answer WaitTime 255 and the accepted count. Any answer with a status other than OK
+-- has WaitTime 255 and its later fields zero.
+unfoldable pub replyOf : Identity → ℕ → Answer → Reply
+replyOf identity capacity Identified = identified identity
+replyOf identity capacity (Offered wait) = initiated Ok wait capacity
+replyOf identity capacity (Asking wait number) = receipt Ok wait number
+replyOf identity capacity (Closed number) = receipt Ok unable number
+replyOf identity capacity Success = validated Ok 0 true
+replyOf identity capacity (Later wait) = validated Ok wait false
+replyOf identity capacity Aborted = Nothing
+replyOf identity capacity Passed = Nothing
+replyOf identity capacity Malformed = Nothing
+replyOf identity capacity UnexpectedInitiate = initiated UnexpectedRequest unable 0
+replyOf identity capacity UnexpectedData = receipt UnexpectedRequest unable 0
+replyOf identity capacity UnexpectedValidate = validated UnexpectedRequest unable false
+replyOf identity capacity Unexpected = Nothing
+replyOf identity capacity (NotDue due) = receipt Ok 0 due
+replyOf identity capacity PassesCapacity = receipt Address unable 0
+replyOf identity capacity WrongFile = receipt File unable 0
+replyOf identity capacity VerdictBad = validated Ok 0 false
+replyOf identity capacity OutOfRange = Nothing
+replyOf identity capacity BufferShort = Nothing
+replyOf identity capacity ImageLength = Nothing

@@ -1,0 +1,4 @@
+pub mod Phase
+pub mod Answer
+pub mod Session
+pub mod Sum

@@ -1,0 +1,8 @@
+-- What the image sum answers, as document 01's number (01, Numbers we answer).
+use Prim.Native.Nat.{ℕ}
+use Rattle.receiver_state.specs.declared.sum.Summed.{Summed}
+use Rattle.receiver_state.specs.declared.sum.Summed.the-variants.{Sum, ImageLength}
+
+abbrev pub numberOf : Summed → ℕ
+numberOf (Sum s) = 0
+numberOf ImageLength = 28

@@ -1,0 +1,27 @@
+// A session of the receiver: what it was started with, where it stands, and what a call returns of it.
+use crate::answer::Answer;
+use crate::phase::Phase;
+use silence::Settings;
+use wire::response::Identity;
+
+// `silence` is in milliseconds, and `resends` counts those made.
+pub struct Receiver {
+    pub settings: Settings,
+    pub identity: Identity,
+    pub capacity: u32,
+    pub phase: Phase,
+    pub silence: u16,
+    pub resends: u8,
+}
+
+pub enum Started {
+    Made(Receiver),
+    Refused,
+}
+
+// What a request and a time call answer: the session as it then stands, and how many bytes of the output buffer were written.
+pub struct Outcome {
+    pub state: Receiver,
+    pub answer: Answer,
+    pub written: usize,
+}

@@ -1,9 +1,0 @@
-use borrow.Author.Needs.{needs}
-use Rattle.receiver_time.proofs.after.Statement.{statement}
-use Rattle.receiver_time.proofs.after.Tie as tie
-
-pub after-spec : {M : Type 1} → statement M
-after-spec =
-    tie.close
-    (tie.spec
-    (λ c. search needs))
