@@ -2,7 +2,6 @@
 use crate::ends::Ends;
 use crate::ran::Ran;
 use indoor_state::plan::Release;
-use indoor_state::session::Indoor;
 use indoor_state::session::Started as Begun;
 use receiver_state::session::Receiver;
 use receiver_state::session::Started;

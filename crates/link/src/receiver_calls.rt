@@ -3,7 +3,6 @@ use crate::NO_SUCH_STATE;
 use receiver_flat::FlatReceiver;
 use receiver_flat::verdict_of;
 use receiver_state::session::Outcome;
-use receiver_state::session::Receiver;
 use receiver_state::session::Started;
 use receiver_state::sum::Summed;
 use silence::Settings;

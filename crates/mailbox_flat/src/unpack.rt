@@ -6,7 +6,6 @@ use crate::notifying::notifies;
 use crate::telling::Telling;
 use crate::waiting::are_flags;
 use crate::waiting::flags_of;
-use mailbox_state::connectors::Connectors;
 use mailbox_state::stand::Changes;
 use mailbox_state::stand::Stand;
 use mailbox_state::state::Mailbox;

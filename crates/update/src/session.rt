@@ -7,7 +7,6 @@ use crate::turn;
 use crate::view::View;
 use crate::way::Way;
 use indoor_state::plan::Release;
-use indoor_state::session::Indoor;
 use indoor_state::session::Started as Begun;
 use receiver_state::session::Receiver;
 use receiver_state::session::Started;

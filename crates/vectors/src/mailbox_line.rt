@@ -8,9 +8,7 @@ use crate::mailbox_word::Step;
 use crate::number::Field;
 use crate::say;
 use crate::script;
-use mailbox_state::connectors::Connectors;
 use mailbox_state::connectors::Counted;
-use mailbox_state::state::Mailbox;
 
 pub(crate) fn run(words: &[u8], held: Held) -> Held {
     let next = script::next(words);

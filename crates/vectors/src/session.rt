@@ -13,7 +13,6 @@ use crate::say;
 use crate::script;
 use crate::script::Act;
 use crate::script::Call;
-use receiver_state::session::Receiver;
 use receiver_state::session::Started;
 use wire::codes;
 use wire::request::Versions;
