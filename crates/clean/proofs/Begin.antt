@@ -24,7 +24,6 @@ use Rattle.receiver_state.specs.declared.session.Started.{Started as ReceiverSt
 use Rattle.receiver_state.specs.declared.session.Started.the-variants as Rec
 use Rattle.receiver_rules.proofs.Fresh.{refused-made}
 use Rattle.indoor_state.specs.declared.plan.Release.{Release}
-use Rattle.wire.specs.Codes.{imageSizeMost}
 use Rattle.indoor_rules.specs.Start.{beginOf, startedOf, startOf}
 use Rattle.indoor_state.specs.declared.session.Indoor.{Indoor}
 use Rattle.indoor_state.specs.declared.session.Started.{Started}

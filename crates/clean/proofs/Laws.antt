@@ -25,7 +25,6 @@ use Rattle.indoor_state.specs.declared.phase.Reason.the-variants.{NotNewer, Too
 use Rattle.indoor_state.specs.declared.phase.Phase.the-variants.{Done, Failed}
 use Rattle.indoor_rules.specs.Newer.{newerOf}
 use Rattle.indoor_rules.proofs.Compared.{Newer, newer-only, newer-yes, newer-no}
-use Rattle.wire.specs.Codes.{imageSizeMost}
 use Rattle.clean.specs.Run.{numberOf, transferredOf, carriedOf, begunOf, checkedOf, runOf}
 use Rattle.clean.specs.declared.ran.Ran.{Ran}
 use Rattle.clean.specs.declared.ran.Ran.the-variants.{Settings, FileSize, Ended}
@@ -119,7 +118,7 @@ module _ (limit resends : ℕ) (identity : Identity) (release : Release) (file i
   abbrev Only : Left Ran → Type 0
   Only x = (requests : ℕ) → x .answer ≡ Ended Done requests → Succeeded requests (x .memory)
 
-  transferred-only : Within limit resends → length image ≤ 1048575 → 1 ≤ length file → newerOf release identity ≡ true → Only (transferredOf file image)
+  transferred-only : Within limit resends → length image ≤ imageSizeMost → 1 ≤ length file → newerOf release identity ≡ true → Only (transferredOf file image)
   unfolding transferredOf
   transferred-only legal room some new =
       pick-all Only (ltb (length image) (length file)) _ _
@@ -134,7 +133,7 @@ module _ (limit resends : ℕ) (identity : Identity) (release : Release) (file i
         begins = take-append-seam file (drop (length file) image);
       })
 
-  begun-only : Within limit resends → length image ≤ 1048575 → Only (begunOf release identity file image)
+  begun-only : Within limit resends → length image ≤ imageSizeMost → Only (begunOf release identity file image)
   unfolding begunOf carriedOf
   begun-only legal room =
       pick-all Only (eqb (length file) 0) _ _ (λ _ requests e. absurd (size-done requests e))
@@ -144,7 +143,7 @@ module _ (limit resends : ℕ) (identity : Identity) (release : Release) (file i
       (λ new. transferred-only legal room (omega arith) new)
       (λ _ requests e. absurd (failed-done NotNewer 1 requests e))))
 
-  checked-only : (x : Checked) → silent.settingsOf limit resends ≡ x → length image ≤ 1048575 → Only (checkedOf x release identity file image)
+  checked-only : (x : Checked) → silent.settingsOf limit resends ≡ x → length image ≤ imageSizeMost → Only (checkedOf x release identity file image)
   unfolding checkedOf
   checked-only (Che.Made settings) e room = begun-only (made-within limit resends settings e) room
   checked-only Che.Refused e room = λ requests d. absurd (settings-done requests d)

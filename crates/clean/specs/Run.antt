@@ -19,7 +19,6 @@ use Rattle.indoor_state.specs.declared.phase.Reason.the-variants.{NotNewer, Too
 use Rattle.indoor_state.specs.declared.phase.Phase.{Phase}
 use Rattle.indoor_state.specs.declared.phase.Phase.the-variants.{Identify, Initiate, Transfer, Validate, Done, Failed}
 use Rattle.indoor_rules.specs.Newer.{newerOf}
-use Rattle.wire.specs.Codes.{imageSizeMost}
 use Rattle.clean.specs.declared.ran.Ran.{Ran}
 use Rattle.clean.specs.declared.ran.Ran.the-variants.{Settings, FileSize, Ended}
 

@@ -4,6 +4,7 @@ use crate::sent::last;
 use crate::sent::sent;
 use crate::step::fails;
 use crate::step::goes;
+use fields::status_code;
 use indoor_state::answer::Answer;
 use indoor_state::phase::Phase;
 use indoor_state::phase::Progress;
@@ -53,7 +54,7 @@ fn passes_over(stand: Stand) -> Step
 fn ok(status: u8) -> bool
     ensures { λ r. ⌜ r ≡ okOf status ⌝ }
 {
-    let ok = Status::Ok.code();
+    let ok = status_code(Status::Ok);
     status == ok
 }
 

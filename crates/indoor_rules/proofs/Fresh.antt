@@ -16,7 +16,6 @@ use Rattle.wire.specs.Codes.{longest, imageSizeMost}
 use Rattle.wire.specs.Written.{requestBytes, bareBytes}
 use Rattle.indoor_state.specs.declared.plan.Release.{Release}
 use Rattle.indoor_state.specs.declared.phase.Phase.the-variants.{Identify}
-use Rattle.wire.specs.Codes.{imageSizeMost}
 use Rattle.indoor_rules.specs.Start.{beginOf, startedOf, startOf}
 use Rattle.indoor_state.specs.declared.session.Indoor.{Indoor}
 use Rattle.indoor_state.specs.declared.session.Started.{Started}

@@ -4,10 +4,9 @@ use mathlib.Core.Path.{_≡_, refl}
 use Rattle.basis.specs.Pick.{pick}
 use Rattle.commands.specs.declared.table.Class.{Class}
 use Rattle.commands.specs.declared.table.Class.the-variants.{Cancel, Acknowledge, Enable, Run, NotSupported}
-use Rattle.mailbox_rules.specs.Refusal.{clearsNothing, judgedOf}
+use Rattle.mailbox_rules.specs.Refusal.{clearsNothing, judgedOf, stoppedOf}
 use Rattle.mailbox_state.specs.declared.answer.Answer.{Answer}
 use Rattle.mailbox_state.specs.declared.answer.Answer.the-variants.{Taken, NothingToClear, NothingToCancel}
-use Rattle.mailbox_rules.specs.Refusal.{stoppedOf}
 
 -- The classes that 2 and 4 stop, and what each answers where nothing does.
 pub data Plain : Class → Answer → Type 0 where

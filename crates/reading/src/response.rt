@@ -2,6 +2,7 @@
 use crate::header::has_header;
 use crate::number::versions_at;
 use crate::number::word_at;
+use fields::cleared;
 use wire::codes;
 use wire::response::Identity;
 use wire::response::Parsed;
@@ -50,7 +51,7 @@ fn identified(msg: &[u8]) -> Parsed
 {
     if msg.len() == codes::GET_FW_ID_RESPONSE_LENGTH {
         let status = msg[2];
-        let identity = identity_in(msg).cleared();
+        let identity = cleared(identity_in(msg));
         return Parsed::Valid(Response::GetFwId { status, identity });
     }
     Parsed::Malformed

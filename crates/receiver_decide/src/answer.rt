@@ -1,4 +1,5 @@
 // The number of an answer, and the response that goes out with it (01, Numbers we answer).
+use fields::status_code;
 use receiver_state::answer::Answer;
 use receiver_state::answer::Reply;
 use wire::codes;
@@ -67,21 +68,21 @@ pub fn reply(answer: Answer, identity: Identity, capacity: u32) -> Reply
 fn identified(identity: Identity) -> Reply
     ensures { λ r. ⌜ r ≡ identified identity ⌝ }
 {
-    let status = Status::Ok.code();
+    let status = status_code(Status::Ok);
     Reply::Sends(Response::GetFwId { status, identity })
 }
 
 fn initiated(status: Status, wait: u8, size: u32) -> Reply
     ensures { λ r. ⌜ r ≡ initiated status wait size ⌝ }
 {
-    let status = status.code();
+    let status = status_code(status);
     Reply::Sends(Response::Initiate { status, wait, size })
 }
 
 fn receipt(status: Status, wait: u8, number: u16) -> Reply
     ensures { λ r. ⌜ r ≡ receipt status wait number ⌝ }
 {
-    let status = status.code();
+    let status = status_code(status);
     Reply::Sends(Response::Data {
         status,
         wait,
@@ -92,7 +93,7 @@ fn receipt(status: Status, wait: u8, number: u16) -> Reply
 fn validated(status: Status, wait: u8, success: bool) -> Reply
     ensures { λ r. ⌜ r ≡ validated status wait success ⌝ }
 {
-    let status = status.code();
+    let status = status_code(status);
     Reply::Sends(Response::Validate {
         status,
         wait,

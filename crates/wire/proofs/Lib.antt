@@ -6,4 +6,3 @@ pub mod Fits
 pub mod Sizes
 pub mod ResponseBytes
 pub mod Types
-pub mod Unique

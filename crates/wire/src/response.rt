@@ -1,7 +1,5 @@
 // What a response says (001 T5-16 to T5-28).
 use crate::request::Versions;
-ghost use mathlib.Core.Path.{_≡_};
-ghost use Rattle.wire.specs.Identity.{cleared};
 
 // The fields of 001 T5-18 behind its Status.
 #[repr(C)]
@@ -16,27 +14,6 @@ pub struct Identity {
     pub flags2: u8,
     pub flags3: u8,
     pub flags4: u8,
-}
-
-impl Identity {
-    // The reserved bits of 001 T5-18 are zero on the way out, and nobody above sees them on the way in.
-    pub fn cleared(self) -> Identity
-        ensures { λ r. ⌜ r ≡ cleared self ⌝ }
-    {
-        let versions = self.versions;
-        Identity {
-            vendor: self.vendor,
-            product: self.product,
-            hardware: self.hardware,
-            silicon: self.silicon / 16 * 16,
-            versions,
-            bank: self.bank,
-            flags1: self.flags1 % 16,
-            flags2: self.flags2 % 4,
-            flags3: self.flags3 % 32,
-            flags4: self.flags4 % 16,
-        }
-    }
 }
 
 pub enum Response {

@@ -1,6 +1,7 @@
 // Each response as bytes (001 T5-16 to T5-24). Reserved bits are zero (001 section 1.4.2.8).
 use crate::message::Message;
 use crate::message::made;
+use fields::cleared;
 use wire::codes;
 use wire::response::Identity;
 use wire::response::Response;
@@ -32,7 +33,7 @@ pub fn write_response(response: Response) -> Message
 fn identified(status: u8, identity: Identity) -> Message
     ensures { λ r. ⌜ r ≡ messageOf (identifiedBytes status identity) ⌝ }
 {
-    let i = identity.cleared();
+    let i = cleared(identity);
     let v = i.versions;
     made(
         &[

@@ -10,4 +10,4 @@ ok-spec =
     tie.close
     (tie.spec
     (λ c κs. search needs)
-    (λ c. rw (← (c .code .ensures)) (search tests)))
+    (λ c. rw (← (c .status-code .ensures)) (search tests)))

@@ -9,4 +9,4 @@ validated-spec =
     tie.close
     (tie.spec
     (λ c κs. search needs)
-    (λ c. rw (c .code .ensures)))
+    (λ c. rw (c .status-code .ensures)))
