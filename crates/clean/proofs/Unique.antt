@@ -1,27 +1,30 @@
--- The public contracts of this crate leave one answer and one state of the lent memory for each input.
+-- Each public contract leaves one answer and one state of the lent memory. Written from the contracts by tools/contracts.
 use Prim.Native.Nat.{ℕ}
-use mathlib.Core.Path.{_≡_}
 use mathlib.Core.List.{List}
-use Rattle.basis.specs.Only.{only}
+use mathlib.Core.Path.{_≡_}
 use Rattle.basis.specs.Left.{left}
-use Rattle.wire.specs.declared.response.Identity.{Identity}
-use Rattle.indoor_state.specs.declared.plan.Release.{Release}
+use Rattle.basis.specs.Only.{only}
 use Rattle.clean.specs.Run.{numberOf, runOf}
 use Rattle.clean.specs.Turn.{turned, turnOf}
 use Rattle.clean.specs.declared.ends.Ends.{Ends}
 use Rattle.clean.specs.declared.ran.Ran.{Ran}
+use Rattle.indoor_state.specs.declared.plan.Release.{Release}
+use Rattle.wire.specs.declared.response.Identity.{Identity}
 
-pub one-run : (limit resends : ℕ) (identity : Identity) (release : Release) (file image : List ℕ) (r r′ : Ran) (i i′ : List ℕ)
-    → left r i ≡ runOf limit resends identity release file image
-    → left r′ i′ ≡ runOf limit resends identity release file image
-    → left r i ≡ left r′ i′
-one-run limit resends identity release file image r r′ i i′ p q = only p q
+pub one-turn : (self : Ends) (file image up down : List ℕ) (r r′ : Ends) (image-left image-left′ up-left up-left′ down-left down-left′ : List ℕ)
+    → turned r image-left up-left down-left ≡ turnOf self file image up down
+    → turned r′ image-left′ up-left′ down-left′ ≡ turnOf self file image up down
+    → turned r image-left up-left down-left ≡ turned r′ image-left′ up-left′ down-left′
+one-turn self file image up down r r′ image-left image-left′ up-left up-left′ down-left down-left′ is is′ = only is is′
 
-pub one-number : (self : Ran) (r r′ : ℕ) → r ≡ numberOf self → r′ ≡ numberOf self → r ≡ r′
-one-number self r r′ p q = only p q
+pub one-number : (self : Ran) (r r′ : ℕ)
+    → r ≡ numberOf self
+    → r′ ≡ numberOf self
+    → r ≡ r′
+one-number self r r′ is is′ = only is is′
 
-pub one-turn : (self : Ends) (file image up down : List ℕ) (r r′ : Ends) (i i′ u u′ d d′ : List ℕ)
-    → turned r i u d ≡ turnOf self file image up down
-    → turned r′ i′ u′ d′ ≡ turnOf self file image up down
-    → turned r i u d ≡ turned r′ i′ u′ d′
-one-turn self file image up down r r′ i i′ u u′ d d′ p q = only p q
+pub one-run : (limit resends : ℕ) (identity : Identity) (release : Release) (file image : List ℕ) (r r′ : Ran) (image-left image-left′ : List ℕ)
+    → left r image-left ≡ runOf limit resends identity release file image
+    → left r′ image-left′ ≡ runOf limit resends identity release file image
+    → left r image-left ≡ left r′ image-left′
+one-run limit resends identity release file image r r′ image-left image-left′ is is′ = only is is′

@@ -1,37 +1,60 @@
--- The contracts of the mailbox's calls leave one answer and one state for each input.
+-- Each public contract leaves one answer and one state of the lent memory. Written from the contracts by tools/contracts.
 use Prim.Native.Nat.{ℕ}
 use mathlib.Core.List.{List}
 use mathlib.Core.Path.{_≡_}
 use Rattle.basis.specs.Only.{only}
+use Rattle.mailbox_rules.specs.Events.{writeOf, successOf, failureOf, changeOf, writeStep}
+use Rattle.mailbox_rules.specs.Mailbox.{freshOf, cciOf, messageOf}
 use Rattle.mailbox_state.specs.declared.connectors.Connectors.{Connectors}
 use Rattle.mailbox_state.specs.declared.stand.Stand.{Stand}
-use Rattle.mailbox_state.specs.declared.step.Step.{Step}
-use Rattle.mailbox_rules.specs.Mailbox.{freshOf, messageOf, cciOf}
-use Rattle.mailbox_rules.specs.Events.{writeStep, writeOf, successOf, failureOf, changeOf}
 use Rattle.mailbox_state.specs.declared.state.Mailbox.{Mailbox}
 use Rattle.mailbox_state.specs.declared.state.Outcome.{Outcome}
+use Rattle.mailbox_state.specs.declared.step.Step.{Step}
 
-pub one-fresh : (connectors : Connectors) (r r′ : Mailbox) → r ≡ freshOf connectors → r′ ≡ freshOf connectors → r ≡ r′
-one-fresh connectors r r′ p q = only p q
+pub one-write : (mailbox : Mailbox) (control : List ℕ) (r r′ : Outcome)
+    → r ≡ writeOf mailbox control
+    → r′ ≡ writeOf mailbox control
+    → r ≡ r′
+one-write mailbox control r r′ is is′ = only is is′
 
-pub one-write-step : (stand : Stand) (control : List ℕ) (r r′ : Step) → r ≡ writeStep stand control → r′ ≡ writeStep stand control → r ≡ r′
-one-write-step stand control r r′ p q = only p q
+pub one-report-success : (mailbox : Mailbox) (bytes : List ℕ) (r r′ : Outcome)
+    → r ≡ successOf mailbox bytes
+    → r′ ≡ successOf mailbox bytes
+    → r ≡ r′
+one-report-success mailbox bytes r r′ is is′ = only is is′
 
-module _ (m : Mailbox) where
-  pub one-cci : (r r′ : ℕ) → r ≡ cciOf m → r′ ≡ cciOf m → r ≡ r′
-  one-cci r r′ p q = only p q
+pub one-report-failure : (mailbox : Mailbox) (r r′ : Outcome)
+    → r ≡ failureOf mailbox
+    → r′ ≡ failureOf mailbox
+    → r ≡ r′
+one-report-failure mailbox r r′ is is′ = only is is′
 
-  pub one-message-in : (r r′ : List ℕ) → r ≡ messageOf m → r′ ≡ messageOf m → r ≡ r′
-  one-message-in r r′ p q = only p q
+pub one-change : (mailbox : Mailbox) (connector reason : ℕ) (r r′ : Outcome)
+    → r ≡ changeOf mailbox connector reason
+    → r′ ≡ changeOf mailbox connector reason
+    → r ≡ r′
+one-change mailbox connector reason r r′ is is′ = only is is′
 
-  pub one-write : (control : List ℕ) (r r′ : Outcome) → r ≡ writeOf m control → r′ ≡ writeOf m control → r ≡ r′
-  one-write control r r′ p q = only p q
+pub one-write-step : (stand : Stand) (control : List ℕ) (r r′ : Step)
+    → r ≡ writeStep stand control
+    → r′ ≡ writeStep stand control
+    → r ≡ r′
+one-write-step stand control r r′ is is′ = only is is′
 
-  pub one-report-success : (bytes : List ℕ) (r r′ : Outcome) → r ≡ successOf m bytes → r′ ≡ successOf m bytes → r ≡ r′
-  one-report-success bytes r r′ p q = only p q
+pub one-fresh : (connectors : Connectors) (r r′ : Mailbox)
+    → r ≡ freshOf connectors
+    → r′ ≡ freshOf connectors
+    → r ≡ r′
+one-fresh connectors r r′ is is′ = only is is′
 
-  pub one-report-failure : (r r′ : Outcome) → r ≡ failureOf m → r′ ≡ failureOf m → r ≡ r′
-  one-report-failure r r′ p q = only p q
+pub one-cci : (mailbox : Mailbox) (r r′ : ℕ)
+    → r ≡ cciOf mailbox
+    → r′ ≡ cciOf mailbox
+    → r ≡ r′
+one-cci mailbox r r′ is is′ = only is is′
 
-  pub one-change : (connector reason : ℕ) (r r′ : Outcome) → r ≡ changeOf m connector reason → r′ ≡ changeOf m connector reason → r ≡ r′
-  one-change connector reason r r′ p q = only p q
+pub one-message-in : (mailbox : Mailbox) (r r′ : List ℕ)
+    → r ≡ messageOf mailbox
+    → r′ ≡ messageOf mailbox
+    → r ≡ r′
+one-message-in mailbox r r′ is is′ = only is is′

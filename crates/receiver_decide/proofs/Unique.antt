@@ -1,43 +1,62 @@
--- The public contracts of this crate leave one answer for each input.
+-- Each public contract leaves one answer and one state of the lent memory. Written from the contracts by tools/contracts.
 use Prim.Native.Nat.{ℕ}
-use mathlib.Core.Path.{_≡_}
 use mathlib.Core.Bool.{Bool}
+use mathlib.Core.Path.{_≡_}
 use Rattle.basis.specs.Only.{only}
-use Rattle.wire.specs.declared.response.Identity.{Identity}
-use Rattle.wire.specs.declared.request.Request.{Request}
-use Rattle.silence.specs.declared.Settings.{Settings}
-use Rattle.receiver_state.specs.Phase.{nothing, acceptedOf}
-use Rattle.receiver_state.specs.Answer.{numberOf, replyOf}
-use Rattle.receiver_state.specs.declared.phase.Accepted.{Accepted}
-use Rattle.receiver_state.specs.declared.phase.Phase.{Phase}
-use Rattle.receiver_state.specs.declared.answer.Answer.{Answer}
-use Rattle.receiver_state.specs.declared.answer.Reply.{Reply}
-use Rattle.receiver_state.specs.declared.verdict.Verdict.{Verdict}
-use Rattle.receiver_state.specs.declared.step.Step.{Step}
-use Rattle.receiver_state.specs.declared.step.Tick.{Tick}
-use Rattle.receiver_rules.specs.Range.{outOfRange}
 use Rattle.receiver_rules.specs.Decide.{decideOf}
 use Rattle.receiver_rules.specs.Pass.{passOf}
+use Rattle.receiver_rules.specs.Range.{outOfRange}
+use Rattle.receiver_state.specs.Answer.{numberOf, replyOf}
+use Rattle.receiver_state.specs.Phase.{nothing, acceptedOf}
+use Rattle.receiver_state.specs.declared.answer.Answer.{Answer}
+use Rattle.receiver_state.specs.declared.answer.Reply.{Reply}
+use Rattle.receiver_state.specs.declared.phase.Accepted.{Accepted}
+use Rattle.receiver_state.specs.declared.phase.Phase.{Phase}
+use Rattle.receiver_state.specs.declared.step.Step.{Step}
+use Rattle.receiver_state.specs.declared.step.Tick.{Tick}
+use Rattle.receiver_state.specs.declared.verdict.Verdict.{Verdict}
+use Rattle.silence.specs.declared.Settings.{Settings}
+use Rattle.wire.specs.declared.request.Request.{Request}
+use Rattle.wire.specs.declared.response.Identity.{Identity}
 
-pub one-answer-number : (answer : Answer) (r r′ : ℕ) → r ≡ numberOf answer → r′ ≡ numberOf answer → r ≡ r′
-one-answer-number answer r r′ p q = only p q
+pub one-answer-number : (answer : Answer) (r r′ : ℕ)
+    → r ≡ numberOf answer
+    → r′ ≡ numberOf answer
+    → r ≡ r′
+one-answer-number answer r r′ is is′ = only is is′
 
-pub one-reply : (answer : Answer) (identity : Identity) (capacity : ℕ) (r r′ : Reply) → r ≡ replyOf identity capacity answer → r′ ≡ replyOf identity capacity answer → r ≡ r′
-one-reply answer identity capacity r r′ p q = only p q
+pub one-reply : (answer : Answer) (identity : Identity) (capacity : ℕ) (r r′ : Reply)
+    → r ≡ replyOf identity capacity answer
+    → r′ ≡ replyOf identity capacity answer
+    → r ≡ r′
+one-reply answer identity capacity r r′ is is′ = only is is′
 
-pub one-nothing-accepted : (r r′ : Accepted) → r ≡ nothing → r′ ≡ nothing → r ≡ r′
-one-nothing-accepted r r′ p q = only p q
+pub one-nothing-accepted : (r r′ : Accepted)
+    → r ≡ nothing
+    → r′ ≡ nothing
+    → r ≡ r′
+one-nothing-accepted r r′ is is′ = only is is′
 
-pub one-accepted : (phase : Phase) (r r′ : Accepted) → r ≡ acceptedOf phase → r′ ≡ acceptedOf phase → r ≡ r′
-one-accepted phase r r′ p q = only p q
+pub one-accepted : (phase : Phase) (r r′ : Accepted)
+    → r ≡ acceptedOf phase
+    → r′ ≡ acceptedOf phase
+    → r ≡ r′
+one-accepted phase r r′ is is′ = only is is′
 
-pub one-out-of-range : (readiness : ℕ) (verdict : Verdict) (r r′ : Bool) → r ≡ outOfRange readiness verdict → r′ ≡ outOfRange readiness verdict → r ≡ r′
-one-out-of-range readiness verdict r r′ p q = only p q
+pub one-out-of-range : (readiness : ℕ) (verdict : Verdict) (r r′ : Bool)
+    → r ≡ outOfRange readiness verdict
+    → r′ ≡ outOfRange readiness verdict
+    → r ≡ r′
+one-out-of-range readiness verdict r r′ is is′ = only is is′
 
-pub one-decide : (phase : Phase) (request : Request) (capacity readiness : ℕ) (verdict : Verdict) (r r′ : Step) → r ≡ decideOf phase request capacity readiness verdict
-    → r′ ≡ decideOf phase request capacity readiness verdict → r ≡ r′
-one-decide phase request capacity readiness verdict r r′ p q = only p q
+pub one-decide : (phase : Phase) (request : Request) (capacity readiness : ℕ) (verdict : Verdict) (r r′ : Step)
+    → r ≡ decideOf phase request capacity readiness verdict
+    → r′ ≡ decideOf phase request capacity readiness verdict
+    → r ≡ r′
+one-decide phase request capacity readiness verdict r r′ is is′ = only is is′
 
-pub one-pass : (phase : Phase) (silence elapsed made : ℕ) (settings : Settings) (r r′ : Tick) → r ≡ passOf phase silence elapsed made settings
-    → r′ ≡ passOf phase silence elapsed made settings → r ≡ r′
-one-pass phase silence elapsed made settings r r′ p q = only p q
+pub one-pass : (phase : Phase) (silence elapsed resends : ℕ) (settings : Settings) (r r′ : Tick)
+    → r ≡ passOf phase silence elapsed resends settings
+    → r′ ≡ passOf phase silence elapsed resends settings
+    → r ≡ r′
+one-pass phase silence elapsed resends settings r r′ is is′ = only is is′
