@@ -47,6 +47,16 @@ size_t draw_small_length(choice *from)
     return CHOICE_OF(from, lengths);
 }
 
+size_t draw_large_length(choice *from, size_t edge)
+{
+    static const size_t carry[] = {256 * 256, 256 * 256 - 1, 256 * 256 + 1, 257 * 256, 258 * 256};
+    const size_t full[] = {HARSOLVEK_IMAGE_MOST, HARSOLVEK_IMAGE_MOST - 1, 4095 * 256, edge};
+    if (choice_one_in(from, 40)) {
+        return carry[choice_below(from, 5)];
+    }
+    return choice_one_in(from, 120) ? full[choice_below(from, 4)] : 0;
+}
+
 uint16_t draw_elapsed(choice *from, unsigned limit, unsigned left)
 {
     const uint32_t small[] = {0, 1, left - 1, choice_below(from, left)};
@@ -108,6 +118,26 @@ uint32_t draw_wrong(choice *from, uint32_t least, uint32_t most)
 {
     const uint32_t numbers[] = {least, most, least + choice_below(from, most - least)};
     return CHOICE_OF(from, numbers);
+}
+
+unsigned draw_damage(choice *from, unsigned kinds, void *state, size_t size)
+{
+    const unsigned kind = choice_below(from, kinds);
+    if (kind == 0) {
+        memset(state, 0, size);
+    }
+    return kind;
+}
+
+uint8_t draw_code(choice *from, unsigned count)
+{
+    return (uint8_t)(choice_one_in(from, 2) ? choice_below(from, count)
+                                            : draw_wrong(from, count, 255));
+}
+
+uint16_t draw_wrong_limit(choice *from)
+{
+    return (uint16_t)(choice_one_in(from, 2) ? 0 : draw_wrong(from, 10001, 65535));
 }
 
 unsigned draw_beside(choice *from, unsigned due)

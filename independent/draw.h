@@ -29,6 +29,10 @@ size_t draw_lent_length(choice *from, size_t length);
 /* The length of an image or a file, not the largest: every class of 01's blocks. */
 size_t draw_small_length(choice *from);
 
+/* The length of one that is large; mostly 0, for none. Those in between have room for blocks 254 to
+ * 256. Full size, and `edge` beside it, is seldom, since every call then compares a megabyte. */
+size_t draw_large_length(choice *from, size_t edge);
+
 /* Elapsed milliseconds, often around what is `left` of a wait or of the silence limit. */
 uint16_t draw_elapsed(choice *from, unsigned limit, unsigned left);
 
@@ -47,6 +51,15 @@ void draw_put(uint8_t *bytes, unsigned number);
 
 /* A number from `least` to `most`, the two often: one that a state must not hold. */
 uint32_t draw_wrong(choice *from, uint32_t least, uint32_t most);
+
+/* One of so many kinds of damage to a state. Kind 0 is made here: all of it is zero. */
+unsigned draw_damage(choice *from, unsigned kinds, void *state, size_t size);
+
+/* A code of which there are `count`, or one that is none. */
+uint8_t draw_code(choice *from, unsigned count);
+
+/* A silence limit that is none. */
+uint16_t draw_wrong_limit(choice *from);
 
 /* A number that is to equal `due`, now and then one beside it or far from it. */
 unsigned draw_beside(choice *from, unsigned due);

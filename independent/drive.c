@@ -6,49 +6,58 @@
  *     drive faults CALLS [SEED]            whether each fault is found, by the driver of its part
  *     drive list                           the faults
  *
- * CALLS are those that both get. The exit is 0 if all is as it should be, 1 if not, 2 if it is
- * called otherwise.
+ * CALLS are those that both get. A difference is told and kept, also that of one fault. The exit is
+ * 0 if all is as it should be, 1 if not, 2 if it is called otherwise.
  */
-#include <stdio.h>
+#include <inttypes.h>
 #include <string.h>
 
 #include "drive.h"
+#include "failed.h"
+#include "order.h"
 
-enum { PARTS = SECOND_PART_MAILBOX + 1 };
+static compare_run run; /* only one stands at a time */
 
-typedef struct order {
-    const char *what;
-    unsigned long calls;
-    uint64_t seed;
-    int fault;
-} order;
-
-static drive run; /* only one stands at a time */
-
-static int driven(enum second_part part, const order *given, int quiet)
+static int driven(enum second_part part, const order *given)
 {
     choice_seed(&run.from, given->seed);
     run.seed = given->seed;
-    run.most = given->calls;
-    run.quiet = quiet;
-    return drive_part(&run, part);
+    run.most = given->count;
+    return compare(&run, drive_parts[part]);
 }
 
-static int compare(enum second_part part, const order *given)
+static void tell(FILE *to, const void *failure)
+{
+    char program[40];
+    snprintf(program, sizeof program, "drive %s", coverage_name(run.met.part));
+    compare_tell(to, &run, drive_parts[run.met.part]);
+    order_print_again(to, program, failure);
+}
+
+static void keep(const order *given)
+{
+    char name[100];
+    snprintf(name, sizeof name, "drive-%s-seed%" PRIu64 "-call%lu", coverage_name(run.met.part),
+             given->seed, run.made);
+    failed_keep(name, given->fault, tell, given);
+}
+
+static int agree(enum second_part part, const order *given)
 {
     unsigned lacking;
-    if (driven(part, given, 0)) {
-        return 1;
+    if (driven(part, given)) {
+        keep(given);
+        return 0;
     }
     lacking = coverage_print(&run.met, run.made);
     printf("%s: %lu calls, 0 differences, %lu calls on damaged states, ", coverage_name(part),
            run.made, run.damaged);
     if (lacking != 0) {
         printf("but %u things never met\n", lacking);
-        return 1;
+        return 0;
     }
     printf("every number and pair met\n");
-    return 0;
+    return 1;
 }
 
 /* Whether the driver of a part finds the fault. */
@@ -56,7 +65,7 @@ static int found(enum second_part part, int fault, const order *given)
 {
     int met;
     second_fault_on = fault;
-    met = driven(part, given, 1);
+    met = driven(part, given);
     second_fault_on = 0;
     printf("fault %d (%s): %s call %lu\n", fault, second_faults[fault - 1].what,
            met ? "found at" : "not found up to", run.made);
@@ -66,6 +75,7 @@ static int found(enum second_part part, int fault, const order *given)
 static int all_faults(const order *given)
 {
     int count = 0;
+    printf("faults: seed %" PRIu64 "\n", given->seed);
     for (int fault = 1; fault <= second_fault_count; fault++) {
         count += found(second_faults[fault - 1].part, fault, given);
     }
@@ -83,47 +93,37 @@ static int list(void)
 }
 
 /* A fault is looked for by the driver that is named; by the driver of its own part for all. */
-static int chosen(enum second_part part, const order *given)
+static int chosen(const char *what, enum second_part part, const order *given)
 {
-    if (strcmp(given->what, "all") == 0) {
+    if (strcmp(what, "all") == 0) {
         return given->fault == 0 || second_faults[given->fault - 1].part == part;
     }
-    return strcmp(given->what, coverage_name(part)) == 0;
+    return strcmp(what, coverage_name(part)) == 0;
 }
 
-static int parts(const order *given)
+static int shown(enum second_part part, const order *given)
+{
+    printf("%s: seed %" PRIu64 "\n", coverage_name(part), given->seed);
+    if (given->fault == 0) {
+        return agree(part, given);
+    }
+    if (!found(part, given->fault, given)) {
+        return 0;
+    }
+    keep(given);
+    return 1;
+}
+
+static int all_chosen(const char *what, const order *given)
 {
     int result = 2;
-    for (int at = 0; at < PARTS && result != 1; at++) {
+    for (int at = 0; at < DRIVE_PARTS && result != 1; at++) {
         enum second_part part = (enum second_part)at;
-        if (chosen(part, given)) {
-            result = given->fault == 0 ? compare(part, given) : !found(part, given->fault, given);
+        if (chosen(what, part, given)) {
+            result = !shown(part, given);
         }
     }
     return result;
-}
-
-/* Answers whether the words are an order. */
-static int read_order(int count, char **words, order *given)
-{
-    uint64_t number;
-    int at = 3;
-    if (count < 3 || !choice_read(words[2], &number) || (unsigned long)number != number) {
-        return 0;
-    }
-    given->what = words[1];
-    given->calls = (unsigned long)number;
-    given->seed = 1;
-    given->fault = 0;
-    if (at < count && choice_read(words[at], &given->seed)) {
-        at++;
-    }
-    if (at + 2 == count && strcmp(words[at], "--fault") == 0 &&
-        choice_read(words[at + 1], &number)) {
-        given->fault = number >= 1 && number <= (uint64_t)second_fault_count ? (int)number : -1;
-        at += 2;
-    }
-    return at == count && given->fault >= 0;
 }
 
 int main(int count, char **words)
@@ -135,9 +135,9 @@ int main(int count, char **words)
     if (count == 2 && strcmp(words[1], "list") == 0) {
         return list();
     }
-    if (read_order(count, words, &given)) {
-        result = strcmp(given.what, "faults") == 0 && given.fault == 0 ? all_faults(&given)
-                                                                       : parts(&given);
+    if (count > 2 && order_read(&given, count - 2, words + 2, second_fault_count)) {
+        result = strcmp(words[1], "faults") == 0 && given.fault == 0 ? all_faults(&given)
+                                                                     : all_chosen(words[1], &given);
     }
     if (result == 2) {
         fprintf(stderr, "drive receiver|indoor|mailbox|all CALLS [SEED] [--fault N]; drive faults "

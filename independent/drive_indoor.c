@@ -1,15 +1,9 @@
-/*
- * The indoor end.
- */
-#include <stdio.h>
 #include <string.h>
 
-#include "draw.h"
+#include "cable.h"
 #include "drive.h"
-#include "harsolvek.h"
-#include "lent.h"
-#include "second.h"
 
+/* The responses (001 T5-16). */
 enum {
     GET_FW_ID = 0x01,
     INITIATE = 0x02,
@@ -19,41 +13,23 @@ enum {
     VENDOR_SPECIFIC = 0x7F
 };
 
-enum kind { RESPONSE, TIME, START };
-
-/* The inputs of one call; the response's bytes stand in lent memory. */
-typedef struct call {
-    enum kind kind;
-    size_t file_length;
-    size_t response_length;
-    uint16_t elapsed;
-    size_t out_length;
-    int by_pointer;
-    int null;
-} call;
-
-/* What a call answers and leaves. The library's state is widened to the second's fields, so that
- * nothing is lost. */
-typedef struct answer {
-    unsigned number;
-    size_t written;
-    second_indoor state;
-} answer;
-
-static uint8_t file_arenas[3 * LENT_SIZE(HARSOLVEK_IMAGE_MOST + 1)];
-static uint8_t response_arenas[3 * LENT_SIZE(DRAW_MESSAGE_MOST)];
-static uint8_t out_arenas[3 * LENT_SIZE(DRAW_OUT_MOST)];
-
-static struct {
-    int stands;
+typedef struct states {
     harsolvek_indoor library;
     second_indoor second;
-    lent file;
-    lent response;
-    lent out;
-    size_t last_written;
+} states;
+
+static uint8_t file_arenas[3 * LENT_SIZE(HARSOLVEK_IMAGE_MOST + 1)];
+
+static cable house;
+
+static struct {
+    states now;
+    states tried;          /* what the call is made on, and what it leaves */
+    second_indoor before;  /* the state before it, or what a start is given */
+    harsolvek_plan wanted; /* by a start: its settings and release */
 } session;
 
+/* The library's state with the second's fields, so that nothing is lost. */
 static second_indoor widened(const harsolvek_indoor *state)
 {
     second_indoor wide;
@@ -90,126 +66,134 @@ static int same(const second_indoor *a, const second_indoor *b)
            a->silence == b->silence && a->resends == b->resends;
 }
 
-static void print_state(const char *name, const second_indoor *state)
+static void print_state(FILE *to, const char *name, const second_indoor *state)
 {
-    printf("  %s: limit %u, most %u, vendor %u, product %u, versions %u %u %u %u, length %lu,\n",
-           name, state->limit, state->most, state->vendor, state->product, state->version[0],
-           state->version[1], state->version[2], state->version[3], (unsigned long)state->length);
-    printf("    phase %u, asked %u, emptied %d, wait %u, reason %d, silence %u, resends %u\n",
-           (unsigned)state->phase, state->asked, state->emptied, state->wait, state->reason,
-           state->silence, state->resends);
+    fprintf(to,
+            "  %s: limit %u, most %u, vendor %u, product %u, versions %u %u %u %u, length %lu,\n",
+            name, state->limit, state->most, state->vendor, state->product, state->version[0],
+            state->version[1], state->version[2], state->version[3], (unsigned long)state->length);
+    fprintf(to, "    phase %u, asked %u, emptied %d, wait %u, reason %d, silence %u, resends %u\n",
+            (unsigned)state->phase, state->asked, state->emptied, state->wait, state->reason,
+            state->silence, state->resends);
 }
 
-static void print_answer(const char *name, const answer *given, const uint8_t *out,
-                         size_t out_length)
+static void print_call(FILE *to)
 {
-    printf("  %s: number %u, written %lu\n", name, given->number, (unsigned long)given->written);
-    lent_print("output buffer", out, out_length);
-    print_state("state", &given->state);
+    cable_print_call(to, &house);
+    print_state(to, "state before, or settings", &session.before);
 }
 
-/* What differs, or null. The file is lent to read, and the output buffer changes only where a
- * message is written. */
-static const char *difference(const call *made, const answer *library, const answer *second)
+static void print_answer(FILE *to, enum compare_side side)
 {
-    if (library->number != second->number) {
-        return "number";
-    }
-    if (library->written != second->written) {
-        return "written";
-    }
-    if (!same(&library->state, &second->state)) {
-        return "state";
-    }
-    if (!lent_kept(&session.file, made->file_length, 0, 0)) {
-        return "file";
-    }
-    if (!lent_kept(&session.response, made->response_length, 0, 0)) {
-        return "response";
-    }
-    return lent_kept(&session.out, made->out_length, 0, second->written) ? NULL : "output buffer";
+    const second_indoor library = widened(&session.tried.library);
+    cable_print_answer(to, &house, side);
+    print_state(to, "state", side == COMPARE_LIBRARY ? &library : &session.tried.second);
 }
 
-/* Answers 1 and tells if there is a difference. `second` is null if the library alone was
- * called. */
-static int told(const drive *run, const char *what, const call *made, const second_indoor *before,
-                const answer *library, const answer *second)
+/* The file is lent to read. */
+static const char *difference(void)
 {
-    static const char *const names[] = {"response", "time", "start"};
-    if (what == NULL || run->quiet) {
-        return what != NULL;
+    const second_indoor library = widened(&session.tried.library);
+    const char *what = cable_difference(&house);
+    if (what == NULL && !same(&library, &session.tried.second)) {
+        what = "state";
     }
-    drive_tell(run, names[made->kind], what);
-    printf("  file %lu, elapsed %u, output %lu\n", (unsigned long)made->file_length, made->elapsed,
-           (unsigned long)made->out_length);
-    lent_print("response", session.response.before, made->response_length);
-    print_state("state before, or settings", before);
-    print_answer("library", library, session.out.library, made->out_length);
-    if (second != NULL) {
-        print_answer("second", second, session.out.second, made->out_length);
-    }
-    return 1;
+    return what == NULL ? cable_kept(&house, house.made.memory_length, 0, 0) : what;
 }
 
-static int judged(drive *run, const call *made, const second_indoor *before, const answer *library,
-                  const answer *second)
-{
-    run->made++;
-    session.last_written = second->written;
-    coverage_number(&run->met, library->number);
-    return told(run, difference(made, library, second), made, before, library, second);
-}
+/* ---- The library ---- */
 
-static answer answer_of(const harsolvek_indoor_outcome *outcome)
+static void ask_response(harsolvek_indoor_outcome *outcome)
 {
-    answer given;
-    given.number = outcome->number;
-    given.written = outcome->written;
-    given.state = widened(&outcome->state);
-    return given;
-}
-
-/* The library's answer to a call on a state, which becomes the next one. */
-static answer ask_library(harsolvek_indoor *state, const call *made)
-{
-    const uint8_t *file = lent_or_null(session.file.library, made->file_length, made->null);
-    const uint8_t *response =
-        lent_or_null(session.response.library, made->response_length, made->null);
-    uint8_t *out = lent_or_null(session.out.library, made->out_length, made->null);
-    harsolvek_indoor_outcome outcome = {*state, 0, 0};
-    if (made->kind == TIME && made->by_pointer) {
-        outcome.number =
-            harsolvek_indoor_time_at(&outcome.state, file, made->file_length, made->elapsed, out,
-                                     made->out_length, &outcome.written);
-    } else if (made->kind == TIME) {
-        outcome = harsolvek_indoor_time(*state, file, made->file_length, made->elapsed, out,
-                                        made->out_length);
-    } else if (made->by_pointer) {
-        outcome.number = harsolvek_indoor_response_at(&outcome.state, file, made->file_length,
-                                                      response, made->response_length, out,
-                                                      made->out_length, &outcome.written);
+    const cable_call *made = &house.made;
+    const cable_pointers lent = cable_lend(&house);
+    if (made->by_pointer) {
+        outcome->number = harsolvek_indoor_response_at(
+            &outcome->state, lent.memory, made->memory_length, lent.message, made->message_length,
+            lent.out, made->out_length, &outcome->written);
     } else {
-        outcome = harsolvek_indoor_response(*state, file, made->file_length, response,
-                                            made->response_length, out, made->out_length);
+        *outcome = harsolvek_indoor_response(outcome->state, lent.memory, made->memory_length,
+                                             lent.message, made->message_length, lent.out,
+                                             made->out_length);
     }
-    *state = outcome.state;
-    return answer_of(&outcome);
 }
 
-static answer ask_second(second_indoor *state, const call *made)
+static void ask_time(harsolvek_indoor_outcome *outcome)
 {
-    answer given = {0};
-    if (made->kind == TIME) {
-        given.number = (unsigned)second_indoor_time(state, session.file.second, made->file_length,
-                                                    made->elapsed, session.out.second,
-                                                    made->out_length, &given.written);
+    const cable_call *made = &house.made;
+    const cable_pointers lent = cable_lend(&house);
+    if (made->by_pointer) {
+        outcome->number =
+            harsolvek_indoor_time_at(&outcome->state, lent.memory, made->memory_length,
+                                     made->elapsed, lent.out, made->out_length, &outcome->written);
     } else {
-        given.number = (unsigned)second_indoor_response(
-            state, session.file.second, made->file_length, session.response.second,
-            made->response_length, session.out.second, made->out_length, &given.written);
+        *outcome = harsolvek_indoor_time(outcome->state, lent.memory, made->memory_length,
+                                         made->elapsed, lent.out, made->out_length);
     }
-    given.state = *state;
-    return given;
+}
+
+static void ask_start(harsolvek_indoor_outcome *outcome)
+{
+    const cable_call *made = &house.made;
+    const cable_pointers lent = cable_lend(&house);
+    const harsolvek_plan *wanted = &session.wanted;
+    if (made->by_pointer) {
+        outcome->number = harsolvek_indoor_start_at(
+            &outcome->state, wanted->settings, wanted->release, lent.memory, made->memory_length,
+            lent.out, made->out_length, &outcome->written);
+    } else {
+        *outcome = harsolvek_indoor_start(wanted->settings, wanted->release, lent.memory,
+                                          made->memory_length, lent.out, made->out_length);
+    }
+}
+
+static unsigned ask_library(void)
+{
+    harsolvek_indoor_outcome outcome = {session.tried.library, 0, 0};
+    if (house.made.kind == CABLE_MESSAGE) {
+        ask_response(&outcome);
+    } else if (house.made.kind == CABLE_TIME) {
+        ask_time(&outcome);
+    } else {
+        ask_start(&outcome);
+    }
+    session.tried.library = outcome.state;
+    return cable_heard(&house, outcome.number, outcome.written);
+}
+
+/* ---- The second one ---- */
+
+/* A start is made where there is nothing yet. */
+static int ask_second_start(second_indoor *state, size_t *written)
+{
+    const second_indoor *given = &session.before;
+    memset(state, 0, sizeof *state);
+    return second_indoor_start(state, given->limit, given->most, given->vendor, given->product,
+                               given->version, house.memory.second, house.made.memory_length,
+                               house.out.second, house.made.out_length, written);
+}
+
+static int ask_second_number(second_indoor *state, size_t *written)
+{
+    const cable_call *made = &house.made;
+    const uint8_t *file = house.memory.second;
+    uint8_t *out = house.out.second;
+    switch (made->kind) {
+    case CABLE_MESSAGE:
+        return second_indoor_response(state, file, made->memory_length, house.message.second,
+                                      made->message_length, out, made->out_length, written);
+    case CABLE_TIME:
+        return second_indoor_time(state, file, made->memory_length, made->elapsed, out,
+                                  made->out_length, written);
+    default:
+        return ask_second_start(state, written);
+    }
+}
+
+static void ask_second(void)
+{
+    cable_answer *said = &house.said[COMPARE_SECOND];
+    said->number = (unsigned)ask_second_number(&session.tried.second, &said->written);
 }
 
 /* ---- Inputs ---- */
@@ -291,52 +275,78 @@ static uint8_t draw_type(choice *from, enum second_indoor_phase phase)
                                                              : due[phase];
 }
 
-static size_t draw_response(choice *from, const second_indoor *state, uint8_t *bytes)
+static size_t draw_response(choice *from, uint8_t *bytes)
 {
-    size_t length;
-    draw_noise(from, bytes, DRAW_MESSAGE_MOST);
-    bytes[0] = 0x01;
+    const second_indoor *state = &session.now.second;
     bytes[1] = draw_type(from, state->phase);
     bytes[2] = draw_status(from);
     switch (bytes[1]) {
     case GET_FW_ID:
-        length = draw_identity(from, state, bytes);
-        break;
+        return draw_identity(from, state, bytes);
     case INITIATE:
-        length = draw_initiate(from, state, bytes);
-        break;
+        return draw_initiate(from, state, bytes);
     case DATA:
-        length = draw_data(from, state, bytes);
-        break;
+        return draw_data(from, state, bytes);
     case VALIDATE:
-        length = draw_validate(from, bytes);
-        break;
+        return draw_validate(from, bytes);
     default:
-        length = 2 + choice_below(from, 259);
-        break;
+        return 2 + choice_below(from, 259);
     }
-    return choice_one_in(from, 12) ? draw_slip(from, bytes, length) : length;
 }
 
-static call draw_call(drive *run)
+static void draw_call(compare_run *run)
 {
     choice *from = &run->from;
-    const second_indoor *state = &session.second;
-    call made = {0};
-    made.kind = choice_one_in(from, 5) ? TIME : RESPONSE;
-    made.file_length = draw_lent_length(from, state->length);
-    made.out_length = draw_out_length(from);
-    made.by_pointer = choice_one_in(from, 4);
-    made.null = choice_one_in(from, 2);
-    if (made.kind == RESPONSE) {
-        made.response_length = draw_response(from, state, session.response.before);
-        lent_spread(&session.response, DRAW_MESSAGE_MOST);
+    const second_indoor *state = &session.now.second;
+    enum cable_kind kind = choice_one_in(from, 5) ? CABLE_TIME : CABLE_MESSAGE;
+    cable_draw(&house, run, kind, draw_lent_length(from, state->length));
+    if (kind == CABLE_MESSAGE) {
+        cable_draw_message(&house, from, draw_response);
     } else {
-        made.elapsed = draw_elapsed(from, state->limit,
-                                    state->wait > 0 ? state->wait : state->limit - state->silence);
+        house.made.elapsed = draw_elapsed(
+            from, state->limit, state->wait > 0 ? state->wait : state->limit - state->silence);
     }
-    lent_wipe(&session.out, session.last_written, (uint8_t)run->made);
-    return made;
+    session.tried = session.now;
+    session.before = session.now.second;
+}
+
+static size_t draw_file_length(choice *from)
+{
+    size_t large;
+    if (choice_one_in(from, 8)) {
+        return choice_one_in(from, 4) ? HARSOLVEK_IMAGE_MOST + 1 : 0;
+    }
+    large = draw_large_length(from, 4095 * 256 + 1);
+    return large != 0 ? large : draw_small_length(from);
+}
+
+static harsolvek_release draw_release(choice *from)
+{
+    harsolvek_release release;
+    release.vendor = draw_word(from);
+    release.product = draw_word(from);
+    release.versions.first = draw_word(from);
+    release.versions.second = draw_word(from);
+    release.versions.third = draw_word(from);
+    release.versions.fourth = draw_word(from);
+    return release;
+}
+
+static void draw_start(compare_run *run)
+{
+    harsolvek_settings settings = draw_settings(&run->from);
+    harsolvek_release release = draw_release(&run->from);
+    harsolvek_indoor given = {{settings, release, 0}, 0, 0, 0, 0, 0, 0, 0};
+    session.wanted = given.plan;
+    session.tried = session.now;
+    session.before = widened(&given);
+    cable_draw(&house, run, CABLE_START, draw_file_length(&run->from));
+}
+
+/* Done and Failed stay (01, The indoor end's phases). */
+static int over(choice *from)
+{
+    return choice_one_in(from, session.now.second.phase > SECOND_VALIDATE ? 6 : 150);
 }
 
 /* ---- Damaged states ---- */
@@ -348,12 +358,8 @@ static int is_session(const harsolvek_indoor *state)
     int transfers = state->phase == HARSOLVEK_INDOOR_TRANSFER;
     int waits = state->phase == HARSOLVEK_INDOOR_INITIATE || transfers ||
                 state->phase == HARSOLVEK_INDOOR_VALIDATE;
-    if (state->plan.settings.limit < 1 || state->plan.settings.limit > 10000 ||
-        state->plan.settings.resends > 10) {
-        return 0;
-    }
-    if (state->plan.length < 1 || state->plan.length > HARSOLVEK_IMAGE_MOST ||
-        state->phase > HARSOLVEK_INDOOR_FAILED) {
+    if (!cable_allows(state->plan.settings) || state->plan.length < 1 ||
+        state->plan.length > HARSOLVEK_IMAGE_MOST || state->phase > HARSOLVEK_INDOOR_FAILED) {
         return 0;
     }
     if (state->emptied > 1 || (!transfers && (state->emptied != 0 || state->asked != 0)) ||
@@ -366,16 +372,12 @@ static int is_session(const harsolvek_indoor *state)
     return state->reason == 0;
 }
 
-static void damage(choice *from, harsolvek_indoor *state)
+static void damage_state(choice *from, harsolvek_indoor *state)
 {
     static const uint32_t reasons[] = {0, 1, 39, 40, 45, 46, 255};
-    switch (choice_below(from, 12)) {
-    case 0:
-        memset(state, 0, sizeof *state);
-        break;
+    switch (draw_damage(from, 12, state, sizeof *state)) {
     case 1:
-        state->phase =
-            (uint8_t)(choice_one_in(from, 2) ? choice_below(from, 6) : draw_wrong(from, 6, 255));
+        state->phase = draw_code(from, 6);
         break;
     case 2:
         state->emptied = (uint8_t)draw_wrong(from, 1 + choice_below(from, 2), 255);
@@ -387,8 +389,7 @@ static void damage(choice *from, harsolvek_indoor *state)
         state->wait = (uint16_t)draw_wrong(from, 1, 65535);
         break;
     case 5:
-        state->plan.settings.limit =
-            (uint16_t)(choice_one_in(from, 2) ? 0 : draw_wrong(from, 10001, 65535));
+        state->plan.settings.limit = draw_wrong_limit(from);
         break;
     case 6:
         state->plan.settings.resends = (uint8_t)draw_wrong(from, 11, 255);
@@ -407,198 +408,38 @@ static void damage(choice *from, harsolvek_indoor *state)
         state->asked = (uint16_t)draw_wrong(from, 1, 65535);
         state->wait = (uint16_t)(1 + choice_below(from, 2));
         break;
-    default:
+    case 11:
         state->reason = (uint8_t)CHOICE_OF(from, reasons);
         break;
     }
 }
 
-/* What is wrong about a call on a state that still is a session, or null: no rule says what such a
- * block asked for or such a wait leads to, but the lent memory is kept as on every state. */
-static const char *wrong(const drive *run, const call *made, const answer *given,
-                         const harsolvek_indoor *after)
+static int damage(choice *from)
 {
-    const char *what = drive_damaged(run, given->number, given->written, made->out_length);
-    if (what != NULL) {
-        return what;
-    }
-    if (!is_session(after)) {
-        return "state, which is no session";
-    }
-    if (!lent_held(&session.file, made->file_length, 0, 0)) {
-        return "file";
-    }
-    if (!lent_held(&session.response, made->response_length, 0, 0)) {
-        return "response";
-    }
-    return lent_held(&session.out, made->out_length, 0, given->written) ? NULL : "output buffer";
+    damage_state(from, &session.tried.library);
+    session.before = widened(&session.tried.library);
+    session.tried.second = session.before;
+    house.said[COMPARE_SECOND].number = HARSOLVEK_SETTINGS;
+    return is_session(&session.tried.library);
 }
 
-/* The library alone is called, on a copy of its state. A state that is no session gets 29 whatever
- * the inputs are, and comes back as it is. */
-static int ask_damaged(drive *run, const call *made)
+/* No rule says what such a block asked for or such a wait leads to. */
+static const char *wrong(void)
 {
-    harsolvek_indoor state = session.library;
-    answer due = {HARSOLVEK_SETTINGS, 0, {0}};
-    answer given;
-    int stands;
-    damage(&run->from, &state);
-    stands = is_session(&state);
-    due.state = widened(&state);
-    given = ask_library(&state, made);
-    run->damaged++;
-    session.last_written = 0;
-    if (stands) {
-        return told(run, wrong(run, made, &given, &state), made, &due.state, &given, NULL);
+    const char *what = cable_wrong(&house);
+    if (what == NULL && !is_session(&session.tried.library)) {
+        what = "state, which is no session";
     }
-    return told(run, difference(made, &given, &due), made, &due.state, &given, &due);
+    return what == NULL ? cable_held(&house, house.made.memory_length, 0, 0) : what;
 }
 
 /* ---- The calls ---- */
-
-/* A call that is refused before the phase is looked at says nothing of the pair. */
-static void count_pair(drive *run, const call *made, const second_indoor *before,
-                       const answer *given)
-{
-    const uint8_t *out = session.out.before;
-    if (given->number >= HARSOLVEK_BUFFER_SHORT && given->number <= HARSOLVEK_SETTINGS) {
-        return;
-    }
-    if (made->kind == TIME) {
-        coverage_pair(&run->met, before->phase, COVERAGE_TIME);
-    } else if (given->number == HARSOLVEK_MALFORMED) {
-        coverage_pair(&run->met, before->phase, COVERAGE_MALFORMED);
-    } else {
-        coverage_pair(&run->met, before->phase, coverage_type(session.response.before[1]));
-    }
-    if (given->written > 4) {
-        coverage_block(&run->met, out[1] == 0x83 ? out[2] + 256u * out[3] : 0);
-    }
-}
-
-static int ask(drive *run, const call *made)
-{
-    second_indoor before = session.second;
-    answer library = ask_library(&session.library, made);
-    answer second = ask_second(&session.second, made);
-    if (judged(run, made, &before, &library, &second)) {
-        return 1;
-    }
-    count_pair(run, made, &before, &library);
-    coverage_size(&run->met, before.length);
-    return 0;
-}
-
-/* Full size is seldom, since every call then compares a megabyte. Those in between have blocks 254
- * to 256. */
-static size_t draw_file_length(choice *from)
-{
-    static const size_t full[] = {HARSOLVEK_IMAGE_MOST, HARSOLVEK_IMAGE_MOST - 1, 4095 * 256,
-                                  4095 * 256 + 1};
-    static const size_t carry[] = {256 * 256, 256 * 256 - 1, 256 * 256 + 1, 257 * 256, 258 * 256};
-    if (choice_one_in(from, 8)) {
-        return choice_one_in(from, 4) ? HARSOLVEK_IMAGE_MOST + 1 : 0;
-    }
-    if (choice_one_in(from, 40)) {
-        return carry[choice_below(from, 5)];
-    }
-    return choice_one_in(from, 120) ? full[choice_below(from, 4)] : draw_small_length(from);
-}
-
-static harsolvek_release draw_release(choice *from)
-{
-    harsolvek_release release;
-    release.vendor = draw_word(from);
-    release.product = draw_word(from);
-    release.versions.first = draw_word(from);
-    release.versions.second = draw_word(from);
-    release.versions.third = draw_word(from);
-    release.versions.fourth = draw_word(from);
-    return release;
-}
-
-static answer start_library(const call *made, harsolvek_settings settings,
-                            harsolvek_release release, harsolvek_indoor *state)
-{
-    const uint8_t *file = lent_or_null(session.file.library, made->file_length, made->null);
-    uint8_t *out = lent_or_null(session.out.library, made->out_length, made->null);
-    harsolvek_indoor_outcome outcome = {session.library, 0, 0};
-    if (made->by_pointer) {
-        outcome.number =
-            harsolvek_indoor_start_at(&outcome.state, settings, release, file, made->file_length,
-                                      out, made->out_length, &outcome.written);
-    } else {
-        outcome = harsolvek_indoor_start(settings, release, file, made->file_length, out,
-                                         made->out_length);
-    }
-    *state = outcome.state;
-    return answer_of(&outcome);
-}
-
-static answer start_second(const call *made, harsolvek_settings settings,
-                           const harsolvek_release *release)
-{
-    const unsigned version[4] = {release->versions.first, release->versions.second,
-                                 release->versions.third, release->versions.fourth};
-    answer given = {0};
-    given.number = (unsigned)second_indoor_start(
-        &given.state, settings.limit, settings.resends, release->vendor, release->product, version,
-        session.file.second, made->file_length, session.out.second, made->out_length,
-        &given.written);
-    return given;
-}
-
-/* A refused start makes nothing: the library hands out zeros, and the session before it goes on. */
-static int start(drive *run)
-{
-    choice *from = &run->from;
-    harsolvek_settings settings = draw_settings(from);
-    harsolvek_release release = draw_release(from);
-    harsolvek_indoor state = {{settings, release, 0}, 0, 0, 0, 0, 0, 0, 0};
-    second_indoor tried = widened(&state);
-    call made = {0};
-    answer library;
-    answer second;
-    made.kind = START;
-    made.file_length = draw_file_length(from);
-    made.out_length = draw_out_length(from);
-    made.by_pointer = choice_one_in(from, 4);
-    made.null = choice_one_in(from, 2);
-    lent_wipe(&session.out, session.last_written, (uint8_t)run->made);
-    library = start_library(&made, settings, release, &state);
-    second = start_second(&made, settings, &release);
-    if (judged(run, &made, &tried, &library, &second)) {
-        return 1;
-    }
-    if (library.number == HARSOLVEK_TAKEN) {
-        session.stands = 1;
-        session.library = state;
-        session.second = second.state;
-    }
-    return 0;
-}
-
-/* Done and Failed stay (01, The indoor end's phases). */
-static int over(choice *from)
-{
-    return !session.stands || choice_one_in(from, session.second.phase > SECOND_VALIDATE ? 6 : 150);
-}
-
-static int step(drive *run)
-{
-    call made;
-    if (over(&run->from)) {
-        return start(run);
-    }
-    made = draw_call(run);
-    return choice_one_in(&run->from, 16) ? ask_damaged(run, &made) : ask(run, &made);
-}
 
 /* The file's bytes are made once for all runs: whoever changes one of them is met at that call. */
 static void lay_file(void)
 {
     static int made;
-    lent_lay(&session.file, file_arenas, sizeof file_arenas / 3, 1);
+    lent_lay(&house.memory, file_arenas, sizeof file_arenas / 3, 1);
     if (!made) {
         choice_noise(file_arenas, sizeof file_arenas / 3);
         memcpy(file_arenas + sizeof file_arenas / 3, file_arenas, sizeof file_arenas / 3);
@@ -607,18 +448,32 @@ static void lay_file(void)
     }
 }
 
-int drive_indoor(drive *run)
+static void begin(void)
 {
     memset(&session, 0, sizeof session);
+    cable_begin(&house, "file", "response");
     lay_file();
-    lent_lay(&session.response, response_arenas, sizeof response_arenas / 3, 3);
-    lent_lay(&session.out, out_arenas, sizeof out_arenas / 3, 5);
-    lent_fill(&session.response, DRAW_MESSAGE_MOST, 0xA5);
-    lent_fill(&session.out, DRAW_OUT_MOST, 0xA5);
-    while (run->made < run->most && !choice_done(&run->from)) {
-        if (step(run)) {
-            return 1;
-        }
-    }
-    return 0;
 }
+
+/* A message of more than 4 bytes is mostly a block. */
+static void count(coverage *met)
+{
+    const uint8_t *out = house.out.before;
+    cable_count(&house, met, session.before.phase);
+    if (house.said[COMPARE_LIBRARY].written > 4) {
+        coverage_block(met, out[1] == 0x83 ? out[2] + 256u * out[3] : 0);
+    }
+    coverage_size(met, session.before.length);
+}
+
+static void settle(compare_run *run)
+{
+    session.now = session.tried;
+    if (house.made.kind != CABLE_START) {
+        count(&run->met);
+    }
+}
+
+const compare_part drive_indoor = {
+    SECOND_PART_INDOOR, begin,      over,  draw_start, draw_call,  damage,      ask_library,
+    ask_second,         difference, wrong, settle,     print_call, print_answer};

@@ -1,14 +1,9 @@
-/*
- * The indoor computer's mailbox to its port controller.
- */
-#include <stdio.h>
 #include <string.h>
 
 #include "draw.h"
 #include "drive.h"
 #include "harsolvek.h"
 #include "lent.h"
-#include "second.h"
 
 /* 002 Table A-1. */
 enum {
@@ -37,22 +32,30 @@ typedef struct call {
     int null;
 } call;
 
-/* What a call answers and leaves, and what is seen of it: CCI and MESSAGE_IN, with the number that
- * asking for them has. */
+/* What a call answers, and what is seen of it: CCI and MESSAGE_IN, with the number that asking for
+ * them has. */
 typedef struct answer {
     unsigned number;
     unsigned seen;
     uint32_t cci;
     uint8_t message_in[HARSOLVEK_MESSAGE_IN_SIZE];
-    second_mailbox state;
 } answer;
 
 static uint8_t bytes_arenas[3 * LENT_SIZE(REPORT_MOST)];
 
-static struct {
-    int stands;
+typedef struct states {
     harsolvek_mailbox library;
     second_mailbox second;
+} states;
+
+static struct {
+    states now;
+    states tried; /* what the call is made on, and what it leaves */
+    call made;
+    second_mailbox before;
+    answer said[COMPARE_SIDES];
+    harsolvek_mailbox damaged; /* what the library alone is called on */
+    int no_mailbox;            /* that is none */
     lent bytes;
 } session;
 
@@ -105,27 +108,39 @@ static int same_flat(const harsolvek_mailbox *a, const harsolvek_mailbox *b)
            a->command.reset_type == b->command.reset_type;
 }
 
-static void print_state(const char *name, const second_mailbox *state)
+static void print_state(FILE *to, const char *name, const second_mailbox *state)
 {
-    printf("  %s: connectors %u, cci %08lX, shown %u, waiting %02X, on %d, mask %04X, running %d, "
-           "due %d,\n",
-           name, state->connectors, (unsigned long)state->cci, state->shown, state->waiting,
-           state->on, state->mask, state->running, state->due);
-    printf("    code %02X, connector %u, reset_type %u\n", state->code, state->connector,
-           state->reset_type);
-    lent_print("its MESSAGE_IN", state->message_in, sizeof state->message_in);
+    fprintf(to,
+            "  %s: connectors %u, cci %08lX, shown %u, waiting %02X, on %d, mask %04X, running %d, "
+            "due %d,\n",
+            name, state->connectors, (unsigned long)state->cci, state->shown, state->waiting,
+            state->on, state->mask, state->running, state->due);
+    fprintf(to, "    code %02X, connector %u, reset_type %u\n", state->code, state->connector,
+            state->reset_type);
+    lent_print(to, "its MESSAGE_IN", state->message_in, sizeof state->message_in);
 }
 
-static void print_answer(const char *name, const answer *given)
+static void print_call(FILE *to)
 {
-    printf("  %s: number %u; asked for CCI and MESSAGE_IN: number %u, CCI %08lX\n", name,
-           given->number, given->seen, (unsigned long)given->cci);
-    lent_print("MESSAGE_IN", given->message_in, sizeof given->message_in);
-    print_state("state", &given->state);
+    static const char *const names[] = {"write", "success", "failure", "change", "fresh"};
+    const call *made = &session.made;
+    fprintf(to, "  %s: connector or count %u, reason %04X, by %s\n", names[made->kind],
+            made->connector, made->reason, made->by_pointer ? "pointer" : "value");
+    lent_print(to, "bytes", session.bytes.before, made->length);
+    print_state(to, "state before", &session.before);
 }
 
-/* What differs, or null. CONTROL and the port's bytes are lent to read. */
-static const char *difference(const call *made, const answer *library, const answer *second)
+static void print_answer(FILE *to, enum compare_side side)
+{
+    const second_mailbox library = widened(&session.tried.library);
+    const answer *given = &session.said[side];
+    fprintf(to, "  number %u; asked for CCI and MESSAGE_IN: number %u, CCI %08lX\n", given->number,
+            given->seen, (unsigned long)given->cci);
+    lent_print(to, "MESSAGE_IN", given->message_in, sizeof given->message_in);
+    print_state(to, "state", side == COMPARE_LIBRARY ? &library : &session.tried.second);
+}
+
+static const char *answers_differ(const answer *library, const answer *second)
 {
     if (library->number != second->number) {
         return "number";
@@ -136,33 +151,26 @@ static const char *difference(const call *made, const answer *library, const ans
     if (library->cci != second->cci) {
         return "CCI";
     }
-    if (memcmp(library->message_in, second->message_in, sizeof library->message_in) != 0) {
-        return "MESSAGE_IN";
-    }
-    if (!same(&library->state, &second->state)) {
-        return "state";
-    }
-    return lent_kept(&session.bytes, made->length, 0, 0) ? NULL : "lent bytes";
+    return memcmp(library->message_in, second->message_in, sizeof library->message_in) == 0
+               ? NULL
+               : "MESSAGE_IN";
 }
 
-/* Answers 1 and tells if there is a difference. `second` is null if the library alone was
- * called. */
-static int told(const drive *run, const char *what, const call *made, const second_mailbox *before,
-                const answer *library, const answer *second)
+/* CONTROL and the port's bytes are lent to read. A state that is no mailbox comes back as it is,
+ * also in what is lost as it is widened. */
+static const char *difference(void)
 {
-    static const char *const names[] = {"write", "success", "failure", "change", "fresh"};
-    if (what == NULL || run->quiet) {
-        return what != NULL;
+    const second_mailbox library = widened(&session.tried.library);
+    const char *what =
+        answers_differ(&session.said[COMPARE_LIBRARY], &session.said[COMPARE_SECOND]);
+    if (what != NULL) {
+        return what;
     }
-    drive_tell(run, names[made->kind], what);
-    printf("  connector or count %u, reason %04X\n", made->connector, made->reason);
-    lent_print("bytes", session.bytes.before, made->length);
-    print_state("state before", before);
-    print_answer("library", library);
-    if (second != NULL) {
-        print_answer("second", second);
+    if (!same(&library, &session.tried.second) ||
+        (session.no_mailbox && !same_flat(&session.tried.library, &session.damaged))) {
+        return "state";
     }
-    return 1;
+    return lent_kept(&session.bytes, session.made.length, 0, 0) ? NULL : "lent bytes";
 }
 
 static uint8_t ask_library_at(harsolvek_mailbox *state, const call *made, const uint8_t *bytes)
@@ -198,10 +206,12 @@ static harsolvek_mailbox_outcome ask_library_by_value(const harsolvek_mailbox *s
     }
 }
 
-/* The library's answer to a call on a state, which becomes the next one. */
-static void ask_library(harsolvek_mailbox *state, const call *made, answer *given)
+static unsigned ask_library(void)
 {
+    const call *made = &session.made;
     const uint8_t *bytes = lent_or_null(session.bytes.library, made->length, made->null);
+    harsolvek_mailbox *state = &session.tried.library;
+    answer *given = &session.said[COMPARE_LIBRARY];
     harsolvek_cci cci;
     harsolvek_message_in message_in;
     if (made->by_pointer) {
@@ -216,7 +226,15 @@ static void ask_library(harsolvek_mailbox *state, const call *made, answer *give
     given->seen = cci.number == message_in.number ? cci.number : 255;
     given->cci = cci.cci;
     memcpy(given->message_in, message_in.bytes, sizeof given->message_in);
-    given->state = widened(state);
+    return given->number;
+}
+
+/* 29 has a CCI of 0 and a MESSAGE_IN of zeros. */
+static void refuse(answer *given)
+{
+    memset(given, 0, sizeof *given);
+    given->number = HARSOLVEK_SETTINGS;
+    given->seen = HARSOLVEK_SETTINGS;
 }
 
 static int ask_second_number(second_mailbox *state, const call *made)
@@ -235,18 +253,23 @@ static int ask_second_number(second_mailbox *state, const call *made)
     }
 }
 
-static void ask_second(second_mailbox *state, const call *made, answer *given)
+static void ask_second(void)
 {
-    given->number = (unsigned)ask_second_number(state, made);
+    second_mailbox *state = &session.tried.second;
+    answer *given = &session.said[COMPARE_SECOND];
+    given->number = (unsigned)ask_second_number(state, &session.made);
     given->seen = 0;
     given->cci = second_mailbox_cci(state);
     memcpy(given->message_in, state->message_in, sizeof given->message_in);
-    given->state = *state;
+    if (session.made.kind == FRESH && given->number != HARSOLVEK_TAKEN) {
+        memset(state, 0, sizeof *state);
+        refuse(given);
+    }
 }
 
 /* ---- Inputs ---- */
 
-static uint8_t draw_code(choice *from)
+static uint8_t draw_command(choice *from)
 {
     static const uint32_t supported[] = {GET_CONNECTOR_STATUS,
                                          CONNECTOR_RESET,
@@ -268,7 +291,7 @@ static uint8_t draw_code(choice *from)
 
 /* The command that moves the mailbox on: notifications first, the acknowledgement that is due, else
  * any. */
-static uint8_t draw_useful_code(choice *from, const second_mailbox *state)
+static uint8_t draw_useful_command(choice *from, const second_mailbox *state)
 {
     if (!state->on) {
         return SET_NOTIFICATION_ENABLE;
@@ -277,7 +300,7 @@ static uint8_t draw_useful_code(choice *from, const second_mailbox *state)
         return CANCEL;
     }
     return state->due || (state->shown != 0 && choice_one_in(from, 3)) ? ACK_CC_CI
-                                                                       : draw_code(from);
+                                                                       : draw_command(from);
 }
 
 /* 000 T4-7: bits 16 and 17 say what is acknowledged, mostly what there is to acknowledge. */
@@ -307,7 +330,7 @@ static uint16_t draw_mask(choice *from)
 static size_t draw_control(choice *from, const second_mailbox *state, uint8_t *bytes)
 {
     draw_noise(from, bytes, CONTROL_MOST);
-    bytes[0] = choice_one_in(from, 3) ? draw_code(from) : draw_useful_code(from, state);
+    bytes[0] = choice_one_in(from, 3) ? draw_command(from) : draw_useful_command(from, state);
     if (bytes[0] == ACK_CC_CI) {
         bytes[2] = draw_acknowledged(from, state, bytes[2]);
     } else if (bytes[0] == SET_NOTIFICATION_ENABLE) {
@@ -336,37 +359,56 @@ static enum kind draw_kind(choice *from, const second_mailbox *state)
                           : at_rest[choice_below(from, choice_one_in(from, 4) ? 10 : 7)];
 }
 
-static call draw_call(choice *from)
+/* Nothing of the call before is left. */
+static void draw_next(enum kind kind)
 {
-    const second_mailbox *state = &session.second;
-    call made = {0};
-    made.kind = draw_kind(from, state);
-    made.by_pointer = choice_one_in(from, 4);
-    made.null = choice_one_in(from, 2);
-    if (made.kind == WRITE) {
-        made.length = draw_control(from, state, session.bytes.before);
-    } else if (made.kind == SUCCESS) {
-        made.length = draw_report(from, session.bytes.before);
-    } else if (made.kind == CHANGE) {
-        const uint32_t reasons[] = {0, 1, 0xFFFF, 1u << choice_below(from, 16),
-                                    choice_below(from, 65536)};
-        made.connector =
-            (uint8_t)(choice_one_in(from, 8) ? choice_below(from, 256) : choice_below(from, 10));
-        made.reason = (uint16_t)(choice_one_in(from, 2) ? CHOICE_OF(from, reasons) : 2);
-    }
-    lent_spread(&session.bytes, made.kind == SUCCESS ? REPORT_MOST : CONTROL_MOST);
-    return made;
+    memset(&session.made, 0, sizeof session.made);
+    session.made.kind = kind;
+    session.no_mailbox = 0;
+    session.tried = session.now;
+    session.before = session.now.second;
 }
 
-static call draw_fresh(choice *from)
+static void draw_change(choice *from, call *made)
 {
-    const uint32_t wrong[] = {0, draw_wrong(from, 9, 255)};
-    call made = {0};
-    made.kind = FRESH;
-    made.by_pointer = choice_one_in(from, 4);
-    made.connector =
-        (uint8_t)(choice_one_in(from, 6) ? CHOICE_OF(from, wrong) : 1 + choice_below(from, 8));
-    return made;
+    const uint32_t reasons[] = {0, 1, 0xFFFF, 1u << choice_below(from, 16),
+                                choice_below(from, 65536)};
+    made->connector =
+        (uint8_t)(choice_one_in(from, 8) ? choice_below(from, 256) : choice_below(from, 10));
+    made->reason = (uint16_t)(choice_one_in(from, 2) ? CHOICE_OF(from, reasons) : 2);
+}
+
+static void draw_call(compare_run *run)
+{
+    choice *from = &run->from;
+    const second_mailbox *state = &session.now.second;
+    call *made = &session.made;
+    draw_next(draw_kind(from, state));
+    made->by_pointer = choice_one_in(from, 4);
+    made->null = choice_one_in(from, 2);
+    if (made->kind == WRITE) {
+        made->length = draw_control(from, state, session.bytes.before);
+    } else if (made->kind == SUCCESS) {
+        made->length = draw_report(from, session.bytes.before);
+    } else if (made->kind == CHANGE) {
+        draw_change(from, made);
+    }
+    lent_spread(&session.bytes, made->kind == SUCCESS ? REPORT_MOST : CONTROL_MOST);
+}
+
+static void draw_start(compare_run *run)
+{
+    choice *from = &run->from;
+    const uint32_t wrong_counts[] = {0, draw_wrong(from, 9, 255)};
+    draw_next(FRESH);
+    session.made.by_pointer = choice_one_in(from, 4);
+    session.made.connector = (uint8_t)(choice_one_in(from, 6) ? CHOICE_OF(from, wrong_counts)
+                                                              : 1 + choice_below(from, 8));
+}
+
+static int over(choice *from)
+{
+    return choice_one_in(from, 200);
 }
 
 /* ---- Damaged states ---- */
@@ -410,15 +452,11 @@ static void damage_command(choice *from, harsolvek_command *command)
     }
 }
 
-static void damage(choice *from, harsolvek_mailbox *state)
+static void damage_state(choice *from, harsolvek_mailbox *state)
 {
-    switch (choice_below(from, 12)) {
-    case 0:
-        memset(state, 0, sizeof *state);
-        break;
+    switch (draw_damage(from, 12, state, sizeof *state)) {
     case 1:
-        state->told =
-            (uint8_t)(choice_one_in(from, 2) ? choice_below(from, 8) : draw_wrong(from, 8, 255));
+        state->told = draw_code(from, 8);
         break;
     case 2:
         state->connectors = (uint8_t)(choice_one_in(from, 2) ? 0 : draw_wrong(from, 9, 255));
@@ -449,21 +487,33 @@ static void damage(choice *from, harsolvek_mailbox *state)
         state->length = 0;
         damage_command(from, &state->command);
         break;
-    default:
+    case 11:
         damage_command(from, &state->command);
         break;
     }
 }
 
-/* What is wrong about a call on a state that still is a mailbox, or null: no rule says what such a
- * connector leads to, but it stays a mailbox and the lent bytes are kept as on every state. */
-static const char *wrong(const drive *run, const call *made, const answer *given,
-                         const harsolvek_mailbox *after)
+/* The state as it is flat is kept too: widened, one that is no mailbox may lose something. */
+static int damage(choice *from)
 {
-    const char *what = drive_damaged(run, given->number, 0, 0);
-    if (what != NULL) {
-        return what;
-    }
+    harsolvek_mailbox *state = &session.tried.library;
+    int stands;
+    damage_state(from, state);
+    stands = is_mailbox(state);
+    session.damaged = *state;
+    session.no_mailbox = !stands;
+    session.before = widened(state);
+    refuse(&session.said[COMPARE_SECOND]);
+    session.tried.second = session.before;
+    return stands;
+}
+
+/* No rule says what such a connector leads to, but it stays a mailbox and the lent bytes are
+ * kept. */
+static const char *wrong(void)
+{
+    const answer *given = &session.said[COMPARE_LIBRARY];
+    const harsolvek_mailbox *after = &session.tried.library;
     if (!is_mailbox(after)) {
         return "state, which is no mailbox";
     }
@@ -473,34 +523,17 @@ static const char *wrong(const drive *run, const call *made, const answer *given
     if (memcmp(given->message_in, after->message_in, sizeof given->message_in) != 0) {
         return "MESSAGE_IN";
     }
-    return lent_held(&session.bytes, made->length, 0, 0) ? NULL : "lent bytes";
-}
-
-/* The library alone is called, on a copy of its state. A state that is no mailbox gets 29 whatever
- * the inputs are and comes back as it is, with CCI 0 and a MESSAGE_IN of zeros. */
-static int ask_damaged(drive *run, const call *made)
-{
-    harsolvek_mailbox state = session.library;
-    harsolvek_mailbox before;
-    answer due = {HARSOLVEK_SETTINGS, HARSOLVEK_SETTINGS, 0, {0}, {0}};
-    answer given;
-    const char *what;
-    damage(&run->from, &state);
-    before = state;
-    due.state = widened(&before);
-    ask_library(&state, made, &given);
-    run->damaged++;
-    if (is_mailbox(&before)) {
-        return told(run, wrong(run, made, &given, &state), made, &due.state, &given, NULL);
-    }
-    what = difference(made, &given, &due);
-    if (what == NULL && !same_flat(&state, &before)) {
-        what = "state";
-    }
-    return told(run, what, made, &due.state, &given, &due);
+    return lent_held(&session.bytes, session.made.length, 0, 0) ? NULL : "lent bytes";
 }
 
 /* ---- The calls ---- */
+
+static void begin(void)
+{
+    memset(&session, 0, sizeof session);
+    lent_lay(&session.bytes, bytes_arenas, sizeof bytes_arenas / 3, 3);
+    lent_fill(&session.bytes, REPORT_MOST, 0xA5);
+}
 
 static enum coverage_mailbox column(const call *made)
 {
@@ -523,74 +556,16 @@ static enum coverage_mailbox column(const call *made)
     }
 }
 
-static int ask(drive *run, const call *made)
+static void settle(compare_run *run)
 {
-    second_mailbox before = session.second;
-    unsigned row = session.library.told;
-    answer library;
-    answer second;
-    ask_library(&session.library, made, &library);
-    ask_second(&session.second, made, &second);
-    run->made++;
-    coverage_number(&run->met, library.number);
-    if (told(run, difference(made, &library, &second), made, &before, &library, &second)) {
-        return 1;
+    const unsigned row = session.now.library.told;
+    session.now = session.tried;
+    if (session.made.kind != FRESH &&
+        session.said[COMPARE_LIBRARY].number != HARSOLVEK_CONTROL_LENGTH) {
+        coverage_pair(&run->met, row, column(&session.made));
     }
-    if (library.number != HARSOLVEK_CONTROL_LENGTH) {
-        coverage_pair(&run->met, row, column(made));
-    }
-    return 0;
 }
 
-/* A refused count makes nothing: the library hands out zeros, which is no mailbox, and the one
- * before it goes on. */
-static int fresh(drive *run)
-{
-    call made = draw_fresh(&run->from);
-    harsolvek_mailbox state = session.library;
-    second_mailbox tried = session.second;
-    answer library;
-    answer second;
-    ask_library(&state, &made, &library);
-    ask_second(&tried, &made, &second);
-    if (second.number != HARSOLVEK_TAKEN) {
-        memset(&second, 0, sizeof second);
-        second.number = HARSOLVEK_SETTINGS;
-        second.seen = HARSOLVEK_SETTINGS;
-    }
-    run->made++;
-    coverage_number(&run->met, library.number);
-    if (told(run, difference(&made, &library, &second), &made, &session.second, &library,
-             &second)) {
-        return 1;
-    }
-    if (library.number == HARSOLVEK_TAKEN) {
-        session.stands = 1;
-        session.library = state;
-        session.second = tried;
-    }
-    return 0;
-}
-
-static int step(drive *run)
-{
-    call made;
-    if (!session.stands || choice_one_in(&run->from, 200)) {
-        return fresh(run);
-    }
-    made = draw_call(&run->from);
-    return choice_one_in(&run->from, 16) ? ask_damaged(run, &made) : ask(run, &made);
-}
-
-int drive_mailbox(drive *run)
-{
-    memset(&session, 0, sizeof session);
-    lent_lay(&session.bytes, bytes_arenas, sizeof bytes_arenas / 3, 3);
-    lent_fill(&session.bytes, REPORT_MOST, 0xA5);
-    while (run->made < run->most && !choice_done(&run->from)) {
-        if (step(run)) {
-            return 1;
-        }
-    }
-    return 0;
-}
+const compare_part drive_mailbox = {
+    SECOND_PART_MAILBOX, begin,      over,  draw_start, draw_call,  damage,      ask_library,
+    ask_second,          difference, wrong, settle,     print_call, print_answer};

@@ -1,15 +1,9 @@
-/*
- * The receiver on the roof.
- */
-#include <stdio.h>
 #include <string.h>
 
-#include "draw.h"
+#include "cable.h"
 #include "drive.h"
-#include "harsolvek.h"
-#include "lent.h"
-#include "second.h"
 
+/* The requests (001 T5-16). */
 enum {
     GET_FW_ID = 0x81,
     INITIATE,
@@ -21,44 +15,30 @@ enum {
     VENDOR_SPECIFIC = 0xFF
 };
 
-enum kind { REQUEST, TIME, SUM, START };
-
-/* The inputs of one call; the request's bytes stand in lent memory. */
-typedef struct call {
-    enum kind kind;
-    size_t image_length;
-    size_t request_length;
+/* What the receiver is given beside a request. */
+typedef struct advice {
     uint8_t readiness;
     uint8_t verdict;
     uint8_t later;
-    uint16_t elapsed;
-    size_t out_length;
-    int by_pointer;
-    int null;
-} call;
+} advice;
 
-/* What a call answers and leaves. The library's state is widened to the second's fields, so that
- * nothing is lost. */
-typedef struct answer {
-    unsigned number;
-    size_t written;
-    unsigned sum;
-    second_receiver state;
-} answer;
-
-static uint8_t image_arenas[3 * LENT_SIZE(HARSOLVEK_IMAGE_MOST + 1)];
-static uint8_t request_arenas[3 * LENT_SIZE(DRAW_MESSAGE_MOST)];
-static uint8_t out_arenas[3 * LENT_SIZE(DRAW_OUT_MOST)];
-
-static struct {
-    int stands;
+typedef struct states {
     harsolvek_receiver library;
     second_receiver second;
-    lent image;
+} states;
+
+static uint8_t image_arenas[3 * LENT_SIZE(HARSOLVEK_IMAGE_MOST + 1)];
+
+static cable roof;
+
+static struct {
+    states now;
+    states tried;           /* what the call is made on, and what it leaves */
+    second_receiver before; /* the state before it, or what a start is given */
+    unsigned sums[COMPARE_SIDES];
+    advice given;
+    harsolvek_receiver wanted; /* by a start: its settings and identity */
     size_t image_size;
-    lent request;
-    lent out;
-    size_t last_written;
 } session;
 
 /* 001 T5-18, behind Status. */
@@ -79,6 +59,7 @@ static void identity_bytes(uint8_t bytes[19], const harsolvek_identity *identity
     bytes[18] = identity->flags4;
 }
 
+/* The library's state with the second's fields, so that nothing is lost. */
 static second_receiver widened(const harsolvek_receiver *state)
 {
     second_receiver wide;
@@ -104,128 +85,130 @@ static int same(const second_receiver *a, const second_receiver *b)
            a->resends == b->resends;
 }
 
-static void print_state(const char *name, const second_receiver *state)
+static void print_state(FILE *to, const char *name, const second_receiver *state)
 {
-    printf("  %s: limit %u, most %u, capacity %lu, phase %u, blocks %u, bytes %lu, last_short %d, "
-           "silence %u, resends %u\n",
-           name, state->limit, state->most, (unsigned long)state->capacity, (unsigned)state->phase,
-           state->blocks, (unsigned long)state->bytes, state->last_short, state->silence,
-           state->resends);
-    lent_print("its identity", state->identity, sizeof state->identity);
+    fprintf(to,
+            "  %s: limit %u, most %u, capacity %lu, phase %u, blocks %u, bytes %lu, last_short %d, "
+            "silence %u, resends %u\n",
+            name, state->limit, state->most, (unsigned long)state->capacity, (unsigned)state->phase,
+            state->blocks, (unsigned long)state->bytes, state->last_short, state->silence,
+            state->resends);
+    lent_print(to, "its identity", state->identity, sizeof state->identity);
 }
 
-static void print_answer(const char *name, const answer *given, const uint8_t *out,
-                         size_t out_length)
+static void print_call(FILE *to)
 {
-    printf("  %s: number %u, written %lu, sum %u\n", name, given->number,
-           (unsigned long)given->written, given->sum);
-    lent_print("output buffer", out, out_length);
-    print_state("state", &given->state);
+    cable_print_call(to, &roof);
+    fprintf(to, "  readiness %u, verdict %u, later %u\n", session.given.readiness,
+            session.given.verdict, session.given.later);
+    print_state(to, "state before, or settings", &session.before);
 }
 
-/* What differs, or null. The image changes only where a block is taken, the output buffer where a
- * message is written. */
-static const char *difference(const call *made, const second_receiver *before,
-                              const answer *library, const answer *second)
+static void print_answer(FILE *to, enum compare_side side)
 {
-    int taken = second->state.blocks > before->blocks;
-    size_t at = taken ? (size_t)256 * before->blocks : 0;
-    size_t count = taken ? second->state.bytes - before->bytes : 0;
-    if (library->number != second->number) {
-        return "number";
+    const second_receiver library = widened(&session.tried.library);
+    cable_print_answer(to, &roof, side);
+    fprintf(to, "  sum %u\n", session.sums[side]);
+    print_state(to, "state", side == COMPARE_LIBRARY ? &library : &session.tried.second);
+}
+
+/* The image changes only where a block is taken. */
+static const char *difference(void)
+{
+    const second_receiver library = widened(&session.tried.library);
+    const second_receiver *second = &session.tried.second;
+    const char *what = cable_difference(&roof);
+    int taken = second->blocks > session.before.blocks;
+    size_t at = taken ? (size_t)256 * session.before.blocks : 0;
+    size_t count = taken ? second->bytes - session.before.bytes : 0;
+    if (what != NULL) {
+        return what;
     }
-    if (library->written != second->written) {
-        return "written";
-    }
-    if (library->sum != second->sum) {
+    if (session.sums[COMPARE_LIBRARY] != session.sums[COMPARE_SECOND]) {
         return "sum";
     }
-    if (!same(&library->state, &second->state)) {
-        return "state";
-    }
-    if (!lent_kept(&session.image, session.image_size, at, count)) {
-        return "image";
-    }
-    if (!lent_kept(&session.request, made->request_length, 0, 0)) {
-        return "request";
-    }
-    return lent_kept(&session.out, made->out_length, 0, second->written) ? NULL : "output buffer";
+    return same(&library, second) ? cable_kept(&roof, session.image_size, at, count) : "state";
 }
 
-/* Answers 1 and tells if there is a difference. `second` is null if the library alone was
- * called. */
-static int told(const drive *run, const char *what, const call *made, const second_receiver *before,
-                const answer *library, const answer *second)
-{
-    static const char *const names[] = {"request", "time", "sum", "start"};
-    if (what == NULL || run->quiet) {
-        return what != NULL;
-    }
-    drive_tell(run, names[made->kind], what);
-    printf("  image %lu, readiness %u, verdict %u, later %u, elapsed %u, output %lu\n",
-           (unsigned long)made->image_length, made->readiness, made->verdict, made->later,
-           made->elapsed, (unsigned long)made->out_length);
-    lent_print("request", session.request.before, made->request_length);
-    print_state("state before, or settings", before);
-    print_answer("library", library, session.out.library, made->out_length);
-    if (second != NULL) {
-        print_answer("second", second, session.out.second, made->out_length);
-    }
-    return 1;
-}
+/* ---- The library ---- */
 
-static int judged(drive *run, const call *made, const second_receiver *before,
-                  const answer *library, const answer *second)
+static void ask_request(harsolvek_receiver_outcome *outcome)
 {
-    run->made++;
-    session.last_written = second->written;
-    coverage_number(&run->met, library->number);
-    return told(run, difference(made, before, library, second), made, before, library, second);
-}
-
-static answer answer_of(const harsolvek_receiver_outcome *outcome, unsigned sum)
-{
-    answer given;
-    given.number = outcome->number;
-    given.written = outcome->written;
-    given.sum = sum;
-    given.state = widened(&outcome->state);
-    return given;
-}
-
-/* The library's answer to a call on a state, which becomes the next one. */
-static answer ask_library(harsolvek_receiver *state, const call *made)
-{
-    uint8_t *image = lent_or_null(session.image.library, made->image_length, made->null);
-    uint8_t *request = lent_or_null(session.request.library, made->request_length, made->null);
-    uint8_t *out = lent_or_null(session.out.library, made->out_length, made->null);
-    harsolvek_receiver_outcome outcome = {*state, 0, 0};
-    harsolvek_sum sum = {0, 0};
-    if (made->kind == SUM) {
-        sum = harsolvek_receiver_sum(*state, image, made->image_length);
-        outcome.number = sum.number;
-    } else if (made->kind == TIME && made->by_pointer) {
-        outcome.number = harsolvek_receiver_time_at(&outcome.state, made->elapsed, out,
-                                                    made->out_length, &outcome.written);
-    } else if (made->kind == TIME) {
-        outcome = harsolvek_receiver_time(*state, made->elapsed, out, made->out_length);
-    } else if (made->by_pointer) {
-        outcome.number = harsolvek_receiver_request_at(
-            &outcome.state, image, made->image_length, request, made->request_length,
-            made->readiness, made->verdict, made->later, out, made->out_length, &outcome.written);
+    const cable_call *made = &roof.made;
+    const cable_pointers lent = cable_lend(&roof);
+    const advice given = session.given;
+    if (made->by_pointer) {
+        outcome->number = harsolvek_receiver_request_at(
+            &outcome->state, lent.memory, made->memory_length, lent.message, made->message_length,
+            given.readiness, given.verdict, given.later, lent.out, made->out_length,
+            &outcome->written);
     } else {
-        outcome = harsolvek_receiver_request(*state, image, made->image_length, request,
-                                             made->request_length, made->readiness, made->verdict,
-                                             made->later, out, made->out_length);
+        *outcome = harsolvek_receiver_request(
+            outcome->state, lent.memory, made->memory_length, lent.message, made->message_length,
+            given.readiness, given.verdict, given.later, lent.out, made->out_length);
     }
-    *state = outcome.state;
-    return answer_of(&outcome, sum.sum);
 }
+
+static void ask_time(harsolvek_receiver_outcome *outcome)
+{
+    const cable_call *made = &roof.made;
+    uint8_t *out = cable_lend(&roof).out;
+    if (made->by_pointer) {
+        outcome->number = harsolvek_receiver_time_at(&outcome->state, made->elapsed, out,
+                                                     made->out_length, &outcome->written);
+    } else {
+        *outcome = harsolvek_receiver_time(outcome->state, made->elapsed, out, made->out_length);
+    }
+}
+
+static unsigned ask_sum(harsolvek_receiver_outcome *outcome)
+{
+    harsolvek_sum sum =
+        harsolvek_receiver_sum(outcome->state, cable_lend(&roof).memory, roof.made.memory_length);
+    outcome->number = sum.number;
+    return sum.sum;
+}
+
+static void ask_start(harsolvek_receiver_outcome *outcome)
+{
+    const harsolvek_receiver *wanted = &session.wanted;
+    const size_t capacity = session.before.capacity;
+    if (roof.made.by_pointer) {
+        outcome->number = harsolvek_receiver_start_at(&outcome->state, wanted->settings,
+                                                      wanted->identity, capacity);
+    } else {
+        *outcome = harsolvek_receiver_start(wanted->settings, wanted->identity, capacity);
+    }
+}
+
+static unsigned ask_library(void)
+{
+    harsolvek_receiver_outcome outcome = {session.tried.library, 0, 0};
+    session.sums[COMPARE_LIBRARY] = 0;
+    switch (roof.made.kind) {
+    case CABLE_MESSAGE:
+        ask_request(&outcome);
+        break;
+    case CABLE_TIME:
+        ask_time(&outcome);
+        break;
+    case CABLE_SUM:
+        session.sums[COMPARE_LIBRARY] = ask_sum(&outcome);
+        break;
+    default:
+        ask_start(&outcome);
+        break;
+    }
+    session.tried.library = outcome.state;
+    return cable_heard(&roof, outcome.number, outcome.written);
+}
+
+/* ---- The second one ---- */
 
 /* A verdict that is none is out of range, as a later one with a wait of 0 is: both are 26. */
-static enum second_verdict second_verdict_of(const call *made)
+static enum second_verdict second_verdict_of(uint8_t verdict)
 {
-    switch (made->verdict) {
+    switch (verdict) {
     case HARSOLVEK_VERDICT_GOOD:
         return SECOND_VERDICT_GOOD;
     case HARSOLVEK_VERDICT_BAD:
@@ -235,27 +218,50 @@ static enum second_verdict second_verdict_of(const call *made)
     }
 }
 
-static answer ask_second(second_receiver *state, const call *made)
+static int ask_second_request(second_receiver *state, size_t *written)
 {
+    const cable_call *made = &roof.made;
+    const advice given = session.given;
     unsigned later =
-        made->verdict >= HARSOLVEK_VERDICT_GOOD && made->verdict <= HARSOLVEK_VERDICT_LATER
-            ? made->later
+        given.verdict >= HARSOLVEK_VERDICT_GOOD && given.verdict <= HARSOLVEK_VERDICT_LATER
+            ? given.later
             : 0;
-    answer given = {0};
-    if (made->kind == SUM) {
-        given.number = (unsigned)second_receiver_sum(state, session.image.second,
-                                                     made->image_length, &given.sum);
-    } else if (made->kind == TIME) {
-        given.number = (unsigned)second_receiver_time(state, made->elapsed, session.out.second,
-                                                      made->out_length, &given.written);
-    } else {
-        given.number = (unsigned)second_receiver_request(
-            state, session.image.second, made->image_length, session.request.second,
-            made->request_length, made->readiness, second_verdict_of(made), later,
-            session.out.second, made->out_length, &given.written);
+    return second_receiver_request(state, roof.memory.second, made->memory_length,
+                                   roof.message.second, made->message_length, given.readiness,
+                                   second_verdict_of(given.verdict), later, roof.out.second,
+                                   made->out_length, written);
+}
+
+/* A start is made where there is nothing yet. */
+static int ask_second_start(second_receiver *state)
+{
+    const second_receiver *given = &session.before;
+    memset(state, 0, sizeof *state);
+    return second_receiver_start(state, given->limit, given->most, given->identity,
+                                 given->capacity);
+}
+
+static int ask_second_number(second_receiver *state, size_t *written, unsigned *sum)
+{
+    switch (roof.made.kind) {
+    case CABLE_MESSAGE:
+        return ask_second_request(state, written);
+    case CABLE_TIME:
+        return second_receiver_time(state, roof.made.elapsed, roof.out.second, roof.made.out_length,
+                                    written);
+    case CABLE_SUM:
+        return second_receiver_sum(state, roof.memory.second, roof.made.memory_length, sum);
+    default:
+        return ask_second_start(state);
     }
-    given.state = *state;
-    return given;
+}
+
+static void ask_second(void)
+{
+    cable_answer *said = &roof.said[COMPARE_SECOND];
+    unsigned sum = 0;
+    said->number = (unsigned)ask_second_number(&session.tried.second, &said->written, &sum);
+    session.sums[COMPARE_SECOND] = sum;
 }
 
 /* ---- Inputs ---- */
@@ -293,30 +299,23 @@ static uint8_t draw_type(choice *from, enum second_receiver_phase phase)
                                                           : useful[phase];
 }
 
-static size_t draw_request(choice *from, const second_receiver *state, uint8_t *bytes)
+static size_t draw_request(choice *from, uint8_t *bytes)
 {
-    size_t length;
-    draw_noise(from, bytes, DRAW_MESSAGE_MOST);
-    bytes[0] = 0x01;
+    const second_receiver *state = &session.now.second;
     bytes[1] = draw_type(from, state->phase);
     switch (bytes[1]) {
     case INITIATE:
-        length = 10;
-        break;
+        return 10;
     case DATA:
         draw_put(bytes + 2, draw_number(from, state));
-        length = 4 + draw_block_length(from, state);
-        break;
+        return 4 + draw_block_length(from, state);
     case DATA_NR:
     case DATA_PAUSE:
     case VENDOR_SPECIFIC:
-        length = 2 + choice_below(from, 259);
-        break;
+        return 2 + choice_below(from, 259);
     default:
-        length = 2;
-        break;
+        return 2;
     }
-    return choice_one_in(from, 12) ? draw_slip(from, bytes, length) : length;
 }
 
 static uint8_t draw_later(choice *from)
@@ -335,185 +334,49 @@ static uint8_t draw_verdict(choice *from)
                                              : CHOICE_OF(from, verdicts));
 }
 
-static call draw_call(drive *run)
+/* Near the end of a large image, as if up to 4,095 whole blocks had been accepted, or to where
+ * block numbers begin to have a second byte: both states get the counts that these would leave, for
+ * feeding them would take a thousand times as long. The image stays as it is filled, as if the
+ * blocks held that. */
+static void jump(choice *from)
 {
-    static const enum kind kinds[] = {REQUEST, REQUEST, REQUEST, REQUEST, REQUEST,
-                                      REQUEST, REQUEST, TIME,    TIME,    SUM};
-    choice *from = &run->from;
-    const second_receiver *state = &session.second;
-    call made = {0};
-    made.kind = kinds[choice_below(from, 10)];
-    made.image_length = draw_lent_length(from, state->capacity);
-    made.out_length = draw_out_length(from);
-    made.by_pointer = choice_one_in(from, 4);
-    made.null = choice_one_in(from, 2);
-    if (made.kind == REQUEST) {
-        made.request_length = draw_request(from, state, session.request.before);
-        lent_spread(&session.request, DRAW_MESSAGE_MOST);
-        made.readiness = draw_wait(from);
-        made.verdict = draw_verdict(from);
-        made.later = draw_later(from);
-    } else if (made.kind == TIME) {
-        made.elapsed = draw_elapsed(from, state->limit, state->limit - state->silence);
-    }
-    lent_wipe(&session.out, session.last_written, (uint8_t)run->made);
-    return made;
-}
-
-/* ---- Damaged states ---- */
-
-/* What the library's header says of a session. Of `silence`, `resends` and, outside Idle,
- * `accepted` it says nothing, so any number there is one. */
-static int is_session(const harsolvek_receiver *state)
-{
-    if (state->settings.limit < 1 || state->settings.limit > 10000 ||
-        state->settings.resends > 10) {
-        return 0;
-    }
-    if (state->capacity > HARSOLVEK_IMAGE_MOST || state->phase > HARSOLVEK_RECEIVER_GOOD ||
-        state->last_short > 1) {
-        return 0;
-    }
-    if (state->last_short == 1 && state->phase != HARSOLVEK_RECEIVER_TRANSFER) {
-        return 0;
-    }
-    return state->phase != HARSOLVEK_RECEIVER_IDLE ||
-           (state->accepted.blocks == 0 && state->accepted.bytes == 0);
-}
-
-static void damage(choice *from, harsolvek_receiver *state)
-{
-    const uint32_t bytes[] = {0xFFFFFFFF, state->capacity + 1, state->capacity,
-                              draw_wrong(from, 1, 0xFFFFFFFF)};
-    switch (choice_below(from, 12)) {
-    case 0:
-        memset(state, 0, sizeof *state);
-        break;
-    case 1:
-        state->phase =
-            (uint8_t)(choice_one_in(from, 2) ? choice_below(from, 4) : draw_wrong(from, 4, 255));
-        break;
-    case 2:
-        state->last_short = (uint8_t)draw_wrong(from, 1 + choice_below(from, 2), 255);
-        break;
-    case 3:
-        state->accepted.blocks = (uint16_t)draw_wrong(from, 1, 65535);
-        break;
-    case 4:
-        state->accepted.bytes = CHOICE_OF(from, bytes);
-        break;
-    case 5:
-        state->settings.limit =
-            (uint16_t)(choice_one_in(from, 2) ? 0 : draw_wrong(from, 10001, 65535));
-        break;
-    case 6:
-        state->settings.resends = (uint8_t)draw_wrong(from, 11, 255);
-        break;
-    case 7:
-        state->capacity = draw_wrong(from, HARSOLVEK_IMAGE_MOST + 1, 0xFFFFFFFF);
-        break;
-    case 8:
-        state->silence = (uint16_t)draw_wrong(from, state->settings.limit, 65535);
-        break;
-    case 9:
-        state->resends = (uint8_t)draw_wrong(from, state->settings.resends, 255);
-        break;
-    case 10:
-        state->accepted.blocks = (uint16_t)draw_wrong(from, 1, 65535);
-        state->accepted.bytes = CHOICE_OF(from, bytes);
-        break;
-    default:
-        state->phase = HARSOLVEK_RECEIVER_IDLE;
-        break;
-    }
-}
-
-/* What is wrong about a call on a state that still is a session, or null: no rule says what so many
- * accepted blocks and bytes lead to, but the lent memory is kept as on every state. The image
- * changes only where a block is taken, at 256 times its number. */
-static const char *wrong(const drive *run, const call *made, const second_receiver *before,
-                         const answer *given, const harsolvek_receiver *after)
-{
-    const uint8_t *request = session.request.before;
-    int taken = made->kind == REQUEST && given->number == HARSOLVEK_TAKEN && request[1] == DATA &&
-                before->phase == SECOND_TRANSFER && made->request_length > 4;
-    size_t at = taken ? 256 * (size_t)(request[2] + 256 * request[3]) : 0;
-    size_t count = taken ? made->request_length - 4 : 0;
-    const char *what = drive_damaged(run, given->number, given->written, made->out_length);
-    if (what != NULL) {
-        return what;
-    }
-    if (given->number != HARSOLVEK_TAKEN && given->sum != 0) {
-        return "sum";
-    }
-    if (!is_session(after)) {
-        return "state, which is no session";
-    }
-    if (!lent_held(&session.image, session.image_size, at, count)) {
-        return "image";
-    }
-    if (!lent_held(&session.request, made->request_length, 0, 0)) {
-        return "request";
-    }
-    return lent_held(&session.out, made->out_length, 0, given->written) ? NULL : "output buffer";
-}
-
-/* The library alone is called, on a copy of its state. A state that is no session gets 29 whatever
- * the inputs are, and comes back as it is. A block mostly has the number that is due now. */
-static int ask_damaged(drive *run, const call *made)
-{
-    harsolvek_receiver state = session.library;
-    answer due = {HARSOLVEK_SETTINGS, 0, 0, {0}};
-    answer given;
-    int stands;
-    damage(&run->from, &state);
-    if (made->kind == REQUEST && !choice_one_in(&run->from, 3)) {
-        draw_put(session.request.before + 2, state.accepted.blocks);
-        lent_spread(&session.request, DRAW_MESSAGE_MOST);
-    }
-    stands = is_session(&state);
-    due.state = widened(&state);
-    given = ask_library(&state, made);
-    run->damaged++;
-    session.last_written = 0;
-    if (stands) {
-        return told(run, wrong(run, made, &due.state, &given, &state), made, &due.state, &given,
-                    NULL);
-    }
-    return told(run, difference(made, &due.state, &given, &due), made, &due.state, &given, &due);
-}
-
-/* ---- The calls ---- */
-
-/* A call that is refused before the phase is looked at says nothing of the pair. */
-static void count_pair(drive *run, const call *made, const second_receiver *before, unsigned number)
-{
-    if (made->kind == SUM || (number >= HARSOLVEK_OUT_OF_RANGE && number <= HARSOLVEK_SETTINGS)) {
+    unsigned whole = (unsigned)(session.now.second.capacity / 256);
+    unsigned back = choice_below(from, 3);
+    unsigned blocks = whole >= 4000 && !choice_one_in(from, 8) ? whole - back : 256 - back;
+    if (session.now.second.phase != SECOND_TRANSFER || session.now.second.blocks != 0 ||
+        whole < blocks) {
         return;
     }
-    if (made->kind == TIME) {
-        coverage_pair(&run->met, before->phase, COVERAGE_TIME);
-    } else if (number == HARSOLVEK_MALFORMED) {
-        coverage_pair(&run->met, before->phase, COVERAGE_MALFORMED);
-    } else {
-        coverage_pair(&run->met, before->phase, coverage_type(session.request.before[1]));
-    }
-    if (session.second.blocks > before->blocks) {
-        coverage_block(&run->met, before->blocks);
-    }
+    session.now.second.blocks = blocks;
+    session.now.second.bytes = (size_t)256 * blocks;
+    session.now.library.accepted.blocks = (uint16_t)blocks;
+    session.now.library.accepted.bytes = (uint32_t)256 * blocks;
 }
 
-static int ask(drive *run, const call *made)
+static void draw_call(compare_run *run)
 {
-    second_receiver before = session.second;
-    answer library = ask_library(&session.library, made);
-    answer second = ask_second(&session.second, made);
-    if (judged(run, made, &before, &library, &second)) {
-        return 1;
+    static const enum cable_kind kinds[] = {
+        CABLE_MESSAGE, CABLE_MESSAGE, CABLE_MESSAGE, CABLE_MESSAGE, CABLE_MESSAGE,
+        CABLE_MESSAGE, CABLE_MESSAGE, CABLE_TIME,    CABLE_TIME,    CABLE_SUM};
+    choice *from = &run->from;
+    const second_receiver *state = &session.now.second;
+    enum cable_kind kind;
+    if (choice_one_in(from, 2)) {
+        jump(from);
     }
-    count_pair(run, made, &before, library.number);
-    coverage_size(&run->met, before.capacity);
-    return 0;
+    kind = kinds[choice_below(from, 10)];
+    memset(&session.given, 0, sizeof session.given);
+    cable_draw(&roof, run, kind, draw_lent_length(from, state->capacity));
+    if (kind == CABLE_MESSAGE) {
+        cable_draw_message(&roof, from, draw_request);
+        session.given.readiness = draw_wait(from);
+        session.given.verdict = draw_verdict(from);
+        session.given.later = draw_later(from);
+    } else if (kind == CABLE_TIME) {
+        roof.made.elapsed = draw_elapsed(from, state->limit, state->limit - state->silence);
+    }
+    session.tried = session.now;
+    session.before = *state;
 }
 
 static harsolvek_identity draw_identity(choice *from)
@@ -537,127 +400,174 @@ static harsolvek_identity draw_identity(choice *from)
     return identity;
 }
 
-/* Full size is seldom, since every call then compares a megabyte. Those in between have room for
- * blocks 254 to 256. */
 static size_t draw_capacity(choice *from)
 {
-    static const size_t full[] = {HARSOLVEK_IMAGE_MOST, HARSOLVEK_IMAGE_MOST - 1, 4095 * 256,
-                                  4095 * 256 - 1};
-    static const size_t carry[] = {256 * 256, 256 * 256 - 1, 256 * 256 + 1, 257 * 256, 258 * 256};
     static const size_t too_large[] = {HARSOLVEK_IMAGE_MOST + 1, (size_t)UINT32_MAX + 1,
                                        (size_t)UINT32_MAX + 257, SIZE_MAX};
+    size_t large;
     if (choice_one_in(from, 32)) {
         return too_large[choice_below(from, 4)];
     }
-    if (choice_one_in(from, 40)) {
-        return carry[choice_below(from, 5)];
-    }
-    if (choice_one_in(from, 120)) {
-        return full[choice_below(from, 4)];
+    large = draw_large_length(from, 4095 * 256 - 1);
+    if (large != 0) {
+        return large;
     }
     return choice_one_in(from, 12) ? 0 : draw_small_length(from);
 }
 
-static void lay_image(size_t size, size_t shift, uint8_t byte)
-{
-    lent_lay(&session.image, image_arenas, sizeof image_arenas / 3, shift);
-    lent_fill(&session.image, size, byte);
-    session.image_size = size;
-}
-
-static answer start_library(const call *made, const second_receiver *tried,
-                            const harsolvek_identity *identity, harsolvek_receiver *state)
-{
-    harsolvek_settings settings = {(uint16_t)tried->limit, (uint8_t)tried->most};
-    harsolvek_receiver_outcome outcome = {session.library, 0, 0};
-    if (made->by_pointer) {
-        outcome.number =
-            harsolvek_receiver_start_at(&outcome.state, settings, *identity, tried->capacity);
-    } else {
-        outcome = harsolvek_receiver_start(settings, *identity, tried->capacity);
-    }
-    *state = outcome.state;
-    return answer_of(&outcome, 0);
-}
-
-/* A refused start makes nothing: the library hands out zeros, and the session before it goes on. */
-static int start(drive *run)
+static void draw_start(compare_run *run)
 {
     harsolvek_settings settings = draw_settings(&run->from);
     harsolvek_identity identity = draw_identity(&run->from);
-    harsolvek_receiver state = {settings, identity, 0, {0, 0}, 0, 0, 0, 0};
-    second_receiver tried = widened(&state);
-    call made = {0};
-    answer library;
-    answer second = {0};
-    tried.capacity = draw_capacity(&run->from);
-    made.kind = START;
-    made.by_pointer = choice_one_in(&run->from, 4);
-    lent_wipe(&session.out, session.last_written, (uint8_t)run->made);
-    library = start_library(&made, &tried, &identity, &state);
-    second.number = (unsigned)second_receiver_start(&second.state, tried.limit, tried.most,
-                                                    tried.identity, tried.capacity);
-    if (judged(run, &made, &tried, &library, &second)) {
-        return 1;
-    }
-    if (library.number == HARSOLVEK_TAKEN) {
-        session.stands = 1;
-        session.library = state;
-        session.second = second.state;
-        lay_image(tried.capacity, choice_below(&run->from, LENT_SHIFTS), (uint8_t)run->made);
-    }
-    return 0;
-}
-
-/* Near the end of a large image, as if up to 4,095 whole blocks had been accepted, or to where
- * block numbers begin to have a second byte: both states get the counts that these would leave, for
- * feeding them would take a thousand times as long. The image stays as it is filled, as if the
- * blocks held that. */
-static void jump(choice *from)
-{
-    unsigned whole = (unsigned)(session.second.capacity / 256);
-    unsigned back = choice_below(from, 3);
-    unsigned blocks = whole >= 4000 && !choice_one_in(from, 8) ? whole - back : 256 - back;
-    if (session.second.phase != SECOND_TRANSFER || session.second.blocks != 0 || whole < blocks) {
-        return;
-    }
-    session.second.blocks = blocks;
-    session.second.bytes = (size_t)256 * blocks;
-    session.library.accepted.blocks = (uint16_t)blocks;
-    session.library.accepted.bytes = (uint32_t)256 * blocks;
+    session.wanted = (harsolvek_receiver){settings, identity, 0, {0, 0}, 0, 0, 0, 0};
+    session.tried = session.now;
+    session.before = widened(&session.wanted);
+    session.before.capacity = draw_capacity(&run->from);
+    cable_next(&roof, run, CABLE_START);
+    roof.made.by_pointer = choice_one_in(&run->from, 4);
 }
 
 /* Good ends only with a new session (01, The receiver's phases). */
 static int over(choice *from)
 {
-    return !session.stands || choice_one_in(from, session.second.phase == SECOND_GOOD ? 12 : 100);
+    return choice_one_in(from, session.now.second.phase == SECOND_GOOD ? 12 : 100);
 }
 
-static int step(drive *run)
+/* ---- Damaged states ---- */
+
+/* What the library's header says of a session. Of `silence`, `resends` and, outside Idle,
+ * `accepted` it says nothing, so any number there is one. */
+static int is_session(const harsolvek_receiver *state)
 {
-    call made;
-    if (over(&run->from)) {
-        return start(run);
+    if (!cable_allows(state->settings) || state->capacity > HARSOLVEK_IMAGE_MOST ||
+        state->phase > HARSOLVEK_RECEIVER_GOOD || state->last_short > 1) {
+        return 0;
     }
-    if (choice_one_in(&run->from, 2)) {
-        jump(&run->from);
+    if (state->last_short == 1 && state->phase != HARSOLVEK_RECEIVER_TRANSFER) {
+        return 0;
     }
-    made = draw_call(run);
-    return choice_one_in(&run->from, 16) ? ask_damaged(run, &made) : ask(run, &made);
+    return state->phase != HARSOLVEK_RECEIVER_IDLE ||
+           (state->accepted.blocks == 0 && state->accepted.bytes == 0);
 }
 
-int drive_receiver(drive *run)
+static void damage_state(choice *from, harsolvek_receiver *state)
+{
+    const uint32_t bytes[] = {0xFFFFFFFF, state->capacity + 1, state->capacity,
+                              draw_wrong(from, 1, 0xFFFFFFFF)};
+    switch (draw_damage(from, 12, state, sizeof *state)) {
+    case 1:
+        state->phase = draw_code(from, 4);
+        break;
+    case 2:
+        state->last_short = (uint8_t)draw_wrong(from, 1 + choice_below(from, 2), 255);
+        break;
+    case 3:
+        state->accepted.blocks = (uint16_t)draw_wrong(from, 1, 65535);
+        break;
+    case 4:
+        state->accepted.bytes = CHOICE_OF(from, bytes);
+        break;
+    case 5:
+        state->settings.limit = draw_wrong_limit(from);
+        break;
+    case 6:
+        state->settings.resends = (uint8_t)draw_wrong(from, 11, 255);
+        break;
+    case 7:
+        state->capacity = draw_wrong(from, HARSOLVEK_IMAGE_MOST + 1, 0xFFFFFFFF);
+        break;
+    case 8:
+        state->silence = (uint16_t)draw_wrong(from, state->settings.limit, 65535);
+        break;
+    case 9:
+        state->resends = (uint8_t)draw_wrong(from, state->settings.resends, 255);
+        break;
+    case 10:
+        state->accepted.blocks = (uint16_t)draw_wrong(from, 1, 65535);
+        state->accepted.bytes = CHOICE_OF(from, bytes);
+        break;
+    case 11:
+        state->phase = HARSOLVEK_RECEIVER_IDLE;
+        break;
+    }
+}
+
+/* A block mostly has the number that is due now. */
+static int damage(choice *from)
+{
+    harsolvek_receiver *state = &session.tried.library;
+    damage_state(from, state);
+    if (roof.made.kind == CABLE_MESSAGE && !choice_one_in(from, 3)) {
+        draw_put(roof.message.before + 2, state->accepted.blocks);
+        lent_spread(&roof.message, DRAW_MESSAGE_MOST);
+    }
+    session.before = widened(state);
+    session.sums[COMPARE_SECOND] = 0;
+    session.tried.second = session.before;
+    roof.said[COMPARE_SECOND].number = HARSOLVEK_SETTINGS;
+    return is_session(state);
+}
+
+/* No rule says what so many accepted blocks and bytes lead to. The image changes only where a block
+ * is taken, at 256 times its number. */
+static const char *wrong(void)
+{
+    const uint8_t *request = roof.message.before;
+    const char *what = cable_wrong(&roof);
+    int done = roof.said[COMPARE_LIBRARY].number == HARSOLVEK_TAKEN;
+    int taken = done && roof.made.kind == CABLE_MESSAGE && request[1] == DATA &&
+                session.before.phase == SECOND_TRANSFER && roof.made.message_length > 4;
+    size_t at = taken ? 256 * (size_t)(request[2] + 256 * request[3]) : 0;
+    size_t count = taken ? roof.made.message_length - 4 : 0;
+    if (what != NULL) {
+        return what;
+    }
+    if (!done && session.sums[COMPARE_LIBRARY] != 0) {
+        return "sum";
+    }
+    return is_session(&session.tried.library) ? cable_held(&roof, session.image_size, at, count)
+                                              : "state, which is no session";
+}
+
+/* ---- The calls ---- */
+
+static void lay_image(size_t size, size_t shift, uint8_t byte)
+{
+    lent_lay(&roof.memory, image_arenas, sizeof image_arenas / 3, shift);
+    lent_fill(&roof.memory, size, byte);
+    session.image_size = size;
+}
+
+static void begin(void)
 {
     memset(&session, 0, sizeof session);
+    cable_begin(&roof, "image", "request");
     lay_image(0, 0, 0xA5);
-    lent_lay(&session.request, request_arenas, sizeof request_arenas / 3, 3);
-    lent_lay(&session.out, out_arenas, sizeof out_arenas / 3, 5);
-    lent_fill(&session.request, DRAW_MESSAGE_MOST, 0xA5);
-    lent_fill(&session.out, DRAW_OUT_MOST, 0xA5);
-    while (run->made < run->most && !choice_done(&run->from)) {
-        if (step(run)) {
-            return 1;
-        }
-    }
-    return 0;
 }
+
+static void count(coverage *met)
+{
+    const second_receiver *before = &session.before;
+    if (roof.made.kind != CABLE_SUM) {
+        cable_count(&roof, met, before->phase);
+    }
+    if (session.now.second.blocks > before->blocks) {
+        coverage_block(met, before->blocks);
+    }
+    coverage_size(met, before->capacity);
+}
+
+static void settle(compare_run *run)
+{
+    session.now = session.tried;
+    if (roof.made.kind == CABLE_START) {
+        lay_image(session.before.capacity, choice_below(&run->from, LENT_SHIFTS),
+                  (uint8_t)run->made);
+    } else {
+        count(&run->met);
+    }
+}
+
+const compare_part drive_receiver = {
+    SECOND_PART_RECEIVER, begin,      over,  draw_start, draw_call,  damage,      ask_library,
+    ask_second,           difference, wrong, settle,     print_call, print_answer};

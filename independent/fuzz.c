@@ -9,7 +9,6 @@
  *     fuzz --fault N    with fault N of `drive list` switched on in the second implementation, to
  *                       show that an input that comes to it ends the program
  */
-#include <stdio.h>
 #include <stdlib.h>
 
 #include "drive.h"
@@ -18,13 +17,16 @@ int LLVMFuzzerTestOneInput(const uint8_t *data, size_t size);
 
 int LLVMFuzzerTestOneInput(const uint8_t *data, size_t size)
 {
-    static drive run;
+    static compare_run run;
+    const compare_part *part;
     if (size == 0) {
         return 0;
     }
+    part = drive_parts[data[0] % DRIVE_PARTS];
     choice_feed(&run.from, data + 1, size - 1);
     run.most = 100000;
-    if (drive_part(&run, (enum second_part)(data[0] % 3))) {
+    if (compare(&run, part)) {
+        compare_tell(stdout, &run, part);
         fflush(stdout); /* abort() need not */
         abort();
     }

@@ -1,6 +1,5 @@
 #include "lent.h"
 
-#include <stdio.h>
 #include <string.h>
 
 void lent_lay(lent *memory, uint8_t *arenas, size_t size, size_t shift)
@@ -71,15 +70,15 @@ uint8_t *lent_or_null(uint8_t *bytes, size_t length, int null)
     return length == 0 && null ? NULL : bytes;
 }
 
-void lent_print(const char *name, const uint8_t *bytes, size_t length)
+void lent_print(FILE *to, const char *name, const uint8_t *bytes, size_t length)
 {
     size_t end = length;
     while (end > 0 && bytes[end - 1] == 0) {
         end--;
     }
-    printf("  %s, %lu bytes:", name, (unsigned long)length);
+    fprintf(to, "  %s, %lu bytes:", name, (unsigned long)length);
     for (size_t i = 0; i < end; i++) {
-        printf(" %02X", (unsigned)bytes[i]);
+        fprintf(to, " %02X", (unsigned)bytes[i]);
     }
-    printf("%s\n", end < length ? ", zeros" : "");
+    fprintf(to, "%s\n", end < length ? ", zeros" : "");
 }

@@ -7,6 +7,7 @@
 
 #include <stddef.h>
 #include <stdint.h>
+#include <stdio.h>
 
 #define LENT_GUARD 64u
 
@@ -46,6 +47,6 @@ int lent_held(const lent *memory, size_t length, size_t at, size_t count);
 uint8_t *lent_or_null(uint8_t *bytes, size_t length, int null);
 
 /* Prints `length` bytes in hex behind their name, but for the zeros at their end. */
-void lent_print(const char *name, const uint8_t *bytes, size_t length);
+void lent_print(FILE *to, const char *name, const uint8_t *bytes, size_t length);
 
 #endif

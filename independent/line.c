@@ -2,21 +2,24 @@
  * Both ends of the library over a line that loses, repeats, delays and reorders: demand 3, looked
  * at behind every step.
  *
- *     tools/c build line independent/{line,line_session,line_faults,choice}.c
  *     tools/c run line SESSIONS [SEED]
+ *     tools/c run line SESSIONS [SEED] --fault N    with one fault of the harness, which is found
  *     tools/c run line faults SESSIONS [SEED]
  *
  * A session is one file from one indoor end to one receiver. Nothing is left over from an earlier
  * one, and the line neither adds nor alters a message. Session i is drawn from SEED + i, so that
- * `line 1 S` plays the one again that a failure names as S. With `faults` the harness itself breaks
- * one thing after the other that demand 3 rests on or claims, and the exit status is 0 if each is
- * found by the check that is there for it.
+ * `line 1 S` plays the one again that a failure names as S; it is told and kept. With `faults` the
+ * harness itself breaks one thing after the other that demand 3 rests on or claims, and the exit
+ * status is 0 if each is found by the check that is there for it.
  */
 #include <inttypes.h>
 #include <stdio.h>
 #include <string.h>
 
+#include "failed.h"
+#include "lent.h"
 #include "line.h"
+#include "order.h"
 
 /* How long a session goes on once the indoor end has ended, for what is still in flight. */
 #define TAIL_STEPS 40u
@@ -24,6 +27,11 @@
 /* From how many sessions on the counts must show something, and something of the longest files. */
 #define SESSIONS_TELLING 500u
 #define SESSIONS_LONG    5000u
+
+static const char *const kinds[] = {"clean", "lossy", "file not newer", "file does not fit",
+                                    "verdict bad"};
+
+static line_session session; /* only one is played at a time */
 
 static struct {
     unsigned long done[LINE_KINDS];
@@ -185,10 +193,8 @@ static void count(const line_session *s)
 
 static void print_counts(void)
 {
-    static const char *const names[] = {"clean", "lossy", "file not newer", "file does not fit",
-                                        "verdict bad"};
     for (int kind = 0; kind < LINE_KINDS; kind++) {
-        printf("%s: %lu Done, %lu Failed, ", names[kind], tally.done[kind], tally.failed[kind]);
+        printf("%s: %lu Done, %lu Failed, ", kinds[kind], tally.done[kind], tally.failed[kind]);
         printf("%lu unfinished\n", tally.unfinished[kind]);
     }
     for (int reason = HARSOLVEK_SILENCE; reason < HARSOLVEK_FILE_SIZE; reason++) {
@@ -213,27 +219,33 @@ static int tells_enough(void)
 }
 
 /* Plays sessions up to the first in which something is wrong; words for it, or NULL. */
-static const char *find(uint64_t sessions, uint64_t seed, const struct line_fault *fault)
+static const char *find(const order *given, const struct line_fault *fault)
 {
-    static line_session s;
-    for (uint64_t i = 0; i < sessions; i++) {
-        const char *words = play(&s, seed + i, fault);
+    for (unsigned long i = 0; i < given->count; i++) {
+        const char *words = play(&session, given->seed + i, fault);
         if (words != NULL) {
-            printf("seed %" PRIu64 ", step %lu: %s\n", seed + i, s.counts.steps, words);
             return words;
         }
-        count(&s);
+        count(&session);
     }
     return NULL;
 }
 
+static void print_failure(FILE *to, const char *words)
+{
+    fprintf(to, "seed %" PRIu64 ", step %lu: %s\n", session.seed, session.counts.steps, words);
+}
+
 /* Whether each fault was found by the check that is there for it. */
-static int show_faults(uint64_t sessions, uint64_t seed)
+static int show_faults(const order *given)
 {
     size_t found = 0;
     for (size_t fault = 0; fault < line_fault_count; fault++) {
-        const char *words = find(sessions, seed, &line_faults[fault]);
+        const char *words = find(given, &line_faults[fault]);
         const int met = words != NULL && strcmp(words, line_faults[fault].found_by) == 0;
+        if (words != NULL) {
+            print_failure(stdout, words);
+        }
         printf("%s: %s\n", met ? "found" : "not found", line_faults[fault].what);
         if (words != NULL && !met) {
             printf("  but the words due are: %s\n", line_faults[fault].found_by);
@@ -244,37 +256,81 @@ static int show_faults(uint64_t sessions, uint64_t seed)
     return found == line_fault_count ? 0 : 1;
 }
 
-static int show_demand(uint64_t sessions, uint64_t seed)
+typedef struct failure {
+    const char *words;
+    int fault;
+} failure;
+
+static void tell(FILE *to, const void *failed)
 {
-    if (find(sessions, seed, NULL) != NULL) {
+    const failure *what = failed;
+    const line_session *s = &session;
+    const order again = {1, s->seed, what->fault};
+    print_failure(to, what->words);
+    fprintf(to, "  %s; file %lu bytes, image memory %lu\n", kinds[s->kind],
+            (unsigned long)s->length, (unsigned long)s->capacity);
+    fprintf(to, "  receiver: phase %u, blocks %u, bytes %lu; indoor end: phase %u, reason %u\n",
+            s->receiver.phase, s->receiver.accepted.blocks,
+            (unsigned long)s->receiver.accepted.bytes, s->indoor.phase, s->indoor.reason);
+    lent_print(to, "arrived", s->arrived.bytes, s->arrived.length);
+    fprintf(to, "  answered %u\n", s->answered);
+    order_print_again(to, "line", &again);
+}
+
+static void keep(const char *words, int fault)
+{
+    const failure what = {words, fault};
+    char name[100];
+    snprintf(name, sizeof name, "line-seed%" PRIu64, session.seed);
+    failed_keep(name, fault, tell, &what);
+}
+
+/* Whether the fault was found; what failed is kept as if it were none. */
+static int show_fault(const order *given)
+{
+    const struct line_fault *fault = &line_faults[given->fault - 1];
+    const char *words = find(given, fault);
+    printf("%s: %s\n", words != NULL ? "found" : "not found", fault->what);
+    if (words != NULL) {
+        keep(words, given->fault);
+    }
+    return words != NULL ? 0 : 1;
+}
+
+static int show_demand(const order *given)
+{
+    const char *words = find(given, NULL);
+    if (words != NULL) {
+        keep(words, 0);
         return 1;
     }
     print_counts();
-    if (sessions >= SESSIONS_TELLING && !tells_enough()) {
+    if (given->count >= SESSIONS_TELLING && !tells_enough()) {
         printf(
             "too few sessions ended Done, or one of the reasons 40, 42, 43 and 45 was never met\n");
         return 1;
     }
-    if (sessions >= SESSIONS_LONG && tally.longest_done == 0) {
+    if (given->count >= SESSIONS_LONG && tally.longest_done == 0) {
         printf("no file above %u bytes ended Done\n", LINE_CARRY);
         return 1;
     }
-    printf("%" PRIu64 " sessions: demand 3 held behind every step\n", sessions);
+    printf("%lu sessions: demand 3 held behind every step\n", given->count);
     return 0;
 }
 
-int main(int arguments_count, char **arguments)
+int main(int count, char **words)
 {
-    const int faults = arguments_count > 1 && strcmp(arguments[1], "faults") == 0;
-    uint64_t sessions = 0, seed = 1;
-    if (faults) {
-        arguments++;
-        arguments_count--;
-    }
-    if ((arguments_count != 2 && arguments_count != 3) || !choice_read(arguments[1], &sessions) ||
-        sessions == 0 || (arguments_count == 3 && !choice_read(arguments[2], &seed))) {
-        fprintf(stderr, "usage: line [faults] SESSIONS [SEED]\n");
+    const int faults = count > 1 && strcmp(words[1], "faults") == 0;
+    const int from = faults ? 2 : 1;
+    order given;
+    if (!order_read(&given, count - from, words + from, (int)line_fault_count) ||
+        given.count == 0 || (faults && given.fault != 0)) {
+        fprintf(stderr, "usage: line SESSIONS [SEED] [--fault N]; line faults SESSIONS [SEED]\n");
         return 2;
     }
-    return faults ? show_faults(sessions, seed) : show_demand(sessions, seed);
+    printf("line: sessions from seed %" PRIu64 "\n", given.seed);
+    if (faults) {
+        return show_faults(&given);
+    }
+    return given.fault != 0 ? show_fault(&given) : show_demand(&given);
 }

@@ -64,6 +64,7 @@ typedef struct line_counts {
 } line_counts;
 
 typedef struct line_session {
+    uint64_t seed;
     choice choices;
     enum line_kind kind;
     line_rates rates;

@@ -203,6 +203,7 @@ const char *line_start(line_session *s, uint64_t seed)
         LINE_LOSSY, LINE_LOSSY, LINE_LOSSY, LINE_LOSSY, LINE_LOSSY,    LINE_LOSSY,   LINE_CLEAN,
         LINE_CLEAN, LINE_CLEAN, LINE_OLD,   LINE_SMALL, LINE_UNSIGNED, LINE_UNSIGNED};
     memset(s, 0, sizeof *s);
+    s->seed = seed;
     choice_seed(&s->choices, seed);
     s->kind = (enum line_kind)CHOICE_OF(&s->choices, kinds);
     draw_memory(s);

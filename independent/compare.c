@@ -1,0 +1,105 @@
+#include "compare.h"
+
+#include <inttypes.h>
+
+#include "harsolvek.h"
+
+/* What is wrong about the number that a damaged state gets which still is one, or null. */
+static const char *number_wrong(enum second_part part, unsigned number)
+{
+    if (!coverage_knows(part, number)) {
+        return "number, which is none of this part";
+    }
+    return number == HARSOLVEK_SETTINGS ? "number, for the state is one" : NULL;
+}
+
+/* A state that is none gets 29 whatever the inputs are, and comes back as it is. What another one
+ * leads to no rule says, but some things hold of every state. */
+static int damaged_differs(compare_run *run, const compare_part *part)
+{
+    unsigned number;
+    run->alone = part->damage(&run->from);
+    number = part->ask_library();
+    run->damaged++;
+    run->what = run->alone ? number_wrong(part->part, number) : part->difference();
+    if (run->alone && run->what == NULL) {
+        run->what = part->wrong();
+    }
+    return run->what != NULL;
+}
+
+static int both_differ(compare_run *run, const compare_part *part, unsigned *number)
+{
+    *number = part->ask_library();
+    part->ask_second();
+    run->made++;
+    run->alone = 0;
+    coverage_number(&run->met, *number);
+    run->what = part->difference();
+    return run->what != NULL;
+}
+
+/* A refused start makes nothing: the library hands out zeros, and what stood before it goes on. */
+static int start_differs(compare_run *run, const compare_part *part)
+{
+    unsigned number;
+    part->draw_start(run);
+    if (both_differ(run, part, &number)) {
+        return 1;
+    }
+    if (number == HARSOLVEK_TAKEN) {
+        part->settle(run);
+        run->stands = 1;
+    }
+    return 0;
+}
+
+static int step_differs(compare_run *run, const compare_part *part)
+{
+    unsigned number;
+    if (!run->stands || part->over(&run->from)) {
+        return start_differs(run, part);
+    }
+    part->draw_call(run);
+    if (choice_one_in(&run->from, 16)) {
+        return damaged_differs(run, part);
+    }
+    if (both_differ(run, part, &number)) {
+        return 1;
+    }
+    part->settle(run);
+    return 0;
+}
+
+int compare(compare_run *run, const compare_part *part)
+{
+    run->made = 0;
+    run->damaged = 0;
+    run->stands = 0;
+    coverage_begin(&run->met, part->part);
+    part->begin();
+    while (run->made < run->most && !choice_done(&run->from)) {
+        if (step_differs(run, part)) {
+            return 1;
+        }
+    }
+    return 0;
+}
+
+void compare_tell(FILE *to, const compare_run *run, const compare_part *part)
+{
+    fprintf(to, "%s: difference in the %s at call %lu (beside %lu on damaged states)",
+            coverage_name(part->part), run->what, run->made, run->damaged);
+    if (run->from.fed) {
+        fprintf(to, " of the input that was fed\n");
+    } else {
+        fprintf(to, " of seed %" PRIu64 "\n", run->seed);
+    }
+    part->print_call(to);
+    fprintf(to, "  library:\n");
+    part->print_answer(to, COMPARE_LIBRARY);
+    if (!run->alone) {
+        fprintf(to, "  second:\n");
+        part->print_answer(to, COMPARE_SECOND);
+    }
+}
