@@ -1,3 +1,1 @@
-pub mod Arrives
-pub mod Begins
 pub mod Middle

@@ -1,4 +1,8 @@
 // How many messages were sent, lost, repeated and replaced.
+use lossy::Answered;
+use lossy::Carried;
+use lossy::Passed;
+use lossy::Went;
 
 // `pushed` counts those whose place a newer one has taken before they arrived.
 pub(crate) struct Counts {
@@ -21,27 +25,48 @@ impl Counts {
         }
     }
 
-    pub(crate) fn lose(mut self) -> Counts {
+    // At most one message went.
+    pub(crate) fn carried(self, carried: Carried) -> Counts {
+        let way = carried.way;
+        let went = carried.went;
+        match went {
+            Went::Nothing => self,
+            Went::Lost => self.lose(),
+            Went::Arrived(answered) => self.arrive(way.again, carried.rises, answered),
+        }
+    }
+
+    // Time passed at both ends.
+    pub(crate) fn passed(self, passed: Passed) -> Counts {
+        let roof = passed.above;
+        let indoors = passed.below;
+        self.above(roof).below(indoors)
+    }
+
+    fn lose(mut self) -> Counts {
         self.lost = plus(self.lost, true);
         self
     }
 
-    pub(crate) fn repeat(mut self, again: bool) -> Counts {
+    fn arrive(mut self, again: bool, rises: bool, answered: Answered) -> Counts {
         self.again = plus(self.again, again);
-        self
+        if rises {
+            return self.above(answered);
+        }
+        self.below(answered)
     }
 
     // The receiver was called.
-    pub(crate) fn above(mut self, sent: bool, pushed: bool) -> Counts {
-        self.responses = plus(self.responses, sent);
-        self.pushed = plus(self.pushed, pushed);
+    fn above(mut self, answered: Answered) -> Counts {
+        self.responses = plus(self.responses, answered.sent);
+        self.pushed = plus(self.pushed, answered.pushed);
         self
     }
 
     // The indoor end was called.
-    pub(crate) fn below(mut self, sent: bool, pushed: bool) -> Counts {
-        self.requests = plus(self.requests, sent);
-        self.pushed = plus(self.pushed, pushed);
+    fn below(mut self, answered: Answered) -> Counts {
+        self.requests = plus(self.requests, answered.sent);
+        self.pushed = plus(self.pushed, answered.pushed);
         self
     }
 }

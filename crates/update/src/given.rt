@@ -1,22 +1,18 @@
 // What the program was started with.
-use crate::luck::Luck;
-use crate::luck::Odds;
+use lossy::Luck;
+use lossy::Odds;
 
 const WORD: usize = 16;
 
 // Nine digits, so that the value has room in 32 bits.
 const DIGITS_MOST: usize = 9;
 
-// The generator's words are 1 to 2^31 - 2.
 pub(crate) fn luck() -> Luck {
-    let seeded = Luck {
-        word: number(1, 9) % 2147483646 + 1,
-        odds: Odds {
-            loss: number(2, 10),
-            again: number(3, 10),
-        },
+    let odds = Odds {
+        loss: number(2, 10),
+        again: number(3, 10),
     };
-    seeded.next()
+    Luck::seeded(number(1, 9), odds)
 }
 
 // A fourth argument, whatever it says.

@@ -1,16 +1,13 @@
 // One whole update to watch: the file on standard input goes from the indoor end to the receiver over a line that loses and repeats
 // messages by a seed. Arguments: the seed, how many in a hundred are lost and how many repeated, and `quiet` for the result alone.
 mod counts;
-mod ends;
 mod given;
-mod luck;
 mod page;
 mod report;
 mod session;
 mod stands;
 mod turn;
 mod view;
-mod way;
 mod words;
 
 use indoor_state::plan::Release;

@@ -1,21 +1,21 @@
 // What came of the session.
 use crate::counts::Counts;
-use crate::ends::Ends;
 use crate::page::Page;
 use crate::session::Ended;
 use crate::stands;
 use crate::turn;
 use indoor_state::phase::Phase;
 use indoor_state::phase::Reason;
-use receiver_state::phase::Accepted;
+use lossy::Ends;
+use lossy::Judged;
 use receiver_state::session::Receiver;
 use receiver_state::sum::Summed;
 ghost use mathlib.Core.Bool.{true};
 ghost use mathlib.Core.Path.{_≡_};
 ghost use Prim.Native.Nat.{_≤_};
-ghost use lib.ListN.{length, take};
 ghost use Rattle.indoor_state.specs.declared.phase.Phase.the-variants.{Done};
-ghost use Rattle.update.specs.Over.{Same, doneOf};
+ghost use Rattle.lossy.specs.Judge.{doneOf};
+ghost use Rattle.lossy.specs.Over.{Same};
 
 // A start was refused with this number (01, Numbers we answer).
 pub(crate) fn refused(number: u8) {
@@ -47,12 +47,6 @@ pub(crate) fn ended(ended: Ended, file: &[u8], image: &[u8])
     equality(judged);
 }
 
-// Whether the indoor end reports done, and whether the receiver's image is the file.
-struct Judged {
-    pub done: bool,
-    pub same: bool,
-}
-
 // Done is never told of an image that differs.
 fn judge(ends: Ends, file: &[u8], image: &[u8]) -> Judged
     requires { ⌜ (ends .indoor .stand .phase ≡ Done → Same (now file) ends (now image)) ⌝ }
@@ -61,49 +55,17 @@ fn judge(ends: Ends, file: &[u8], image: &[u8]) -> Judged
     ensures { λ r. ⌜ (Same (now (file .entry)) ends (now (image .entry)) → r .same ≡ true) ⌝ }
     ensures { λ r. ⌜ (r .done ≡ true → r .same ≡ true) ⌝ }
 {
-    let indoor = ends.indoor;
-    let stand = indoor.stand;
-    let phase = stand.phase;
-    let receiver = ends.receiver;
-    let roof = receiver.phase;
-    let same = equal(receiver_decide::accepted(roof), image, file);
-    match phase {
-        Phase::Done => Judged { done: true, same },
-        Phase::Identify => Judged { done: false, same },
-        Phase::Initiate { wait: _ } => Judged { done: false, same },
-        Phase::Transfer(_) => Judged { done: false, same },
-        Phase::Validate { wait: _ } => Judged { done: false, same },
-        Phase::Failed(_) => Judged { done: false, same },
-    }
-}
-
-// As many bytes were accepted as the file has, and they are the file's.
-fn equal(accepted: Accepted, image: &[u8], file: &[u8]) -> bool
-    ensures { λ r. ⌜ (r ≡ true → (accepted .bytes ≡ length (now (file .entry))) × (take (length (now (file .entry))) (now (image .entry)) ≡ now (file .entry))) ⌝ }
-    ensures { λ r. ⌜ ((accepted .bytes ≡ length (now (file .entry))) × (take (length (now (file .entry))) (now (image .entry)) ≡ now (file .entry)) → r ≡ true) ⌝ }
-{
-    let n = file.len();
-    if accepted.bytes as usize != n {
-        return false;
-    }
-    if image.len() < n {
-        return false;
-    }
-    check::same(&image[..n], file)
+    lossy::judge(ends, file, image)
 }
 
 fn outcome(ends: Ends, judged: Judged) -> bool {
-    let indoor = ends.indoor;
-    let stand = indoor.stand;
-    let phase = stand.phase;
-    let receiver = ends.receiver;
-    let roof = receiver.phase;
     if judged.done {
         return say(Page::blank().word(b"done: the receiver has marked the image good"));
     }
+    let phase = stands::indoors(ends);
     let begun = Page::blank().word(b"not done: ");
     let named = failure(stands::indoor(begun, phase), phase);
-    say(stands::above(named.word(b"; "), roof))
+    say(stands::above(named.word(b"; "), stands::roof(ends)))
 }
 
 fn failure(page: Page, phase: Phase) -> Page

@@ -1,24 +1,19 @@
 // A whole session: both starts, and then turns until the indoor end is done or has failed.
 use crate::counts::Counts;
-use crate::ends::Ends;
-use crate::luck::Luck;
 use crate::report;
+use crate::stands;
 use crate::turn;
 use crate::view::View;
-use crate::way::Way;
 use indoor_state::plan::Release;
-use indoor_state::session::Started as Begun;
-use receiver_state::session::Receiver;
-use receiver_state::session::Started;
+use lossy::Ends;
+use lossy::Limits;
+use lossy::Luck;
+use lossy::Started;
 use wire::codes;
 use wire::response::Identity;
 ghost use mathlib.Core.Path.{_≡_};
-ghost use lib.ListN.{length};
 ghost use Rattle.indoor_state.specs.declared.phase.Phase.the-variants.{Done};
-ghost use Rattle.receiver_rules.specs.Session.{startOf};
-ghost use Rattle.receiver_state.specs.declared.session.Started.the-variants.{Made};
-ghost use Rattle.line.specs.Line.{Wide};
-ghost use Rattle.update.specs.Over.{Over, Same};
+ghost use Rattle.lossy.specs.Over.{Over, Same};
 
 // The receiver's limit is far below the indoor end's, since it alone heals a loss in Transfer (docs/HAZARDS.md), and with its resends it
 // lasts for some of the indoor end's (include/harsolvek.h, Limits).
@@ -57,7 +52,7 @@ pub(crate) fn carry(
     let mut failed = told.heading();
     let mut turns = 0;
     while turns < TURNS_MOST {
-        if ends.rest() {
+        if rests(ends) {
             break;
         }
         if failed {
@@ -68,8 +63,8 @@ pub(crate) fn carry(
         let went = turn::step(ends, counts, luck, view, file, image, up, down);
         ends = went.ends;
         counts = went.counts;
+        luck = went.luck;
         failed = went.failed;
-        luck = luck.next().next();
     }
     Ended {
         ends,
@@ -77,6 +72,13 @@ pub(crate) fn carry(
         turns,
         failed,
     }
+}
+
+// The indoor end is done or has failed, and no ABORT is on its way.
+fn rests(ends: Ends) -> bool {
+    let rising = ends.up;
+    let ended = stands::ended(stands::indoors(ends));
+    ended && rising.bytes == 0
 }
 
 // The file goes to a receiver with this identity, offered as this release.
@@ -88,46 +90,40 @@ pub(crate) fn start(
     file: &[u8],
     image: &mut [u8],
 ) {
-    let started = receiver::start(ROOF_LIMIT, RESENDS, identity, image.len());
-    let number = receiver::started_number(started);
-    let Started::Made(receiver) = started else {
-        report::refused(number);
-        return;
+    let mut up = [0u8; codes::LONGEST];
+    let mut down = [0u8; codes::LONGEST];
+    let roof = Limits {
+        silence: ROOF_LIMIT,
+        resends: RESENDS,
     };
-    begin(receiver, release, seed, quiet, file, image);
+    let indoors = Limits {
+        silence: INDOORS_LIMIT,
+        resends: RESENDS,
+    };
+    let started = lossy::start(roof, indoors, identity, release, file, image.len(), &mut up);
+    match started {
+        Started::Made(ends) => begin(ends, seed, quiet, file, image, &mut up, &mut down),
+        Started::Refused(number) => report::refused(number),
+    }
 }
 
 fn begin(
-    receiver: Receiver,
-    release: Release,
+    ends: Ends,
     seed: Luck,
     quiet: bool,
     file: &[u8],
     image: &mut [u8],
+    up: &mut [u8],
+    down: &mut [u8],
 )
-    requires { ⌜ startOf 200 10 (receiver .identity) (length (now image)) ≡ Made receiver ⌝ }
-    requires { ⌜ Wide release (receiver .identity) ⌝ }
+    requires { ⌜ Over (now file) ends (now image) (now up) (now down) ⌝ }
 {
-    let mut up = [0u8; codes::LONGEST];
-    let mut down = [0u8; codes::LONGEST];
-    let begun = indoor::start(INDOORS_LIMIT, RESENDS, release, file, &mut up);
-    let number = indoor::started_number(begun);
-    let Begun::Made { state, written } = begun else {
-        report::refused(number);
-        return;
-    };
-    let ends = Ends {
-        receiver,
-        indoor: state,
-        up: Way::sent(written),
-        down: Way::nothing(),
-    };
     let view = View {
         quiet,
         clock: 0,
         blocks: image::blocks_in(file.len()) as u64,
     };
-    let ended = carry(ends, seed, view, file, image, &mut up, &mut down);
+    let ended = carry(ends, seed, view, file, image, up, down);
     if ended.failed {
         return;
     }

@@ -1,6 +1,7 @@
 // Where each end stands (01, The receiver's phases; The indoor end's phases).
 use crate::page::Page;
 use indoor_state::phase::Phase as Indoors;
+use lossy::Ends;
 use receiver_state::phase::Phase;
 ghost use Prim.Native.Nat.{_≤_};
 
@@ -42,5 +43,37 @@ pub(crate) fn indoor(page: Page, phase: Indoors) -> Page
         Indoors::Validate { wait: _ } => page.word(b"indoor end: Validate"),
         Indoors::Done => page.word(b"indoor end: Done"),
         Indoors::Failed(_) => page.word(b"indoor end: Failed"),
+    }
+}
+
+pub(crate) fn roof(ends: Ends) -> Phase {
+    let receiver = ends.receiver;
+    receiver.phase
+}
+
+pub(crate) fn indoors(ends: Ends) -> Indoors {
+    let indoor = ends.indoor;
+    let stand = indoor.stand;
+    stand.phase
+}
+
+pub(crate) fn idle(phase: Phase) -> bool {
+    match phase {
+        Phase::Idle => true,
+        Phase::Transfer(_) => false,
+        Phase::Await(_) => false,
+        Phase::Good(_) => false,
+    }
+}
+
+// Done or failed.
+pub(crate) fn ended(phase: Indoors) -> bool {
+    match phase {
+        Indoors::Done => true,
+        Indoors::Failed(_) => true,
+        Indoors::Identify => false,
+        Indoors::Initiate { wait: _ } => false,
+        Indoors::Transfer(_) => false,
+        Indoors::Validate { wait: _ } => false,
     }
 }

@@ -2,7 +2,7 @@ use Prim.Native.Nat.{_-_}
 use mathlib.Core.Path.{refl}
 use native.Mathlib.Omega.{arith}
 use borrow.Author.Needs.{needs}
-use Rattle.update.proofs.Arrives.{done-holds}
+use Rattle.lossy.proofs.Arrives.{done-holds}
 use Rattle.update.proofs.Middle.{Middle}
 use Rattle.update.proofs.session.carry.Statement.{statement}
 use Rattle.update.proofs.session.carry.Tie as tie
@@ -24,8 +24,8 @@ heading-requires c κs = search needs
 loop-holds : tie.Need-loop-holds Inv-loop μ-loop
 loop-holds c = record { over = c .before .before .before .before .before .before .pre; bound = omega arith; size = refl; rising = refl; falling = refl }
 
-rest-requires : tie.Need-rest-requires Inv-loop μ-loop
-rest-requires c κs = search needs
+rests-requires : tie.Need-rests-requires Inv-loop μ-loop
+rests-requires c κs = search needs
 
 add-turns : tie.Need-add-turns Inv-loop μ-loop
 add-turns c = search needs
@@ -39,17 +39,11 @@ at-requires c κs = search needs
 step-requires : tie.Need-step-requires Inv-loop μ-loop
 step-requires c κs = c .before .before .before .before .before .before .before .before .before .loop .inv .over
 
-next-requires : tie.Need-next-requires Inv-loop μ-loop
-next-requires c κs = search needs
-
-next-requires-2 : tie.Need-next-requires-2 Inv-loop μ-loop
-next-requires-2 c κs = search needs
-
 loop-less : tie.Need-loop-less Inv-loop μ-loop
-loop-less c = omega (arith, c .before .before .before .before .before .before .before .before .before .before .before .before .before .before .before .before .before .before .before .loop-test .taken)
+loop-less c = omega (arith, c .before .before .before .before .before .before .before .before .before .before .before .before .before .before .before .before .before .before .loop-test .taken)
 
 loop-again : tie.Need-loop-again Inv-loop μ-loop
-loop-again c = let i = c .before .before .before .before .before .before .before .before .before .before .before .before .before .before .before .before .before .before .before .before .loop .inv in record { over = c .before .before .before .before .before .before .before .before .before .before .step .ensures; bound = omega (arith, c .before .before .before .before .before .before .before .before .before .before .before .before .before .before .before .before .before .before .before .loop-test .taken); size = omega (arith, i .size); rising = omega (arith, i .rising); falling = omega (arith, i .falling) }
+loop-again c = let i = c .before .before .before .before .before .before .before .before .before .before .before .before .before .before .before .before .before .before .before .loop .inv in record { over = c .before .before .before .before .before .before .before .before .before .step .ensures; bound = omega (arith, c .before .before .before .before .before .before .before .before .before .before .before .before .before .before .before .before .before .before .loop-test .taken); size = omega (arith, i .size); rising = omega (arith, i .rising); falling = omega (arith, i .falling) }
 
 same-length : tie.Need-same-length Inv-loop μ-loop
 same-length c = c .before .loop .inv .size
@@ -61,7 +55,7 @@ same-length-3 : tie.Need-same-length-3 Inv-loop μ-loop
 same-length-3 c = c .before .loop .inv .falling
 
 returns : tie.Need-returns Inv-loop μ-loop
-returns c = let l = c .before .loop in done-holds _ _ _ _ _ (l .inv .over)
+returns c = done-holds _ _ _ _ _ (c .before .loop .inv .over)
 
 same-length-4 : tie.Need-same-length-4 Inv-loop μ-loop
 same-length-4 c = c .before .before .before .loop .inv .size
@@ -73,7 +67,7 @@ same-length-6 : tie.Need-same-length-6 Inv-loop μ-loop
 same-length-6 c = c .before .before .before .loop .inv .falling
 
 returns-2 : tie.Need-returns-2 Inv-loop μ-loop
-returns-2 c = let l = c .before .before .before .loop in done-holds _ _ _ _ _ (l .inv .over)
+returns-2 c = done-holds _ _ _ _ _ (c .before .before .before .loop .inv .over)
 
 same-length-7 : tie.Need-same-length-7 Inv-loop μ-loop
 same-length-7 c = c .before .before .before .before .loop .inv .size
@@ -85,7 +79,7 @@ same-length-9 : tie.Need-same-length-9 Inv-loop μ-loop
 same-length-9 c = c .before .before .before .before .loop .inv .falling
 
 returns-3 : tie.Need-returns-3 Inv-loop μ-loop
-returns-3 c = let l = c .before .before .before .before .loop in done-holds _ _ _ _ _ (l .inv .over)
+returns-3 c = done-holds _ _ _ _ _ (c .before .before .before .before .loop .inv .over)
 
 pub carry-spec : {M : Type 1} → statement M
 carry-spec =
@@ -96,13 +90,11 @@ carry-spec =
     first-requires
     heading-requires
     loop-holds
-    rest-requires
+    rests-requires
     add-turns
     clock-requires
     at-requires
     step-requires
-    next-requires
-    next-requires-2
     loop-less
     loop-again
     same-length

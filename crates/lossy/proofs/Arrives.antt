@@ -1,0 +1,198 @@
+-- Whatever arrives, is lost or comes again, and whatever time passes, both ends stay those of a session over a line.
+use Prim.Native.Nat.{ℕ, _<_}
+use mathlib.Core.Bool.{Bool, true, false}
+use mathlib.Core.Logic.{inl, inr, ⊎-elim}
+use mathlib.Core.Path.{_≡_, refl, sym, _∙_, ap, subst}
+use mathlib.Core.List.{List, [], _∷_, List·Memᴰ, List·Memᴰ·head}
+use native.Mathlib.Omega.{arith}
+use borrow.Author.Tests.{eqb-true, eqb-false}
+use lib.Dec.{eqb}
+use lib.ListN.{length, take}
+use Rattle.basis.specs.Pick.{pick, pick-all}
+use Rattle.basis.specs.Left.{Left, left}
+use Rattle.lent.specs.Led.{led}
+use Rattle.lent.specs.Sent.{withSent}
+use Rattle.receiver_state.specs.Phase.{acceptedOf}
+use Rattle.receiver_state.specs.declared.phase.Phase.{Phase}
+use Rattle.receiver_state.specs.declared.verdict.Verdict.the-variants.{Good}
+use Rattle.receiver_rules.specs.Request.{requestOf}
+use Rattle.receiver_rules.specs.Respond.{bytesOf as receiverBytesOf}
+use Rattle.receiver_rules.specs.Time.{timeOf as receiverTimeOf}
+use Rattle.receiver_state.specs.declared.session.Outcome.{Outcome as ReceiverOutcome}
+use Rattle.receiver_rules.proofs.Written as receiver
+use Rattle.indoor_state.specs.declared.phase.Phase.the-variants.{Done}
+use Rattle.indoor_rules.specs.Response.{responseOf}
+use Rattle.indoor_rules.specs.Send.{bytesOf as indoorBytesOf}
+use Rattle.indoor_rules.specs.Time.{timeOf as indoorTimeOf}
+use Rattle.indoor_state.specs.declared.session.Outcome.{Outcome as IndoorOutcome}
+use Rattle.indoor_rules.proofs.Written as indoor
+use Rattle.line.specs.Line.{Reached, toReceiver, toIndoor, atReceiver, atIndoor}
+use Rattle.line.proofs.Demand3.{demand3}
+use Rattle.lossy.specs.declared.way.Way.{Way}
+use Rattle.lossy.specs.declared.luck.Luck.{Luck}
+use Rattle.lossy.specs.declared.luck.Going.{Going}
+use Rattle.lossy.specs.declared.luck.Fate.{Fate}
+use Rattle.lossy.specs.declared.luck.Fate.the-variants.{Missing, Arrives}
+use Rattle.lossy.specs.declared.ends.Ends.{Ends}
+use Rattle.lossy.specs.declared.carry_call.Carried.{Carried}
+use Rattle.lossy.specs.declared.pass_call.Passed.{Passed}
+use Rattle.lossy.specs.Both.{Both, both}
+use Rattle.lossy.specs.Way.{way, nothing, messageOf, risesOf, nextOf, behindOf, afterOf}
+use Rattle.lossy.specs.Luck.{fateOf, goesOf}
+use Rattle.lossy.specs.Ends.{ends, losesOf}
+use Rattle.lossy.specs.Called.{aboveOf, belowOf}
+use Rattle.lossy.specs.Carry.{missOf, askOf, tellOf, goOf, carryOf}
+use Rattle.lossy.specs.Pass.{passOf}
+use Rattle.lossy.specs.Over.{world, OnItsWay, Over, Same}
+
+abbrev going : Luck → Bool → Way → Fate → Going
+going luck rises w fate = record { luck = luck; rises = rises; way = w; fate = fate }
+
+-- A message that went may arrive once more.
+behind : (w : Way) (buffer : List ℕ) (sent : List (List ℕ)) (stays : Bool) → OnItsWay w buffer sent → OnItsWay (behindOf w stays) buffer sent
+unfolding pick
+behind w buffer sent true o = o
+behind w buffer sent false o = inl refl
+
+-- A message that is there is one that was sent.
+arrived : (w : Way) (buffer : List ℕ) (sent : List (List ℕ)) → OnItsWay w buffer sent → 0 < w .bytes → List·Memᴰ (messageOf w buffer) sent
+arrived w buffer sent o some = ⊎-elim (λ none. absurd (omega (arith, none))) (λ h. h) o
+
+missing-arrives : (stays : Bool) → Missing ≡ Arrives stays → ⊥
+missing-arrives stays e = let z : _≡_ {A = ℕ} 0 1 = cc in omega arith
+
+-- Where a message arrives there is one.
+fate-some : (l : Luck) (w : Way) (stays : Bool) → fateOf l w ≡ Arrives stays → 0 < w .bytes
+unfolding fateOf
+fate-some l w stays =
+    pick-all (λ (f : Fate). f ≡ Arrives stays → 0 < w .bytes) (eqb (w .bytes) 0) Missing _
+    (λ _ e. absurd (missing-arrives stays e))
+    (λ f _. let some = eqb-false (w .bytes) 0 f in omega arith)
+
+module _ (w : Way) (out : List ℕ) (sent : List (List ℕ)) (o : OnItsWay w out sent) (bytes out′ : List ℕ) (written : ℕ)
+    (first : out′ ≡ led bytes out) (count : written ≡ length bytes) where
+  unwritten : (s : List ℕ) → out′ ≡ led s out → written ≡ length s → written ≡ 0 → out′ ≡ out
+  unwritten [] f n z = f
+  unwritten (x ∷ s) f n z = absurd (omega (arith, n, z))
+
+  after-by : (t : Bool) → eqb written 0 ≡ t → OnItsWay (pick t w (way written false)) out′ (pick t sent (take written out′ ∷ sent))
+  unfolding pick
+  after-by true t = subst (λ (l : List ℕ). OnItsWay w l sent) (sym (unwritten bytes first count (eqb-true written 0 t))) o
+  after-by false t = inr (List·Memᴰ·head refl)
+
+  -- What a call wrote is on its way; where it wrote nothing, what was on its way is so still.
+  after : OnItsWay (afterOf w written) out′ (withSent written out′ sent)
+  after = after-by (eqb written 0) refl
+
+module _ (file : List ℕ) (e : Ends) (image up down : List ℕ) (o : Over file e image up down) where
+  -- The session goes on with these ends and what they sent.
+  goes-on : (e′ : Ends) (image′ up′ down′ : List ℕ) (requests responses : List (List ℕ))
+      → Reached file (o .memory) (o .release) (o .identity) (world e′ image′ requests responses)
+      → OnItsWay (e′ .up) up′ requests → OnItsWay (e′ .down) down′ responses → Over file e′ image′ up′ down′
+  goes-on e′ image′ up′ down′ requests responses reached rising falling = record {
+    memory = o .memory;
+    release = o .release;
+    identity = o .identity;
+    wide = o .wide;
+    requests = requests;
+    responses = responses;
+    reached = reached;
+    rising = rising;
+    falling = falling;
+  }
+
+  -- The receiver has written what its answer says, and so has the indoor end.
+  above-goes : (rising : Way) → OnItsWay rising up (o .requests) → (x : ReceiverOutcome) (image′ down′ : List ℕ) → receiver.Leads (e .receiver) down x down′
+      → Reached file (o .memory) (o .release) (o .identity)
+      (world (ends (x .state) (e .indoor) rising (afterOf (e .down) (x .written))) image′ (o .requests) (withSent (x .written) down′ (o .responses)))
+      → Over file (ends (x .state) (e .indoor) rising (afterOf (e .down) (x .written))) image′ up down′
+  above-goes rising on x image′ down′ l reached =
+      goes-on (ends (x .state) (e .indoor) rising (afterOf (e .down) (x .written))) image′ up down′ (o .requests) (withSent (x .written) down′ (o .responses)) reached on
+      (after (e .down) down (o .responses) (o .falling) (receiverBytesOf (e .receiver) (x .answer)) down′ (x .written) (l .first) (l .written))
+
+  below-goes : (falling : Way) → OnItsWay falling down (o .responses) → (x : Left IndoorOutcome) → indoor.Leads (e .indoor .plan) file up x
+      → Reached file (o .memory) (o .release) (o .identity)
+      (world (ends (e .receiver) (x .answer .state) (afterOf (e .up) (x .answer .written)) falling) image (withSent (x .answer .written) (x .memory) (o .requests)) (o .responses))
+      → Over file (ends (e .receiver) (x .answer .state) (afterOf (e .up) (x .answer .written)) falling) image (x .memory) down
+  below-goes falling on x l reached =
+      goes-on (ends (e .receiver) (x .answer .state) (afterOf (e .up) (x .answer .written)) falling) image (x .memory) down
+      (withSent (x .answer .written) (x .memory) (o .requests)) (o .responses) reached
+      (after (e .up) up (o .requests) (o .rising) (indoorBytesOf (e .indoor .plan) file (x .answer .answer)) (x .memory) (x .answer .written) (l .first) (l .written))
+      on
+
+  abbrev OverCarried : Left (Both Carried) → Type 0
+  OverCarried x = Over file (x .answer .answer .ends) (x .memory) (x .answer .up) (x .answer .down)
+
+  -- The request on its way has arrived.
+  ask-over : (luck : Luck) (fate : Fate) (stays : Bool) → 0 < e .up .bytes → OverCarried (askOf e (going luck true (e .up) fate) stays image up down)
+  ask-over luck fate stays some =
+      let request = messageOf (e .up) up in
+      let x = requestOf (e .receiver) image request 0 Good down in
+      above-goes (behindOf (e .up) stays) (behind (e .up) up (o .requests) stays (o .rising)) (x .outcome) (x .image) (x .out)
+      (receiver.request-leads (e .receiver) image request 0 Good down)
+      (toReceiver (o .reached) request (arrived (e .up) up (o .requests) (o .rising) some) image (inl refl) 0 Good down)
+
+  -- The response on its way has arrived.
+  tell-over : (luck : Luck) (fate : Fate) (stays : Bool) → 0 < e .down .bytes → OverCarried (left (tellOf e (going luck false (e .down) fate) stays file up down) image)
+  tell-over luck fate stays some =
+      let response = messageOf (e .down) down in
+      let x = responseOf (e .indoor) file response up in
+      below-goes (behindOf (e .down) stays) (behind (e .down) down (o .responses) stays (o .falling)) x
+      (indoor.response-leads (e .indoor) file response up)
+      (toIndoor (o .reached) response (arrived (e .down) down (o .responses) (o .falling) some) file (inl refl) up)
+
+  abbrev next : Bool → Way
+  next rises = nextOf (e .up) (e .down) rises
+
+  arrive-over : (luck : Luck) (fate : Fate) (rises stays : Bool) → 0 < next rises .bytes
+      → OverCarried (goOf (Arrives stays) e (going luck rises (next rises) fate) file image up down)
+  unfolding goOf pick
+  arrive-over luck fate true stays some = ask-over luck fate stays some
+  arrive-over luck fate false stays some = tell-over luck fate stays some
+
+  -- A message is lost.
+  lost-over : (rises : Bool) → Over file (losesOf e rises) image up down
+  unfolding pick
+  lost-over true = goes-on (ends (e .receiver) (e .indoor) nothing (e .down)) image up down (o .requests) (o .responses) (o .reached) (inl refl) (o .falling)
+  lost-over false = goes-on (ends (e .receiver) (e .indoor) (e .up) nothing) image up down (o .requests) (o .responses) (o .reached) (o .rising) (inl refl)
+
+  miss-over : (g : Going) → Over file (missOf e g .ends) image up down
+  unfolding missOf
+  miss-over g = pick-all (λ (r : Carried). Over file (r .ends) image up down) (eqb (g .way .bytes) 0) _ _ (λ _. o) (λ _. lost-over (g .rises))
+
+  go-over : (luck : Luck) (then fate : Fate) (rises : Bool) → ((stays : Bool) → fate ≡ Arrives stays → 0 < next rises .bytes)
+      → OverCarried (goOf fate e (going luck rises (next rises) then) file image up down)
+  unfolding goOf
+  go-over luck then Missing rises some = miss-over (going luck rises (next rises) then)
+  go-over luck then (Arrives stays) rises some = arrive-over luck then rises stays (some stays refl)
+
+  pub carry-over : (luck : Luck) (r : Carried) (image′ up′ down′ : List ℕ) → left (both r up′ down′) image′ ≡ carryOf e luck file image up down → Over file (r .ends) image′ up′ down′
+  unfolding carryOf goesOf
+  carry-over luck r image′ up′ down′ did =
+      let rises = risesOf (e .up) (e .down) in
+      subst OverCarried (sym did) (go-over _ _ (fateOf luck (next rises)) rises (fate-some luck (next rises)))
+
+  -- Time has passed on the roof, and indoors.
+  roof-over : (elapsed : ℕ) → Over file (aboveOf e (e .up) (receiverTimeOf (e .receiver) elapsed down .answer)) image up (receiverTimeOf (e .receiver) elapsed down .memory)
+  roof-over elapsed =
+      let x = receiverTimeOf (e .receiver) elapsed down in
+      above-goes (e .up) (o .rising) (x .answer) image (x .memory) (receiver.time-leads (e .receiver) elapsed down) (atReceiver (o .reached) elapsed down)
+
+  indoors-over : (elapsed : ℕ) → Over file (belowOf e (e .down) (indoorTimeOf (e .indoor) file elapsed up .answer)) image (indoorTimeOf (e .indoor) file elapsed up .memory) down
+  indoors-over elapsed =
+      let x = indoorTimeOf (e .indoor) file elapsed up in
+      below-goes (e .down) (o .falling) x (indoor.time-leads (e .indoor) file elapsed up) (atIndoor (o .reached) file (inl refl) elapsed up)
+
+  -- Demand 3: when the indoor end reports done, the receiver's image is the file.
+  pub done-holds : e .indoor .stand .phase ≡ Done → Same file e image
+  done-holds done =
+      let d = demand3 file (o .memory) (o .release) (o .identity) (o .wide) in
+      let g = d .doneIsGood (world e image (o .requests) (o .responses)) (o .reached) done in
+      (ap (λ (p : Phase). acceptedOf p .bytes) (g .good) ∙ g .holds .counted, g .holds .bytes)
+
+pub pass-over : (file : List ℕ) (e : Ends) (image up down : List ℕ) → Over file e image up down
+    → (elapsed : ℕ) (r : Passed) (up′ down′ : List ℕ) → both r up′ down′ ≡ passOf e elapsed file up down → Over file (r .ends) image up′ down′
+pass-over file e image up down o elapsed r up′ down′ did =
+    let x = receiverTimeOf (e .receiver) elapsed down in
+    subst (λ (b : Both Passed). Over file (b .answer .ends) image (b .up) (b .down)) (sym did)
+    (indoors-over file (aboveOf e (e .up) (x .answer)) image up (x .memory) (roof-over file e image up down o elapsed) elapsed)

@@ -1,0 +1,5 @@
+pub mod Starts
+pub mod Arrives
+pub mod Judges
+pub mod Parts
+pub mod Unique

@@ -1,0 +1,15 @@
+use Rattle.basis.specs.Pick.{tests}
+use Rattle.lossy.specs.Carry.{missOf}
+use borrow.Author.Needs.{needs}
+use Rattle.lossy.proofs.carry_call.miss.Statement.{statement}
+use Rattle.lossy.proofs.carry_call.miss.Tie as tie
+
+pub miss-spec : {M : Type 1} → statement M
+unfolding missOf
+miss-spec =
+    tie.close
+    (tie.spec
+    (λ c κs. search needs)
+    (λ c. search (c .made .ensures, tests))
+    (λ c κs. search needs)
+    (λ c. search (c .lose .ensures, tests)))

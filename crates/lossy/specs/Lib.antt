@@ -1,0 +1,10 @@
+pub mod Both
+pub mod Way
+pub mod Luck
+pub mod Ends
+pub mod Called
+pub mod Start
+pub mod Carry
+pub mod Pass
+pub mod Judge
+pub mod Over

@@ -1,0 +1,35 @@
+-- What the definitions give for a few texts, by computation.
+use Prim.Native.Nat.{ℕ}
+use mathlib.Core.Bool.{true, false}
+use mathlib.Core.List.{List, [], _∷_}
+use mathlib.Core.Path.{_≡_, refl}
+use lib.ListN.{take}
+use Rattle.basis.specs.Pick.{pick}
+use Rattle.bytes.specs.Bytes.{indexOf, indexAfter}
+use Rattle.script.specs.Words.{firstOf, restOf, wordAt}
+use Rattle.script.specs.Digits.{digitOf, byteOf}
+use Rattle.script.specs.Decimal.{noNumber, addedOf, stepOf, stepsOf, decimalOf}
+use Rattle.script.specs.Runs.{countedOf, timesOf, runOf}
+use Rattle.script.specs.Spelling.{zeros, spelledIn, grown, turns, spellOf}
+
+-- " 01 AA*2" and " 1G", as the words of a line.
+abbrev bytes : List ℕ
+bytes = 0x20 ∷ 0x30 ∷ 0x31 ∷ 0x20 ∷ 0x41 ∷ 0x41 ∷ 0x2A ∷ 0x32 ∷ []
+
+abbrev noByte : List ℕ
+noByte = 0x20 ∷ 0x31 ∷ 0x47 ∷ []
+
+-- The first word of "ab c" and what stands behind it; the number 10 up to 10 and up to 9, and no characters; the bytes 01 AA AA, and none.
+pub record Cases : Type 0 where
+  pub first-word : firstOf (0x61 ∷ 0x62 ∷ 0x20 ∷ 0x63 ∷ []) ≡ 0x61 ∷ 0x62 ∷ []
+  pub behind-it : restOf (0x61 ∷ 0x62 ∷ 0x20 ∷ 0x63 ∷ []) ≡ 0x20 ∷ 0x63 ∷ []
+  pub ten : decimalOf (0x31 ∷ 0x30 ∷ []) 10 ≡ record { known = true; value = 10 }
+  pub too-much : decimalOf (0x31 ∷ 0x30 ∷ []) 9 ≡ noNumber
+  pub nothing : decimalOf [] 9 ≡ noNumber
+  pub three : spellOf bytes .len ≡ 3
+  pub they-are : take 3 (spellOf bytes .bytes) ≡ 0x01 ∷ 0xAA ∷ 0xAA ∷ []
+  pub no-byte : spellOf noByte .known ≡ false
+
+pub cases : Cases
+unfolding pick indexOf indexAfter firstOf restOf wordAt digitOf byteOf addedOf stepOf stepsOf countedOf timesOf runOf zeros spelledIn grown turns
+cases = record { first-word = refl; behind-it = refl; ten = refl; too-much = refl; nothing = refl; three = refl; they-are = refl; no-byte = refl }

@@ -1,0 +1,21 @@
+use Rattle.basis.specs.Pick.{tests}
+use Rattle.script.specs.Runs.{runOf}
+use borrow.Author.Needs.{needs}
+use Rattle.script.proofs.run.run_of.Statement.{statement}
+use Rattle.script.proofs.run.run_of.Tie as tie
+
+pub run-of-spec : {M : Type 1} → statement M
+unfolding runOf
+run-of-spec =
+    tie.close
+    (tie.spec
+    (λ c. search tests)
+    (λ c. search needs)
+    (λ c. search needs)
+    (λ c κs. search needs)
+    (λ c. search needs)
+    (λ c. search needs)
+    (λ c. rw (← c .before .before .byte-of .ensures, c .enum-told .given .1) (search tests))
+    (λ c κs. search needs)
+    (λ c κs. search needs)
+    (λ c. rw (c .times-of .ensures, c .before .from .ensures, ← c .before .before .before .before .before .byte-of .ensures, c .before .before .before .found .given .1) (search tests)))

@@ -1,0 +1,34 @@
+-- Numbers in decimal, up to the most that is asked for.
+use Prim.Native.Nat.{ℕ, _+_, _*_}
+use mathlib.Core.Bool.{true, false}
+use mathlib.Core.List.{List, [], _∷_}
+use lib.Dec.{ltb}
+use lib.ListN.{length}
+use Rattle.basis.specs.Pick.{pick}
+use Rattle.script.specs.Digits.{digitOf}
+use Rattle.script.specs.declared.number.Number.{Number}
+
+abbrev pub noNumber : Number
+noNumber = record { known = false; value = 0 }
+
+-- One digit more behind a number.
+unfoldable pub addedOf : ℕ → ℕ → ℕ → Number
+addedOf most n d =
+    pick (ltb 9 d) noNumber
+    (pick (ltb most (10 * n + d)) noNumber
+    (record { known = true; value = 10 * n + d }))
+
+-- One character more behind what was read.
+unfoldable pub stepOf : ℕ → Number → ℕ → Number
+stepOf most read c = pick (read .known) (addedOf most (read .value) (digitOf c)) noNumber
+
+unfoldable pub stepsOf : ℕ → Number → List ℕ → Number
+stepsOf most read [] = read
+stepsOf most read (c ∷ s) = stepsOf most (stepOf most read c) s
+
+-- No characters are no number.
+abbrev pub begun : List ℕ → Number
+begun s = record { known = ltb 0 (length s); value = 0 }
+
+abbrev pub decimalOf : List ℕ → ℕ → Number
+decimalOf s most = stepsOf most (begun s) s

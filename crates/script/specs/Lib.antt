@@ -1,0 +1,8 @@
+pub mod Words
+pub mod Heading
+pub mod Digits
+pub mod Decimal
+pub mod Fields
+pub mod Look
+pub mod Runs
+pub mod Spelling

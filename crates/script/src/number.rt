@@ -1,0 +1,75 @@
+// Numbers in decimal.
+use crate::digit::digit;
+ghost use mathlib.Core.Path.{_≡_};
+ghost use Prim.Native.Nat.{_+_, _*_};
+ghost use lib.Dec.{ltb};
+ghost use Rattle.script.specs.Decimal.{noNumber, addedOf, stepOf, decimalOf};
+
+// The value of what is no number is 0.
+pub struct Number {
+    pub known: bool,
+    pub value: usize,
+}
+
+// What passes the most is no number here.
+pub fn decimal(s: &[u8], most: usize) -> Number
+    ensures { λ r. ⌜ r ≡ decimalOf (now (s .entry)) most ⌝ }
+{
+    let mut read = Number {
+        known: 0 < s.len(),
+        value: 0,
+    };
+    let mut i = 0;
+    while i < s.len() {
+        read = step(read, s[i], most);
+        i += 1;
+    }
+    read
+}
+
+fn step(read: Number, c: u8, most: usize) -> Number
+    ensures { λ r. ⌜ r ≡ stepOf most read c ⌝ }
+{
+    if read.known {
+        return added(read.value, digit(c), most);
+    }
+    unknown()
+}
+
+fn unknown() -> Number
+    ensures { λ r. ⌜ r ≡ noNumber ⌝ }
+{
+    Number {
+        known: false,
+        value: 0,
+    }
+}
+
+fn added(n: usize, d: u8, most: usize) -> Number
+    ensures { λ r. ⌜ r ≡ addedOf most n d ⌝ }
+{
+    if 9 < d {
+        return unknown();
+    }
+    if passes(n, d, most) {
+        return unknown();
+    }
+    Number {
+        known: true,
+        value: 10 * n + d as usize,
+    }
+}
+
+// The number with the next digit is not made up, since it could wrap.
+fn passes(n: usize, d: u8, most: usize) -> bool
+    ensures { λ r. ⌜ r ≡ ltb most (10 * n + d) ⌝ }
+{
+    let last = d as usize;
+    if most < last {
+        return true;
+    }
+    if (most - last) / 10 < n {
+        return true;
+    }
+    false
+}

@@ -1,0 +1,80 @@
+// What lines work on: the sessions of both ends, and how much memory is lent to each.
+use indoor_state::session::Indoor;
+use receiver_state::session::Started;
+use script::say;
+use wire::codes;
+
+// One byte more than the largest image or file, so that a script can lend too much (01, Sizes and numbers).
+pub(crate) const MEMORY: usize = codes::IMAGE_SIZE_MOST + 1;
+
+pub(crate) const BUFFER: usize = script::ROOM;
+
+// What stands in the image at first, and in the buffer before every call, so that what is written shows.
+pub(crate) const UNWRITTEN: u8 = 0xEE;
+
+// `memory` is of the image or of the file.
+pub(crate) struct Lent {
+    pub memory: usize,
+    pub buffer: usize,
+}
+
+pub(crate) struct Bench {
+    pub outdoors: Outdoors,
+    pub indoors: Indoors,
+}
+
+// Of the receiver. `Refused` is also what stands before the first start: no session.
+pub(crate) struct Outdoors {
+    pub session: Started,
+    pub lent: Lent,
+}
+
+pub(crate) struct Indoors {
+    pub session: Session,
+    pub lent: Lent,
+}
+
+pub(crate) enum Session {
+    Of(Indoor),
+    Nothing,
+}
+
+impl Bench {
+    pub(crate) fn empty() -> Bench {
+        let lent = Lent {
+            memory: 0,
+            buffer: 0,
+        };
+        Bench {
+            outdoors: Outdoors {
+                session: Started::Refused,
+                lent,
+            },
+            indoors: Indoors {
+                session: Session::Nothing,
+                lent,
+            },
+        }
+    }
+
+    // After a line that changes nothing here.
+    pub(crate) fn heard(self, understood: bool) -> Bench {
+        say::heard(understood);
+        self
+    }
+}
+
+impl Outdoors {
+    // After a line that changes nothing here.
+    pub(crate) fn heard(self, understood: bool) -> Outdoors {
+        say::heard(understood);
+        self
+    }
+}
+
+// Nothing is written in a buffer before a call.
+pub(crate) fn unwrite(buffer: &mut [u8]) {
+    for i in 0..buffer.len() {
+        buffer[i] = UNWRITTEN;
+    }
+}

@@ -1,0 +1,71 @@
+// A whole session of both ends over a clean line, on the image and the file that the sessions of one end borrow too.
+use crate::bench;
+use crate::indoor_phase;
+use crate::session;
+use clean::Ran;
+use indoor_state::plan::Release;
+use script::Field;
+use script::say;
+use wire::request::Versions;
+
+// The run gets the lent parts alone.
+pub(crate) fn answer(words: &[u8], file: &[u8], image: &mut [u8]) -> bool {
+    let limit = Field::none().next(words, 65535);
+    let resends = limit.next(words, 255);
+    let capacity = resends.next(words, bench::MEMORY);
+    let length = capacity.next(words, bench::MEMORY);
+    let vendor = length.next(words, 65535);
+    let product = vendor.next(words, 65535);
+    let version = product.next(words, 65535);
+    if !version.ends(words) {
+        return false;
+    }
+    let release = Release {
+        vendor: vendor.word(),
+        product: product.word(),
+        versions: Versions {
+            first: version.word(),
+            second: 0,
+            third: 0,
+            fourth: 0,
+        },
+    };
+    let room = script::part_of(image, capacity.value);
+    carried(
+        limit.word(),
+        resends.byte(),
+        release,
+        script::upto(file, length.value),
+        &mut image[..room],
+    );
+    true
+}
+
+fn carried(limit: u16, resends: u8, release: Release, file: &[u8], image: &mut [u8]) {
+    let ran = clean::run(limit, resends, session::identity(), release, file, image);
+    print(ran);
+    if begins(image, file) {
+        say::text(b" : file");
+    } else {
+        say::text(b" : no file");
+    }
+}
+
+fn print(ran: Ran) {
+    say::number(ran.number() as u64);
+    match ran {
+        Ran::Settings => {}
+        Ran::FileSize => {}
+        Ran::Ended { phase, requests } => {
+            say::text(b" :");
+            indoor_phase::print(phase);
+            say::text(b" :");
+            say::number(requests as u64);
+        }
+    }
+}
+
+// Of an image shorter than the file all is compared, and the lengths differ.
+fn begins(image: &[u8], file: &[u8]) -> bool {
+    check::same(script::upto(image, file.len()), file)
+}

@@ -1,0 +1,90 @@
+// A line of a session of the indoor end (01, The indoor end's phases).
+use crate::bench;
+use crate::bench::Indoors;
+use crate::bench::Session;
+use crate::indoor_call;
+use crate::indoor_call::Called;
+use crate::indoor_outcome;
+use crate::indoor_word;
+use crate::indoor_word::Act;
+use crate::indoor_word::Call;
+use crate::lend;
+use crate::lend::Lending;
+use indoor_state::session::Started;
+use script::say;
+
+pub(crate) fn run(words: &[u8], indoors: Indoors, file: &[u8], buffer: &mut [u8]) -> Indoors {
+    let behind = script::from(words, 1);
+    let act = indoor_word::act_of(script::first(behind));
+    let rest = script::rest(behind);
+    match act {
+        Act::Lend => lend(rest, indoors),
+        Act::Try => tried(rest, indoors, file, buffer),
+        Act::Call(call) => called(call, rest, indoors, file, buffer),
+        Act::Other => unchanged(b" not understood", indoors),
+    }
+}
+
+fn unchanged(why: &[u8], indoors: Indoors) -> Indoors {
+    say::text(why);
+    indoors
+}
+
+fn lend(words: &[u8], indoors: Indoors) -> Indoors {
+    let lending = lend::lent_of(words);
+    let Lending::Of(lent) = lending else {
+        return unchanged(b" not understood", indoors);
+    };
+    let session = indoors.session;
+    say::text(b" lent");
+    Indoors { session, lent }
+}
+
+// A call whose session is left where it stood, so that the next line begins there too.
+fn tried(words: &[u8], indoors: Indoors, file: &[u8], buffer: &mut [u8]) -> Indoors {
+    let behind = script::from(words, 1);
+    let act = indoor_word::act_of(script::first(behind));
+    let Act::Call(call) = act else {
+        return unchanged(b" not understood", indoors);
+    };
+    called(call, script::rest(behind), indoors, file, buffer);
+    indoors
+}
+
+// The call gets the lent parts alone.
+fn called(call: Call, words: &[u8], indoors: Indoors, file: &[u8], buffer: &mut [u8]) -> Indoors {
+    let session = indoors.session;
+    let lent = indoors.lent;
+    bench::unwrite(buffer);
+    let room = script::part_of(buffer, lent.buffer);
+    let part = script::upto(file, lent.memory);
+    let called = indoor_call::run(call, words, session, part, &mut buffer[..room]);
+    after(called, indoors, buffer)
+}
+
+fn after(called: Called, indoors: Indoors, buffer: &[u8]) -> Indoors {
+    let lent = indoors.lent;
+    match called {
+        Called::Begun(started) => {
+            indoor_outcome::print_start(started, buffer);
+            let session = made(started);
+            Indoors { session, lent }
+        }
+        Called::Ended(outcome) => {
+            indoor_outcome::print(outcome, buffer);
+            let state = outcome.state;
+            let session = Session::Of(state);
+            Indoors { session, lent }
+        }
+        Called::NoSession => unchanged(b" no session", indoors),
+        Called::NotUnderstood => unchanged(b" not understood", indoors),
+    }
+}
+
+// The session before it ends, also where the new one is refused (29, 46, 27): then there is none.
+fn made(started: Started) -> Session {
+    match started {
+        Started::Made { state, written: _ } => Session::Of(state),
+        _ => Session::Nothing,
+    }
+}

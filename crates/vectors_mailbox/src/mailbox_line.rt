@@ -1,0 +1,46 @@
+// A line of the mailbox (01, The mailbox).
+use crate::mailbox_call;
+use crate::mailbox_held::Held;
+use crate::mailbox_outcome;
+use crate::mailbox_word;
+use crate::mailbox_word::Act;
+use crate::mailbox_word::Step;
+use mailbox_state::connectors::Counted;
+use script::Field;
+use script::say;
+
+pub(crate) fn run(words: &[u8], held: Held) -> Held {
+    let behind = script::from(words, 1);
+    let act = mailbox_word::act_of(script::first(behind));
+    let rest = script::rest(behind);
+    match act {
+        Act::New => new(rest, held),
+        Act::Step(step) => within(step, rest, held),
+        Act::Other => held.heard(false),
+    }
+}
+
+// The mailbox before it ends, also where the new one is refused (29): then there is none.
+fn new(words: &[u8], held: Held) -> Held {
+    let count = Field::none().next(words, 255);
+    if !count.ends(words) {
+        return held.heard(false);
+    }
+    let counted = mailbox_decide::counted(count.byte());
+    let Counted::Made(connectors) = counted else {
+        say::number(mailbox_decide::counted_number(counted) as u64);
+        return Held::nothing();
+    };
+    mailbox_outcome::left(
+        mailbox_decide::counted_number(counted),
+        mailbox::fresh(connectors),
+    )
+}
+
+fn within(step: Step, words: &[u8], held: Held) -> Held {
+    if !held.there {
+        say::text(b" no mailbox");
+        return held;
+    }
+    mailbox_call::run(step, words, held)
+}

@@ -1,0 +1,55 @@
+// Lines of a recording: their numbers, and then its bytes (01, Replay program).
+use crate::played;
+use crate::record;
+use script::Field;
+
+// What stands in the memory that is lent, so that what is written shows.
+const UNWRITTEN: u8 = 0xEE;
+
+// Enough for the longest recording that a line spells: 320 records, each with a line of 11 bytes, as every answer is one digit.
+const OUTPUT: usize = 4000;
+
+// Far behind every recording that a line spells.
+const PLACE_MOST: usize = 1048576;
+
+// The record at a place is read, or all are played.
+enum Asked {
+    Record { at: usize },
+    Replay,
+}
+
+// The place, and the room for the record that is written.
+pub(crate) fn record(words: &[u8]) -> bool {
+    let place = Field::none().next(words, PLACE_MOST);
+    let room = place.next(words, script::ROOM);
+    spelled(Asked::Record { at: place.value }, words, room)
+}
+
+// The room for the lines that are printed.
+pub(crate) fn replay(words: &[u8]) -> bool {
+    let room = Field::none().next(words, OUTPUT);
+    spelled(Asked::Replay, words, room)
+}
+
+// The bytes stand behind the room, the last of the numbers.
+fn spelled(asked: Asked, words: &[u8], room: Field) -> bool {
+    if !room.known {
+        return false;
+    }
+    let spelled = script::spell(script::from(words, room.end));
+    if !spelled.known {
+        return false;
+    }
+    let bytes = spelled.bytes;
+    shown(asked, script::upto(&bytes, spelled.len), room.value);
+    true
+}
+
+fn shown(asked: Asked, recording: &[u8], room: usize) {
+    let mut output = [UNWRITTEN; OUTPUT];
+    let lent = script::part_of(&output, room);
+    match asked {
+        Asked::Record { at } => record::show(recording, at, &mut output[..lent]),
+        Asked::Replay => played::show(recording, &mut output[..lent]),
+    }
+}

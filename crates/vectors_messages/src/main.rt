@@ -1,0 +1,39 @@
+// Reads a script of messages, and prints behind each line what is read in it and written of that (001 chapter 5).
+mod message;
+mod requests;
+mod responses;
+mod sweep;
+mod versions;
+mod written;
+
+use script::say;
+
+fn main() {
+    let mut text = [0u8; script::TEXT_ROOM];
+    read(&mut text);
+}
+
+fn read(text: &mut [u8]) {
+    let n = io::read_full(libc::STDIN_FILENO, text);
+    if script::TEXT_MOST < n {
+        say::text(b"the script is too long\n");
+        return;
+    }
+    lines(&text[..n]);
+}
+
+fn lines(s: &[u8]) {
+    let mut at = 0;
+    while at < s.len() {
+        let end = bytes::scan::find(s, at, s.len(), b'\n');
+        line(&s[at..end]);
+        at = end + 1;
+    }
+}
+
+fn line(s: &[u8]) {
+    if say::asks(s) {
+        say::heard(message::answer(s));
+        say::text(b"\n");
+    }
+}

@@ -1,0 +1,21 @@
+// A message that was made, as it goes into a lent buffer.
+use script::hex;
+use script::say;
+use writing::Message;
+use writing::Sent;
+
+// The buffer is full of EE, so that a byte which is not written shows. What is not built is written as nothing.
+pub(crate) fn print(message: Message) {
+    let mut buffer = [0xEEu8; 22];
+    let n = put(message, &mut buffer);
+    say::text(b" :");
+    hex::shown(script::upto(&buffer, n));
+}
+
+fn put(message: Message, out: &mut [u8]) -> usize {
+    let sent = message.send(out);
+    match sent {
+        Sent::Written(n) => n,
+        Sent::TooShort => 0,
+    }
+}
