@@ -42,7 +42,7 @@ read-on (suc k) x =
 pub hex-read : (k x : ℕ) → x < 16 ^ k → numberIn 16 (hexOf k x) ≡ x
 hex-read k x h = ap (λ (r : ℕ). behind 16 r (hexOf k x)) (sym (div-eq-of-lt h)) ∙ read-on k x
 
-figure-read : (n : ℕ) → n < 10 → digitIn (figure n) ≡ n
+pub figure-read : (n : ℕ) → n < 10 → digitIn (figure n) ≡ n
 unfolding digitIn
 figure-read n h = pick-yes _ _ _ (lt-ltb (figure n) 0x41 (omega arith)) ∙ omega arith
 

@@ -3,7 +3,7 @@ ghost use mathlib.Core.Path.{_≡_};
 ghost use Prim.Native.Nat.{_%_};
 ghost use Rattle.printing.specs.Digits.{digitOf, hexOf};
 
-pub(crate) fn digits(value: u32) -> [u8; 8]
+pub fn digits(value: u32) -> [u8; 8]
     ensures { λ r. ⌜ r ≡ hexOf 8 value ⌝ }
 {
     let a = digit(value / 0x1000_0000);

@@ -1,5 +1,5 @@
 // The line that a record prints: CCI, a space, the answer's number, a newline; and the line that ends a replay (01, Replay program).
-mod hex;
+pub mod hex;
 mod tail;
 mod text;
 

@@ -8,7 +8,7 @@ use Rattle.basis.specs.Pick.{pick}
 use Rattle.bytes.specs.Bytes.{indexOf, indexAfter}
 use Rattle.script.specs.Words.{firstOf, restOf, wordAt}
 use Rattle.script.specs.Digits.{digitOf, byteOf}
-use Rattle.script.specs.Decimal.{noNumber, addedOf, stepOf, stepsOf, decimalOf}
+use Rattle.script.specs.Decimal.{noNumber, addedOf, stepOf, decimalOf}
 use Rattle.script.specs.Runs.{countedOf, timesOf, runOf}
 use Rattle.script.specs.Spelling.{zeros, spelledIn, grown, turns, spellOf}
 
@@ -31,5 +31,5 @@ pub record Cases : Type 0 where
   pub no-byte : spellOf noByte .known ≡ false
 
 pub cases : Cases
-unfolding pick indexOf indexAfter firstOf restOf wordAt digitOf byteOf addedOf stepOf stepsOf countedOf timesOf runOf zeros spelledIn grown turns
+unfolding pick indexOf indexAfter firstOf restOf wordAt digitOf byteOf addedOf stepOf countedOf timesOf runOf zeros spelledIn grown turns
 cases = record { first-word = refl; behind-it = refl; ten = refl; too-much = refl; nothing = refl; three = refl; they-are = refl; no-byte = refl }

@@ -8,7 +8,6 @@ use Rattle.basis.specs.Only.{only}
 use Rattle.script.specs.Decimal.{decimalOf}
 use Rattle.script.specs.Fields.{before, nextOf, byteIn, wordIn, endsOf}
 use Rattle.script.specs.Heading.{asksOf}
-use Rattle.script.specs.Look.{lookOf}
 use Rattle.script.specs.Spelling.{spellOf}
 use Rattle.script.specs.Words.{firstOf, restOf}
 use Rattle.script.specs.declared.field.Field.{Field}
@@ -45,11 +44,11 @@ pub one-ends : (self : Field) (words : List ℕ) (r r′ : Bool)
     → r ≡ r′
 one-ends self words r r′ is is′ = only is is′
 
-pub one-look : (words memory : List ℕ) (r r′ : Bool)
-    → r ≡ lookOf words memory
-    → r′ ≡ lookOf words memory
+pub one-asks : (line : List ℕ) (r r′ : Bool)
+    → r ≡ asksOf line
+    → r′ ≡ asksOf line
     → r ≡ r′
-one-look words memory r r′ is is′ = only is is′
+one-asks line r r′ is is′ = only is is′
 
 pub one-decimal : (s : List ℕ) (most : ℕ) (r r′ : Number)
     → r ≡ decimalOf s most
@@ -74,12 +73,6 @@ pub one-part-of : (memory : List ℕ) (asked r r′ : ℕ)
     → r′ ≡ min asked (length memory)
     → r ≡ r′
 one-part-of memory asked r r′ is is′ = only is is′
-
-pub one-asks : (line : List ℕ) (r r′ : Bool)
-    → r ≡ asksOf line
-    → r′ ≡ asksOf line
-    → r ≡ r′
-one-asks line r r′ is is′ = only is is′
 
 pub one-spell : (words : List ℕ) (r r′ : Spelled)
     → r ≡ spellOf words

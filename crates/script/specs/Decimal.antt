@@ -1,7 +1,7 @@
 -- Numbers in decimal, up to the most that is asked for.
 use Prim.Native.Nat.{ℕ, _+_, _*_}
 use mathlib.Core.Bool.{true, false}
-use mathlib.Core.List.{List, [], _∷_}
+use mathlib.Core.List.{List, foldl}
 use lib.Dec.{ltb}
 use lib.ListN.{length}
 use Rattle.basis.specs.Pick.{pick}
@@ -22,13 +22,9 @@ addedOf most n d =
 unfoldable pub stepOf : ℕ → Number → ℕ → Number
 stepOf most read c = pick (read .known) (addedOf most (read .value) (digitOf c)) noNumber
 
-unfoldable pub stepsOf : ℕ → Number → List ℕ → Number
-stepsOf most read [] = read
-stepsOf most read (c ∷ s) = stepsOf most (stepOf most read c) s
-
 -- No characters are no number.
 abbrev pub begun : List ℕ → Number
 begun s = record { known = ltb 0 (length s); value = 0 }
 
 abbrev pub decimalOf : List ℕ → ℕ → Number
-decimalOf s most = stepsOf most (begun s) s
+decimalOf s most = foldl (stepOf most) (begun s) s

@@ -3,6 +3,5 @@ pub mod Heading
 pub mod Digits
 pub mod Decimal
 pub mod Fields
-pub mod Look
 pub mod Runs
 pub mod Spelling

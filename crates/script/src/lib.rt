@@ -1,17 +1,15 @@
-// The script of the vectors: its words, numbers and bytes as they are read, and what a program prints behind a line.
+// The script of the vectors as it is read: its lines that ask for an answer, and their words, numbers and bytes.
 mod digit;
 mod field;
-pub mod hex;
-mod memory;
+mod heading;
 mod number;
 mod parts;
 mod run;
-pub mod say;
 mod spelling;
 mod words;
 
 pub use field::Field;
-pub use memory::look;
+pub use heading::asks;
 pub use number::Number;
 pub use number::decimal;
 pub use parts::from;

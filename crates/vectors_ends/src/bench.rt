@@ -1,7 +1,7 @@
-// What lines work on: the sessions of both ends, and how much memory is lent to each.
+// What lines work on: the sessions of both ends, how much memory is lent to each, and what is said of the last line of each.
 use indoor_state::session::Indoor;
 use receiver_state::session::Started;
-use script::say;
+use saying::Said;
 use wire::codes;
 
 // One byte more than the largest image or file, so that a script can lend too much (01, Sizes and numbers).
@@ -27,11 +27,13 @@ pub(crate) struct Bench {
 pub(crate) struct Outdoors {
     pub session: Started,
     pub lent: Lent,
+    pub said: Said,
 }
 
 pub(crate) struct Indoors {
     pub session: Session,
     pub lent: Lent,
+    pub said: Said,
 }
 
 pub(crate) enum Session {
@@ -49,25 +51,29 @@ impl Bench {
             outdoors: Outdoors {
                 session: Started::Refused,
                 lent,
+                said: Said::nothing(),
             },
             indoors: Indoors {
                 session: Session::Nothing,
                 lent,
+                said: Said::nothing(),
             },
         }
-    }
-
-    // After a line that changes nothing here.
-    pub(crate) fn heard(self, understood: bool) -> Bench {
-        say::heard(understood);
-        self
     }
 }
 
 impl Outdoors {
     // After a line that changes nothing here.
-    pub(crate) fn heard(self, understood: bool) -> Outdoors {
-        say::heard(understood);
+    pub(crate) fn says(mut self, said: Said) -> Outdoors {
+        self.said = said;
+        self
+    }
+}
+
+impl Indoors {
+    // After a line that changes nothing here.
+    pub(crate) fn says(mut self, said: Said) -> Indoors {
+        self.said = said;
         self
     }
 }

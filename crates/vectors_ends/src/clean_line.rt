@@ -4,12 +4,12 @@ use crate::indoor_phase;
 use crate::session;
 use clean::Ran;
 use indoor_state::plan::Release;
+use saying::Said;
 use script::Field;
-use script::say;
 use wire::request::Versions;
 
 // The run gets the lent parts alone.
-pub(crate) fn answer(words: &[u8], file: &[u8], image: &mut [u8]) -> bool {
+pub(crate) fn answer(words: &[u8], file: &[u8], image: &mut [u8]) -> Said {
     let limit = Field::none().next(words, 65535);
     let resends = limit.next(words, 255);
     let capacity = resends.next(words, bench::MEMORY);
@@ -18,7 +18,7 @@ pub(crate) fn answer(words: &[u8], file: &[u8], image: &mut [u8]) -> bool {
     let product = vendor.next(words, 65535);
     let version = product.next(words, 65535);
     if !version.ends(words) {
-        return false;
+        return Said::not_understood();
     }
     let release = Release {
         vendor: vendor.word(),
@@ -37,31 +37,27 @@ pub(crate) fn answer(words: &[u8], file: &[u8], image: &mut [u8]) -> bool {
         release,
         script::upto(file, length.value),
         &mut image[..room],
-    );
-    true
+    )
 }
 
-fn carried(limit: u16, resends: u8, release: Release, file: &[u8], image: &mut [u8]) {
+fn carried(limit: u16, resends: u8, release: Release, file: &[u8], image: &mut [u8]) -> Said {
     let ran = clean::run(limit, resends, session::identity(), release, file, image);
-    print(ran);
+    let said = told(ran);
     if begins(image, file) {
-        say::text(b" : file");
-    } else {
-        say::text(b" : no file");
+        return said.text(b" : file");
     }
+    said.text(b" : no file")
 }
 
-fn print(ran: Ran) {
-    say::number(ran.number() as u64);
+fn told(ran: Ran) -> Said {
+    let number = ran.number();
+    let said = Said::nothing().number(number as u64);
     match ran {
-        Ran::Settings => {}
-        Ran::FileSize => {}
-        Ran::Ended { phase, requests } => {
-            say::text(b" :");
-            indoor_phase::print(phase);
-            say::text(b" :");
-            say::number(requests as u64);
-        }
+        Ran::Settings => said,
+        Ran::FileSize => said,
+        Ran::Ended { phase, requests } => indoor_phase::add(said.text(b" :"), phase)
+            .text(b" :")
+            .number(requests as u64),
     }
 }
 

@@ -11,7 +11,7 @@ use crate::indoor_word::Call;
 use crate::lend;
 use crate::lend::Lending;
 use indoor_state::session::Started;
-use script::say;
+use saying::Said;
 
 pub(crate) fn run(words: &[u8], indoors: Indoors, file: &[u8], buffer: &mut [u8]) -> Indoors {
     let behind = script::from(words, 1);
@@ -21,23 +21,21 @@ pub(crate) fn run(words: &[u8], indoors: Indoors, file: &[u8], buffer: &mut [u8]
         Act::Lend => lend(rest, indoors),
         Act::Try => tried(rest, indoors, file, buffer),
         Act::Call(call) => called(call, rest, indoors, file, buffer),
-        Act::Other => unchanged(b" not understood", indoors),
+        Act::Other => indoors.says(Said::not_understood()),
     }
-}
-
-fn unchanged(why: &[u8], indoors: Indoors) -> Indoors {
-    say::text(why);
-    indoors
 }
 
 fn lend(words: &[u8], indoors: Indoors) -> Indoors {
     let lending = lend::lent_of(words);
     let Lending::Of(lent) = lending else {
-        return unchanged(b" not understood", indoors);
+        return indoors.says(Said::not_understood());
     };
     let session = indoors.session;
-    say::text(b" lent");
-    Indoors { session, lent }
+    Indoors {
+        session,
+        lent,
+        said: Said::nothing().text(b" lent"),
+    }
 }
 
 // A call whose session is left where it stood, so that the next line begins there too.
@@ -45,10 +43,10 @@ fn tried(words: &[u8], indoors: Indoors, file: &[u8], buffer: &mut [u8]) -> Indo
     let behind = script::from(words, 1);
     let act = indoor_word::act_of(script::first(behind));
     let Act::Call(call) = act else {
-        return unchanged(b" not understood", indoors);
+        return indoors.says(Said::not_understood());
     };
-    called(call, script::rest(behind), indoors, file, buffer);
-    indoors
+    let after = called(call, script::rest(behind), indoors, file, buffer);
+    indoors.says(after.said)
 }
 
 // The call gets the lent parts alone.
@@ -66,18 +64,24 @@ fn after(called: Called, indoors: Indoors, buffer: &[u8]) -> Indoors {
     let lent = indoors.lent;
     match called {
         Called::Begun(started) => {
-            indoor_outcome::print_start(started, buffer);
             let session = made(started);
-            Indoors { session, lent }
+            Indoors {
+                session,
+                lent,
+                said: indoor_outcome::start_told(started, buffer),
+            }
         }
         Called::Ended(outcome) => {
-            indoor_outcome::print(outcome, buffer);
             let state = outcome.state;
             let session = Session::Of(state);
-            Indoors { session, lent }
+            Indoors {
+                session,
+                lent,
+                said: indoor_outcome::told(outcome, buffer),
+            }
         }
-        Called::NoSession => unchanged(b" no session", indoors),
-        Called::NotUnderstood => unchanged(b" not understood", indoors),
+        Called::NoSession => indoors.says(Said::nothing().text(b" no session")),
+        Called::NotUnderstood => indoors.says(Said::not_understood()),
     }
 }
 

@@ -20,7 +20,7 @@ use bench::BUFFER;
 use bench::Bench;
 use bench::MEMORY;
 use bench::UNWRITTEN;
-use script::say;
+use saying::Said;
 use word::Act;
 use word::Word;
 
@@ -46,7 +46,7 @@ fn over(
 fn read(text: &mut [u8], file: &[u8], image: &mut [u8], buffer: &mut [u8]) {
     let n = io::read_full(libc::STDIN_FILENO, text);
     if script::TEXT_MOST < n {
-        say::text(b"the script is too long\n");
+        print(b"the script is too long\n");
         return;
     }
     lines(&text[..n], file, image, buffer);
@@ -63,11 +63,14 @@ fn lines(s: &[u8], file: &[u8], image: &mut [u8], buffer: &mut [u8]) {
 }
 
 fn line(s: &[u8], bench: Bench, file: &[u8], image: &mut [u8], buffer: &mut [u8]) -> Bench {
-    if !say::asks(s) {
+    print(s);
+    if !script::asks(s) {
+        print(b"\n");
         return bench;
     }
+    print(b" :");
     let after = answer(s, bench, file, image, buffer);
-    say::text(b"\n");
+    print(b"\n");
     after
 }
 
@@ -78,7 +81,10 @@ fn answer(line: &[u8], bench: Bench, file: &[u8], image: &mut [u8], buffer: &mut
     match word {
         Word::Session(act) => outdoors(act, rest, bench, image, buffer),
         Word::Indoor => indoors(rest, bench, file, buffer),
-        Word::Clean => bench.heard(clean_line::answer(rest, file, image)),
+        Word::Clean => {
+            say(clean_line::answer(rest, file, image));
+            bench
+        }
     }
 }
 
@@ -87,6 +93,7 @@ fn outdoors(act: Act, words: &[u8], bench: Bench, image: &mut [u8], buffer: &mut
     let indoors = bench.indoors;
     let before = bench.outdoors;
     let outdoors = session::run(act, words, before, image, buffer);
+    say(outdoors.said);
     Bench { outdoors, indoors }
 }
 
@@ -95,5 +102,15 @@ fn indoors(words: &[u8], bench: Bench, file: &[u8], buffer: &mut [u8]) -> Bench 
     let outdoors = bench.outdoors;
     let before = bench.indoors;
     let indoors = indoor_session::run(words, before, file, buffer);
+    say(indoors.said);
     Bench { outdoors, indoors }
+}
+
+fn say(said: Said) {
+    let bytes = said.bytes;
+    print(script::upto(&bytes, said.len));
+}
+
+fn print(s: &[u8]) {
+    io::write_all(libc::STDOUT_FILENO, s);
 }

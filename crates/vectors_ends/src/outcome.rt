@@ -4,42 +4,38 @@ use receiver_state::session::Outcome;
 use receiver_state::session::Receiver;
 use receiver_state::session::Started;
 use receiver_state::sum::Summed;
-use script::hex;
-use script::say;
+use saying::Said;
 
-pub(crate) fn print(outcome: Outcome, buffer: &[u8]) {
+pub(crate) fn told(outcome: Outcome, buffer: &[u8]) -> Said {
     let answer = outcome.answer;
     let state = outcome.state;
-    say::number(receiver_decide::answer_number(answer) as u64);
-    say::text(b" :");
-    hex::shown(script::upto(buffer, outcome.written));
-    print_state(state);
+    let said = Said::nothing()
+        .number(receiver_decide::answer_number(answer) as u64)
+        .text(b" :")
+        .shown(script::upto(buffer, outcome.written));
+    stand(said, state)
 }
 
-pub(crate) fn print_start(started: Started) {
-    say::number(receiver::started_number(started) as u64);
+pub(crate) fn start_told(started: Started) -> Said {
+    let said = Said::nothing().number(receiver::started_number(started) as u64);
     match started {
-        Started::Made(state) => print_state(state),
-        Started::Refused => {}
+        Started::Made(state) => stand(said, state),
+        Started::Refused => said,
     }
 }
 
-fn print_state(state: Receiver) {
+fn stand(said: Said, state: Receiver) -> Said {
     let phase = state.phase;
-    say::text(b" :");
-    phase::print(phase);
-    say::text(b" :");
-    say::number(state.silence as u64);
-    say::number(state.resends as u64);
+    phase::add(said.text(b" :"), phase)
+        .text(b" :")
+        .number(state.silence as u64)
+        .number(state.resends as u64)
 }
 
-pub(crate) fn print_sum(summed: Summed) {
-    say::number(receiver::summed_number(summed) as u64);
+pub(crate) fn sum_told(summed: Summed) -> Said {
+    let said = Said::nothing().number(receiver::summed_number(summed) as u64);
     match summed {
-        Summed::Sum(sum) => {
-            say::text(b" :");
-            say::number(sum as u64);
-        }
-        Summed::ImageLength => {}
+        Summed::Sum(sum) => said.text(b" :").number(sum as u64),
+        Summed::ImageLength => said,
     }
 }

@@ -2,26 +2,27 @@
 use receiver_state::phase::Accepted;
 use receiver_state::phase::Phase;
 use receiver_state::phase::Progress;
-use script::say;
+use saying::Said;
 
-pub(crate) fn print(phase: Phase) {
+pub(crate) fn add(said: Said, phase: Phase) -> Said {
     match phase {
-        Phase::Idle => say::text(b" Idle"),
-        Phase::Transfer(progress) => transfer(progress),
-        Phase::Await(accepted) => counted(b" Await", accepted),
-        Phase::Good(accepted) => counted(b" Good", accepted),
+        Phase::Idle => said.text(b" Idle"),
+        Phase::Transfer(progress) => transfer(said, progress),
+        Phase::Await(accepted) => counted(said.text(b" Await"), accepted),
+        Phase::Good(accepted) => counted(said.text(b" Good"), accepted),
     }
 }
 
-fn transfer(progress: Progress) {
-    counted(b" Transfer", progress.accepted);
+fn transfer(said: Said, progress: Progress) -> Said {
+    let accepted = progress.accepted;
+    let counts = counted(said.text(b" Transfer"), accepted);
     if progress.short {
-        say::text(b" short");
+        return counts.text(b" short");
     }
+    counts
 }
 
-fn counted(name: &[u8], accepted: Accepted) {
-    say::text(name);
-    say::number(accepted.blocks as u64);
-    say::number(accepted.bytes as u64);
+fn counted(said: Said, accepted: Accepted) -> Said {
+    said.number(accepted.blocks as u64)
+        .number(accepted.bytes as u64)
 }

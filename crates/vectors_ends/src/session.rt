@@ -10,8 +10,8 @@ use crate::outcome;
 use crate::word::Act;
 use crate::word::Call;
 use receiver_state::session::Started;
+use saying::Said;
 use script::Field;
-use script::say;
 use wire::codes;
 use wire::request::Versions;
 use wire::response::Identity;
@@ -27,9 +27,9 @@ pub(crate) fn run(
         Act::Start => start(words, outdoors),
         Act::Lend => lend(words, outdoors),
         Act::Call(call) => called(call, words, outdoors, image, buffer),
-        Act::Image => outdoors.heard(script::look(words, image)),
-        Act::Buffer => outdoors.heard(script::look(words, buffer)),
-        Act::Other => outdoors.heard(false),
+        Act::Image => outdoors.says(saying::look(words, image)),
+        Act::Buffer => outdoors.says(saying::look(words, buffer)),
+        Act::Other => outdoors.says(Said::not_understood()),
     }
 }
 
@@ -60,25 +60,31 @@ fn start(words: &[u8], outdoors: Outdoors) -> Outdoors {
     let resends = limit.next(words, 255);
     let capacity = resends.next(words, 9999999);
     if !capacity.ends(words) {
-        return outdoors.heard(false);
+        return outdoors.says(Said::not_understood());
     }
     let session = receiver::start(limit.word(), resends.byte(), identity(), capacity.value);
-    outcome::print_start(session);
     let lent = Lent {
         memory: capacity.value,
         buffer: codes::LONGEST,
     };
-    Outdoors { session, lent }
+    Outdoors {
+        session,
+        lent,
+        said: outcome::start_told(session),
+    }
 }
 
 fn lend(words: &[u8], outdoors: Outdoors) -> Outdoors {
     let lending = lend::lent_of(words);
     let Lending::Of(lent) = lending else {
-        return outdoors.heard(false);
+        return outdoors.says(Said::not_understood());
     };
     let session = outdoors.session;
-    say::text(b" lent");
-    Outdoors { session, lent }
+    Outdoors {
+        session,
+        lent,
+        said: Said::nothing().text(b" lent"),
+    }
 }
 
 // The call gets the lent parts alone.
@@ -91,8 +97,7 @@ fn called(
 ) -> Outdoors {
     let session = outdoors.session;
     let Started::Made(receiver) = session else {
-        say::text(b" no session");
-        return outdoors;
+        return outdoors.says(Said::nothing().text(b" no session"));
     };
     bench::unwrite(buffer);
     let room = script::part_of(buffer, outdoors.lent.buffer);
@@ -110,16 +115,16 @@ fn called(
 fn after(called: Called, outdoors: Outdoors, buffer: &[u8]) -> Outdoors {
     match called {
         Called::Ended(outcome) => {
-            outcome::print(outcome, buffer);
             let state = outcome.state;
             let session = Started::Made(state);
             let lent = outdoors.lent;
-            Outdoors { session, lent }
+            Outdoors {
+                session,
+                lent,
+                said: outcome::told(outcome, buffer),
+            }
         }
-        Called::Summed(summed) => {
-            outcome::print_sum(summed);
-            outdoors
-        }
-        Called::NotUnderstood => outdoors.heard(false),
+        Called::Summed(summed) => outdoors.says(outcome::sum_told(summed)),
+        Called::NotUnderstood => outdoors.says(Said::not_understood()),
     }
 }

@@ -1,11 +1,11 @@
 // Why no record is found at a place of a recording (01, Replay program).
 use recording::Ending;
-use script::say;
+use saying::Said;
 
-pub(crate) fn print(ending: Ending) {
+pub(crate) fn add(said: Said, ending: Ending) -> Said {
     match ending {
-        Ending::Whole => say::text(b" end"),
-        Ending::Cut => say::text(b" cut"),
-        Ending::UnknownKind => say::text(b" unknown"),
+        Ending::Whole => said.text(b" end"),
+        Ending::Cut => said.text(b" cut"),
+        Ending::UnknownKind => said.text(b" unknown"),
     }
 }

@@ -3,6 +3,7 @@ use crate::mailbox_held::Held;
 use crate::mailbox_outcome;
 use crate::mailbox_word::Step;
 use mailbox_state::state::Outcome;
+use saying::Said;
 use script::Field;
 
 pub(crate) fn run(step: Step, words: &[u8], held: Held) -> Held {
@@ -18,7 +19,7 @@ pub(crate) fn run(step: Step, words: &[u8], held: Held) -> Held {
 fn spelled(reported: bool, words: &[u8], held: Held) -> Held {
     let spelled = script::spell(words);
     if !spelled.known {
-        return held.heard(false);
+        return held.says(Said::not_understood());
     }
     let space = spelled.bytes;
     let bytes = script::upto(&space, spelled.len);
@@ -37,7 +38,7 @@ fn ended(outcome: Outcome) -> Held {
 
 fn failure(words: &[u8], held: Held) -> Held {
     if words.len() != 0 {
-        return held.heard(false);
+        return held.says(Said::not_understood());
     }
     let mailbox = held.mailbox;
     ended(mailbox::report_failure(mailbox))
@@ -48,7 +49,7 @@ fn change(words: &[u8], held: Held) -> Held {
     let connector = Field::none().next(words, 255);
     let reason = connector.next(words, 65535);
     if !reason.ends(words) {
-        return held.heard(false);
+        return held.says(Said::not_understood());
     }
     let mailbox = held.mailbox;
     ended(mailbox::change(mailbox, connector.byte(), reason.word()))
@@ -57,5 +58,5 @@ fn change(words: &[u8], held: Held) -> Held {
 fn message(words: &[u8], held: Held) -> Held {
     let mailbox = held.mailbox;
     let message = mailbox::message_in(mailbox);
-    held.heard(script::look(words, &message))
+    held.says(saying::look(words, &message))
 }

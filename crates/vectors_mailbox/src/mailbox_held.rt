@@ -1,12 +1,13 @@
-// The mailbox that lines work on, if there is one (01, The mailbox).
+// The mailbox that lines work on, if there is one, and what is said of the last line (01, The mailbox).
 use mailbox_state::connectors::Connectors;
 use mailbox_state::state::Mailbox;
-use script::say;
+use saying::Said;
 
 // No enum can hold the bytes of MESSAGE_IN, so `there` says whether `mailbox` is one that a line made.
 pub(crate) struct Held {
     pub there: bool,
     pub mailbox: Mailbox,
+    pub said: Said,
 }
 
 impl Held {
@@ -14,12 +15,13 @@ impl Held {
         Held {
             there: false,
             mailbox: mailbox::fresh(Connectors { count: 1 }),
+            said: Said::nothing(),
         }
     }
 
     // After a line that changes nothing here.
-    pub(crate) fn heard(self, understood: bool) -> Held {
-        say::heard(understood);
+    pub(crate) fn says(mut self, said: Said) -> Held {
+        self.said = said;
         self
     }
 }

@@ -6,8 +6,8 @@ use crate::mailbox_word;
 use crate::mailbox_word::Act;
 use crate::mailbox_word::Step;
 use mailbox_state::connectors::Counted;
+use saying::Said;
 use script::Field;
-use script::say;
 
 pub(crate) fn run(words: &[u8], held: Held) -> Held {
     let behind = script::from(words, 1);
@@ -16,7 +16,7 @@ pub(crate) fn run(words: &[u8], held: Held) -> Held {
     match act {
         Act::New => new(rest, held),
         Act::Step(step) => within(step, rest, held),
-        Act::Other => held.heard(false),
+        Act::Other => held.says(Said::not_understood()),
     }
 }
 
@@ -24,12 +24,12 @@ pub(crate) fn run(words: &[u8], held: Held) -> Held {
 fn new(words: &[u8], held: Held) -> Held {
     let count = Field::none().next(words, 255);
     if !count.ends(words) {
-        return held.heard(false);
+        return held.says(Said::not_understood());
     }
     let counted = mailbox_decide::counted(count.byte());
     let Counted::Made(connectors) = counted else {
-        say::number(mailbox_decide::counted_number(counted) as u64);
-        return Held::nothing();
+        let number = mailbox_decide::counted_number(counted);
+        return Held::nothing().says(Said::nothing().number(number as u64));
     };
     mailbox_outcome::left(
         mailbox_decide::counted_number(counted),
@@ -39,8 +39,7 @@ fn new(words: &[u8], held: Held) -> Held {
 
 fn within(step: Step, words: &[u8], held: Held) -> Held {
     if !held.there {
-        say::text(b" no mailbox");
-        return held;
+        return held.says(Said::nothing().text(b" no mailbox"));
     }
     mailbox_call::run(step, words, held)
 }

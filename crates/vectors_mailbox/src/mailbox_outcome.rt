@@ -3,33 +3,34 @@ use crate::mailbox_held::Held;
 use mailbox_state::state::Mailbox;
 use mailbox_state::told::Command;
 use mailbox_state::told::Told;
-use script::hex;
-use script::say;
+use saying::Said;
 
-// The mailbox is printed, and held from here on.
+// The mailbox is told, and held from here on.
 pub(crate) fn left(number: u8, mailbox: Mailbox) -> Held {
     let stand = mailbox.stand;
     let told = stand.told;
-    say::number(number as u64);
-    say::text(b" :");
-    hex::print_wide(mailbox::cci(mailbox));
-    say::text(b" :");
-    running(told);
+    let cci = mailbox::cci(mailbox);
+    let said = Said::nothing()
+        .number(number as u64)
+        .text(b" :")
+        .wide(cci)
+        .text(b" :");
     Held {
         there: true,
         mailbox,
+        said: running(said, told),
     }
 }
 
-fn running(told: Told) {
+fn running(said: Said, told: Told) -> Said {
     match told {
-        Told::Busy(command) => fields(command),
-        _ => say::text(b" -"),
+        Told::Busy(command) => fields(said, command),
+        _ => said.text(b" -"),
     }
 }
 
-fn fields(command: Command) {
-    hex::print(command.code);
-    say::number(command.connector as u64);
-    say::number(command.reset_type as u64);
+fn fields(said: Said, command: Command) -> Said {
+    said.hex(command.code)
+        .number(command.connector as u64)
+        .number(command.reset_type as u64)
 }

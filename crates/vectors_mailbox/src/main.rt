@@ -10,7 +10,7 @@ mod record;
 mod recording_line;
 
 use mailbox_held::Held;
-use script::say;
+use saying::Said;
 
 fn main() {
     let mut text = [0u8; script::TEXT_ROOM];
@@ -20,7 +20,7 @@ fn main() {
 fn read(text: &mut [u8]) {
     let n = io::read_full(libc::STDIN_FILENO, text);
     if script::TEXT_MOST < n {
-        say::text(b"the script is too long\n");
+        print(b"the script is too long\n");
         return;
     }
     lines(&text[..n]);
@@ -37,12 +37,25 @@ fn lines(s: &[u8]) {
 }
 
 fn line(s: &[u8], held: Held) -> Held {
-    if !say::asks(s) {
+    print(s);
+    if !script::asks(s) {
+        print(b"\n");
         return held;
     }
     let after = answer(s, held);
-    say::text(b"\n");
+    print(b" :");
+    say(after.said);
+    print(b"\n");
     after
+}
+
+fn say(said: Said) {
+    let bytes = said.bytes;
+    print(script::upto(&bytes, said.len));
+}
+
+fn print(s: &[u8]) {
+    io::write_all(libc::STDOUT_FILENO, s);
 }
 
 // What a word at the start of a line asks for: only a line of the mailbox changes what is held.
@@ -53,10 +66,10 @@ fn answer(line: &[u8], held: Held) -> Held {
         return mailbox_line::run(rest, held);
     }
     if check::same(word, b"record") {
-        return held.heard(recording_line::record(rest));
+        return held.says(recording_line::record(rest));
     }
     if check::same(word, b"replay") {
-        return held.heard(recording_line::replay(rest));
+        return held.says(recording_line::replay(rest));
     }
-    held.heard(false)
+    held.says(Said::not_understood())
 }

@@ -2,46 +2,37 @@
 use crate::ending;
 use recording::Read;
 use recording::Record;
-use script::hex;
-use script::say;
+use saying::Said;
 
-pub(crate) fn show(recording: &[u8], at: usize, buffer: &mut [u8]) {
+pub(crate) fn show(recording: &[u8], at: usize, buffer: &mut [u8]) -> Said {
     let read = recording::next(recording, at);
     match read {
-        Read::Ended(ending) => ending::print(ending),
+        Read::Ended(ending) => ending::add(Said::nothing(), ending),
         Read::Found { record, next } => {
-            print(record);
-            say::text(b" :");
-            say::number(next as u64);
-            write(record, buffer);
+            let said = told(record).text(b" :").number(next as u64);
+            write(said, record, buffer)
         }
     }
 }
 
-fn print(record: Record) {
+fn told(record: Record) -> Said {
+    let said = Said::nothing();
     match record {
-        Record::Control(control) => {
-            say::text(b" Control");
-            hex::print_all(&control.bytes());
-        }
-        Record::Change { connector, reason } => {
-            say::text(b" Change");
-            say::number(connector as u64);
-            say::number(reason as u64);
-        }
-        Record::Success { length } => {
-            say::text(b" Success");
-            say::number(length as u64);
-        }
-        Record::Failure => say::text(b" Failure"),
+        Record::Control(control) => said.text(b" Control").all(&control.bytes()),
+        Record::Change { connector, reason } => said.text(b" Change")
+            .number(connector as u64)
+            .number(reason as u64),
+        Record::Success { length } => said.text(b" Success").number(length as u64),
+        Record::Failure => said.text(b" Failure"),
     }
 }
 
-// All of the room is printed, so that a byte which is not written shows too.
-fn write(record: Record, buffer: &mut [u8]) {
+// All of the room is told, so that a byte which is not written shows too.
+fn write(said: Said, record: Record, buffer: &mut [u8]) -> Said {
     let written = recording::write(record, buffer);
-    say::text(b" :");
-    say::number(written.number() as u64);
-    say::text(b" :");
-    hex::shown(buffer);
+    let number = written.number();
+    said.text(b" :")
+        .number(number as u64)
+        .text(b" :")
+        .shown(buffer)
 }

@@ -1,6 +1,7 @@
 // Lines of a recording: their numbers, and then its bytes (01, Replay program).
 use crate::played;
 use crate::record;
+use saying::Said;
 use script::Field;
 
 // What stands in the memory that is lent, so that what is written shows.
@@ -19,33 +20,32 @@ enum Asked {
 }
 
 // The place, and the room for the record that is written.
-pub(crate) fn record(words: &[u8]) -> bool {
+pub(crate) fn record(words: &[u8]) -> Said {
     let place = Field::none().next(words, PLACE_MOST);
     let room = place.next(words, script::ROOM);
     spelled(Asked::Record { at: place.value }, words, room)
 }
 
 // The room for the lines that are printed.
-pub(crate) fn replay(words: &[u8]) -> bool {
+pub(crate) fn replay(words: &[u8]) -> Said {
     let room = Field::none().next(words, OUTPUT);
     spelled(Asked::Replay, words, room)
 }
 
 // The bytes stand behind the room, the last of the numbers.
-fn spelled(asked: Asked, words: &[u8], room: Field) -> bool {
+fn spelled(asked: Asked, words: &[u8], room: Field) -> Said {
     if !room.known {
-        return false;
+        return Said::not_understood();
     }
     let spelled = script::spell(script::from(words, room.end));
     if !spelled.known {
-        return false;
+        return Said::not_understood();
     }
     let bytes = spelled.bytes;
-    shown(asked, script::upto(&bytes, spelled.len), room.value);
-    true
+    shown(asked, script::upto(&bytes, spelled.len), room.value)
 }
 
-fn shown(asked: Asked, recording: &[u8], room: usize) {
+fn shown(asked: Asked, recording: &[u8], room: usize) -> Said {
     let mut output = [UNWRITTEN; OUTPUT];
     let lent = script::part_of(&output, room);
     match asked {

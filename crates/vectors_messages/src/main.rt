@@ -6,7 +6,7 @@ mod sweep;
 mod versions;
 mod written;
 
-use script::say;
+use saying::Said;
 
 fn main() {
     let mut text = [0u8; script::TEXT_ROOM];
@@ -16,7 +16,7 @@ fn main() {
 fn read(text: &mut [u8]) {
     let n = io::read_full(libc::STDIN_FILENO, text);
     if script::TEXT_MOST < n {
-        say::text(b"the script is too long\n");
+        print(b"the script is too long\n");
         return;
     }
     lines(&text[..n]);
@@ -32,8 +32,19 @@ fn lines(s: &[u8]) {
 }
 
 fn line(s: &[u8]) {
-    if say::asks(s) {
-        say::heard(message::answer(s));
-        say::text(b"\n");
+    print(s);
+    if script::asks(s) {
+        print(b" :");
+        say(message::answer(s));
     }
+    print(b"\n");
+}
+
+fn say(said: Said) {
+    let bytes = said.bytes;
+    print(script::upto(&bytes, said.len));
+}
+
+fn print(s: &[u8]) {
+    io::write_all(libc::STDOUT_FILENO, s);
 }

@@ -2,6 +2,7 @@
 use crate::requests;
 use crate::responses;
 use crate::sweep;
+use saying::Said;
 use script::Spelled;
 
 // What a word at the start of a line asks for. `asking` is true of a request and false of a response.
@@ -38,30 +39,30 @@ fn word_of(s: &[u8]) -> Word {
     Word::Other
 }
 
-pub(crate) fn answer(line: &[u8]) -> bool {
+pub(crate) fn answer(line: &[u8]) -> Said {
     let word = word_of(script::first(line));
     let rest = script::rest(line);
     match word {
         Word::Message { asking } => spelled(Varied::Nothing, asking, rest),
         Word::Sweep(varied) => directed(varied, script::from(rest, 1)),
-        Word::Other => false,
+        Word::Other => Said::not_understood(),
     }
 }
 
 // The first word says whether the others spell a request or a response.
-fn directed(varied: Varied, words: &[u8]) -> bool {
+fn directed(varied: Varied, words: &[u8]) -> Said {
     let word = word_of(script::first(words));
     let rest = script::rest(words);
     match word {
         Word::Message { asking } => spelled(varied, asking, rest),
-        _ => false,
+        _ => Said::not_understood(),
     }
 }
 
-fn spelled(varied: Varied, asking: bool, words: &[u8]) -> bool {
+fn spelled(varied: Varied, asking: bool, words: &[u8]) -> Said {
     let message = script::spell(words);
     if !message.known {
-        return false;
+        return Said::not_understood();
     }
     match varied {
         Varied::Nothing => show(asking, message),
@@ -70,13 +71,11 @@ fn spelled(varied: Varied, asking: bool, words: &[u8]) -> bool {
     }
 }
 
-fn show(asking: bool, message: Spelled) -> bool {
+fn show(asking: bool, message: Spelled) -> Said {
     let bytes = message.bytes;
     let msg = script::upto(&bytes, message.len);
     if asking {
-        requests::show(msg);
-    } else {
-        responses::show(msg);
+        return requests::show(msg);
     }
-    true
+    responses::show(msg)
 }

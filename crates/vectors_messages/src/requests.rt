@@ -1,7 +1,7 @@
 // A request: what is read in it (001 T5-3 to T5-15), and the bytes that are written of it.
 use crate::versions;
 use crate::written;
-use script::say;
+use saying::Said;
 use wire::request::Parsed;
 use wire::request::Request;
 use wire::request::Versions;
@@ -15,35 +15,28 @@ pub(crate) fn is_valid(msg: &[u8]) -> bool {
 }
 
 // Malformed is 20 (01, Numbers we answer).
-pub(crate) fn show(msg: &[u8]) {
+pub(crate) fn show(msg: &[u8]) -> Said {
     let parsed = reading::read_request(msg);
     match parsed {
-        Parsed::Valid(request) => {
-            told(request);
-            written::print(writing::write_request(request));
-        }
-        Parsed::Malformed => say::text(b" 20"),
+        Parsed::Valid(request) => written::add(told(request), writing::write_request(request)),
+        Parsed::Malformed => Said::nothing().text(b" 20"),
     }
 }
 
-fn told(request: Request) {
+fn told(request: Request) -> Said {
+    let said = Said::nothing();
     match request {
-        Request::GetFwId => say::text(b" GET_FW_ID"),
-        Request::Initiate(versions) => initiate(versions),
-        Request::Data { number, size } => block(number, size),
-        Request::Validate => say::text(b" VALIDATE"),
-        Request::Abort => say::text(b" ABORT"),
-        Request::NotBuilt => say::text(b" not built"),
+        Request::GetFwId => said.text(b" GET_FW_ID"),
+        Request::Initiate(versions) => versions::add(said.text(b" INITIATE"), versions),
+        Request::Data { number, size } => block(said, number, size),
+        Request::Validate => said.text(b" VALIDATE"),
+        Request::Abort => said.text(b" ABORT"),
+        Request::NotBuilt => said.text(b" not built"),
     }
 }
 
-fn initiate(versions: Versions) {
-    say::text(b" INITIATE");
-    versions::print(versions);
-}
-
-fn block(number: u16, size: usize) {
-    say::text(b" DATA");
-    say::number(number as u64);
-    say::number(size as u64);
+fn block(said: Said, number: u16, size: usize) -> Said {
+    said.text(b" DATA")
+        .number(number as u64)
+        .number(size as u64)
 }

@@ -1,7 +1,7 @@
 // A response: what is read in it (001 T5-16 to T5-28), and the bytes that are written of it.
 use crate::versions;
 use crate::written;
-use script::say;
+use saying::Said;
 use wire::response::Identity;
 use wire::response::Parsed;
 use wire::response::Response;
@@ -15,18 +15,15 @@ pub(crate) fn is_valid(msg: &[u8]) -> bool {
 }
 
 // Malformed is 20 (01, Numbers we answer).
-pub(crate) fn show(msg: &[u8]) {
+pub(crate) fn show(msg: &[u8]) -> Said {
     let parsed = reading::read_response(msg);
     match parsed {
-        Parsed::Valid(response) => {
-            told(response);
-            written::print(writing::write_response(response));
-        }
-        Parsed::Malformed => say::text(b" 20"),
+        Parsed::Valid(response) => written::add(told(response), writing::write_response(response)),
+        Parsed::Malformed => Said::nothing().text(b" 20"),
     }
 }
 
-fn told(response: Response) {
+fn told(response: Response) -> Said {
     match response {
         Response::GetFwId { status, identity } => fields(status, identity),
         Response::Initiate { status, wait, size } => three(b" INITIATE", status, wait, size as u64),
@@ -40,30 +37,37 @@ fn told(response: Response) {
             wait,
             success,
         } => three(b" VALIDATE", status, wait, success as u64),
-        Response::NotBuilt => say::text(b" not built"),
+        Response::NotBuilt => Said::nothing().text(b" not built"),
     }
 }
 
-fn three(name: &[u8], status: u8, wait: u8, last: u64) {
-    say::text(name);
-    say::number(status as u64);
-    say::number(wait as u64);
-    say::number(last);
+fn three(name: &[u8], status: u8, wait: u8, last: u64) -> Said {
+    Said::nothing()
+        .text(name)
+        .number(status as u64)
+        .number(wait as u64)
+        .number(last)
 }
 
 // 001 T5-18, in its order.
-fn fields(status: u8, i: Identity) {
-    say::text(b" GET_FW_ID");
-    say::number(status as u64);
+fn fields(status: u8, i: Identity) -> Said {
     let versions = i.versions;
-    say::number(i.vendor as u64);
-    say::number(i.product as u64);
-    say::number(i.hardware as u64);
-    say::number(i.silicon as u64);
-    versions::print(versions);
-    say::number(i.bank as u64);
-    say::number(i.flags1 as u64);
-    say::number(i.flags2 as u64);
-    say::number(i.flags3 as u64);
-    say::number(i.flags4 as u64);
+    let before = Said::nothing()
+        .text(b" GET_FW_ID")
+        .number(status as u64)
+        .number(i.vendor as u64)
+        .number(i.product as u64)
+        .number(i.hardware as u64)
+        .number(i.silicon as u64);
+    flags(
+        versions::add(before, versions).number(i.bank as u64),
+        [i.flags1, i.flags2, i.flags3, i.flags4],
+    )
+}
+
+fn flags(said: Said, f: [u8; 4]) -> Said {
+    said.number(f[0] as u64)
+        .number(f[1] as u64)
+        .number(f[2] as u64)
+        .number(f[3] as u64)
 }

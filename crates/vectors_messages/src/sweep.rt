@@ -1,9 +1,8 @@
 // One message with every value of one byte, or at every length: which of these are valid.
 use crate::requests;
 use crate::responses;
+use saying::Said;
 use script::Spelled;
-use script::hex;
-use script::say;
 ghost use Prim.Native.Nat.{_<_};
 
 fn valid(asking: bool, msg: &[u8]) -> bool {
@@ -14,31 +13,31 @@ fn valid(asking: bool, msg: &[u8]) -> bool {
 }
 
 // A message that has no byte at the place is not understood.
-pub(crate) fn values(asking: bool, message: Spelled, at: u8) -> bool {
+pub(crate) fn values(asking: bool, message: Spelled, at: u8) -> Said {
     if message.len <= at as usize {
-        return false;
+        return Said::not_understood();
     }
-    if !over_values(asking, message, at as usize) {
-        say::text(b" none");
+    let said = over_values(asking, message, at as usize);
+    if said.len == 0 {
+        return said.text(b" none");
     }
-    true
+    said
 }
 
-// Prints the values with which the message is valid. Answers whether there is one.
-fn over_values(asking: bool, message: Spelled, at: usize) -> bool
+// The values with which the message is valid.
+fn over_values(asking: bool, message: Spelled, at: usize) -> Said
     requires { ⌜ at < 256 ⌝ }
 {
     let mut bytes = message.bytes;
     let len = message.len;
-    let mut any = false;
+    let mut said = Said::nothing();
     for value in 0..=255 {
         bytes[at] = value;
         if valid(asking, script::upto(&bytes, len)) {
-            hex::print(value);
-            any = true;
+            said = said.hex(value);
         }
     }
-    any
+    said
 }
 
 // Lengths that follow each other.
@@ -48,15 +47,14 @@ enum Span {
     Broken,
 }
 
-pub(crate) fn lengths(asking: bool, message: Spelled) -> bool {
+pub(crate) fn lengths(asking: bool, message: Spelled) -> Said {
     let bytes = message.bytes;
     let found = over_lengths(asking, &bytes);
     match found {
-        Span::Nothing => say::text(b" none"),
-        Span::Of { first, last } => say::range(first as u64, last as u64),
-        Span::Broken => say::text(b" broken"),
+        Span::Nothing => Said::nothing().text(b" none"),
+        Span::Of { first, last } => Said::nothing().range(first as u64, last as u64),
+        Span::Broken => Said::nothing().text(b" broken"),
     }
-    true
 }
 
 fn over_lengths(asking: bool, msg: &[u8]) -> Span {

@@ -1,10 +1,10 @@
 // FWVersion1 to FWVersion4 (001 T5-6, T5-18).
-use script::say;
+use saying::Said;
 use wire::request::Versions;
 
-pub(crate) fn print(v: Versions) {
-    say::number(v.first as u64);
-    say::number(v.second as u64);
-    say::number(v.third as u64);
-    say::number(v.fourth as u64);
+pub(crate) fn add(said: Said, v: Versions) -> Said {
+    said.number(v.first as u64)
+        .number(v.second as u64)
+        .number(v.third as u64)
+        .number(v.fourth as u64)
 }

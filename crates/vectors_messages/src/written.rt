@@ -1,15 +1,13 @@
 // A message that was made, as it goes into a lent buffer.
-use script::hex;
-use script::say;
+use saying::Said;
 use writing::Message;
 use writing::Sent;
 
 // The buffer is full of EE, so that a byte which is not written shows. What is not built is written as nothing.
-pub(crate) fn print(message: Message) {
+pub(crate) fn add(said: Said, message: Message) -> Said {
     let mut buffer = [0xEEu8; 22];
     let n = put(message, &mut buffer);
-    say::text(b" :");
-    hex::shown(script::upto(&buffer, n));
+    said.text(b" :").shown(script::upto(&buffer, n))
 }
 
 fn put(message: Message, out: &mut [u8]) -> usize {

@@ -6,10 +6,10 @@ use Rattle.vectors_messages.proofs.sweep.over_values.Statement.{stateme
 use Rattle.vectors_messages.proofs.sweep.over_values.Tie as tie
 
 abbrev Inv-loop : tie.InvT-loop
-Inv-loop asking at bytes₀ len any₀ value₀ bytes any value = length bytes ≡ 320
+Inv-loop asking at bytes₀ len said₀ value₀ bytes said value = length bytes ≡ 320
 
 abbrev μ-loop : tie.MeasureT-loop
-μ-loop asking at bytes₀ len any₀ value₀ bytes any value = 256 - value
+μ-loop asking at bytes₀ len said₀ value₀ bytes said value = 256 - value
 
 pub over-values-spec : {M : Type 1} → statement M
 over-values-spec =
@@ -17,6 +17,7 @@ over-values-spec =
     (tie.spec
     Inv-loop
     μ-loop
+    (λ c κs. search needs)
     (λ c. search needs)
     (λ c. search needs)
     (λ c. search needs)

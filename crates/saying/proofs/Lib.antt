@@ -1,0 +1,4 @@
+pub mod Pieces
+pub mod Decimals
+pub mod Texts
+pub mod Unique

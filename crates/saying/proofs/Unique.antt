@@ -1,0 +1,76 @@
+-- Each public contract leaves one answer and one state of the lent memory. Written from the contracts by tools/contracts.
+use Prim.Native.Nat.{ℕ}
+use mathlib.Core.List.{List}
+use mathlib.Core.Path.{_≡_}
+use Rattle.basis.specs.Only.{only}
+use Rattle.saying.specs.Decimal.{numberOf, rangeOf}
+use Rattle.saying.specs.Hex.{byteOf, wideOf, allOf, shownOf}
+use Rattle.saying.specs.Look.{lookOf}
+use Rattle.saying.specs.Said.{nothing, notUnderstood, textOf, linesOf}
+use Rattle.saying.specs.declared.said.Said.{Said}
+
+pub one-number : (self : Said) (n : ℕ) (r r′ : Said)
+    → r ≡ numberOf self n
+    → r′ ≡ numberOf self n
+    → r ≡ r′
+one-number self n r r′ is is′ = only is is′
+
+pub one-range : (self : Said) (first last : ℕ) (r r′ : Said)
+    → r ≡ rangeOf self first last
+    → r′ ≡ rangeOf self first last
+    → r ≡ r′
+one-range self first last r r′ is is′ = only is is′
+
+pub one-hex : (self : Said) (b : ℕ) (r r′ : Said)
+    → r ≡ byteOf self b
+    → r′ ≡ byteOf self b
+    → r ≡ r′
+one-hex self b r r′ is is′ = only is is′
+
+pub one-wide : (self : Said) (n : ℕ) (r r′ : Said)
+    → r ≡ wideOf self n
+    → r′ ≡ wideOf self n
+    → r ≡ r′
+one-wide self n r r′ is is′ = only is is′
+
+pub one-all : (self : Said) (s : List ℕ) (r r′ : Said)
+    → r ≡ allOf self s
+    → r′ ≡ allOf self s
+    → r ≡ r′
+one-all self s r r′ is is′ = only is is′
+
+pub one-shown : (self : Said) (s : List ℕ) (r r′ : Said)
+    → r ≡ shownOf self s
+    → r′ ≡ shownOf self s
+    → r ≡ r′
+one-shown self s r r′ is is′ = only is is′
+
+pub one-look : (words memory : List ℕ) (r r′ : Said)
+    → r ≡ lookOf words memory
+    → r′ ≡ lookOf words memory
+    → r ≡ r′
+one-look words memory r r′ is is′ = only is is′
+
+pub one-nothing : (r r′ : Said)
+    → r ≡ nothing
+    → r′ ≡ nothing
+    → r ≡ r′
+one-nothing r r′ is is′ = only is is′
+
+pub one-not-understood : (r r′ : Said)
+    → r ≡ notUnderstood
+    → r′ ≡ notUnderstood
+    → r ≡ r′
+one-not-understood r r′ is is′ = only is is′
+
+pub one-text : (self : Said) (s : List ℕ) (r r′ : Said)
+    → r ≡ textOf self s
+    → r′ ≡ textOf self s
+    → r ≡ r′
+one-text self s r r′ is is′ = only is is′
+
+pub one-lines : (self : Said) (s : List ℕ) (r r′ : Said)
+    → r ≡ linesOf self s
+    → r′ ≡ linesOf self s
+    → r ≡ r′
+one-lines self s r r′ is is′ = only is is′

@@ -1,0 +1,42 @@
+use Prim.Native.Nat.{_-_, _≤_}
+use mathlib.Core.Path.{_≡_, refl, sym, _∙_}
+use mathlib.Core.List.{foldl}
+use denote.Ref.{now}
+use lib.ListN.{length, drop}
+use Rattle.saying.specs.Said.{characterOf, linesOf}
+use Rattle.script.proofs.Steps.{steps-more, steps-all}
+use borrow.Author.Needs.{needs}
+use Rattle.basis.specs.Pick.{tests, pick-no}
+use borrow.Author.Tests.{ne-eqb}
+use Rattle.saying.proofs.said.Said.lines.Statement.{statement}
+use Rattle.saying.proofs.said.Said.lines.Tie as tie
+
+abbrev Inv-loop : tie.InvT-loop
+Inv-loop s said₀ i₀ said i = (i ≤ length s) × (foldl characterOf said (drop i s) ≡ foldl characterOf said₀ s)
+
+abbrev μ-loop : tie.MeasureT-loop
+μ-loop s said₀ i₀ said i = length s - i
+
+pub lines-spec : {M : Type 1} → statement M
+unfolding linesOf
+lines-spec =
+    tie.close
+    (tie.spec
+    Inv-loop
+    μ-loop
+    (λ c. search needs)
+    (λ c κs. search needs)
+    (λ c. rw (c .text .ensures) (search tests))
+    (λ c. search needs)
+    (λ c κs. search needs)
+    (λ c. (search needs, refl))
+    (λ c. search needs)
+    (λ c κs. search needs)
+    (λ c. search needs)
+    (λ c. search needs)
+    (λ c. let l = c .before .before .before in let a = l .before .before .before .before .before .args in (search needs, steps-more characterOf (now (a .s)) (l .loop .i) (l .loop .said) _ (c .before .before .loop-test .taken) (c .character .ensures) ∙ l .loop .inv .1))
+    (λ c.
+    let l = c .before in
+    let a = l .before .before .before .before .before .args in
+    let said = sym (steps-all characterOf (now (a .s)) (l .loop .i) (l .loop .said) (c .loop-test .left)) ∙ l .loop .inv .1 in
+    rw (said, l .before .text2 .ensures) (search tests)))

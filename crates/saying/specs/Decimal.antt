@@ -1,0 +1,26 @@
+-- Numbers in decimal, with no zero in front.
+use Prim.Native.Nat.{ℕ, zero, suc, _/_, _%_}
+use mathlib.Core.List.{List, [], _∷_}
+use lib.Dec.{eqb}
+use Rattle.basis.specs.Pick.{pick}
+use Rattle.printing.specs.Digits.{figure}
+use Rattle.saying.specs.Said.{space, hyphen, textOf}
+use Rattle.saying.specs.declared.said.Said.{Said}
+
+-- The number's digits in front of what stands there: at most so many, and none for 0.
+unfoldable pub frontOf : ℕ → ℕ → List ℕ → List ℕ
+frontOf zero n behind = behind
+frontOf (suc k) n behind = pick (eqb n 0) behind (frontOf k (n / 10) (figure (n % 10) ∷ behind))
+
+-- A number of 64 bits has at most 20. The last one is there for 0 too.
+abbrev pub decimalOf : ℕ → List ℕ
+decimalOf n = frontOf 19 (n / 10) (figure (n % 10) ∷ [])
+
+abbrev pub numberOf : Said → ℕ → Said
+numberOf t n = textOf (textOf t (space ∷ [])) (decimalOf n)
+
+-- One number where both are the same.
+unfoldable pub rangeOf : Said → ℕ → ℕ → Said
+rangeOf t first last =
+    pick (eqb first last) (numberOf t first)
+    (textOf (textOf (numberOf t first) (hyphen ∷ [])) (decimalOf last))

@@ -1,0 +1,4 @@
+pub mod Said
+pub mod Hex
+pub mod Decimal
+pub mod Look
