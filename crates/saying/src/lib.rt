@@ -6,5 +6,4 @@ mod memory;
 mod said;
 
 pub use memory::look;
-pub use said::ROOM;
 pub use said::Said;

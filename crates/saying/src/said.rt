@@ -1,10 +1,10 @@
 // The text behind a line. Each piece has its space in front.
+use lent::Placed;
 ghost use mathlib.Core.Path.{_≡_};
 ghost use Rattle.saying.specs.Said.{nothing, notUnderstood, textOf, linesOf, characterOf};
-use lent::Placed;
 
 // More than the longest text, that of a replay: 4,000 bytes of lines and what stands around them.
-pub const ROOM: usize = 4096;
+const ROOM: usize = 4096;
 
 // The text stands at the start of the array.
 pub struct Said {
