@@ -1,4 +1,4 @@
--- Whatever arrives, is lost or comes again, and whatever time passes, both ends stay those of a session over a line.
+-- Whatever arrives, is lost or comes again, both ends stay those of a session over a line.
 use Prim.Native.Nat.{ℕ, _<_}
 use mathlib.Core.Bool.{Bool, true, false}
 use mathlib.Core.Logic.{inl, inr, ⊎-elim}
@@ -17,32 +17,31 @@ use Rattle.receiver_state.specs.declared.phase.Phase.{Phase}
 use Rattle.receiver_state.specs.declared.verdict.Verdict.the-variants.{Good}
 use Rattle.receiver_rules.specs.Request.{requestOf}
 use Rattle.receiver_rules.specs.Respond.{bytesOf as receiverBytesOf}
-use Rattle.receiver_rules.specs.Time.{timeOf as receiverTimeOf}
 use Rattle.receiver_state.specs.declared.session.Outcome.{Outcome as ReceiverOutcome}
 use Rattle.receiver_rules.proofs.Written as receiver
 use Rattle.indoor_state.specs.declared.phase.Phase.the-variants.{Done}
 use Rattle.indoor_rules.specs.Response.{responseOf}
 use Rattle.indoor_rules.specs.Send.{bytesOf as indoorBytesOf}
-use Rattle.indoor_rules.specs.Time.{timeOf as indoorTimeOf}
 use Rattle.indoor_state.specs.declared.session.Outcome.{Outcome as IndoorOutcome}
 use Rattle.indoor_rules.proofs.Written as indoor
-use Rattle.line.specs.Line.{Reached, toReceiver, toIndoor, atReceiver, atIndoor}
+use Rattle.line.specs.Line.{Reached, toReceiver, toIndoor}
 use Rattle.line.proofs.Demand3.{demand3}
-use Rattle.lossy.specs.declared.way.Way.{Way}
-use Rattle.lossy.specs.declared.luck.Luck.{Luck}
-use Rattle.lossy.specs.declared.luck.Going.{Going}
-use Rattle.lossy.specs.declared.luck.Fate.{Fate}
-use Rattle.lossy.specs.declared.luck.Fate.the-variants.{Missing, Arrives}
+use Rattle.luck.specs.declared.way.Way.{Way}
+use Rattle.luck.specs.declared.luck.Luck.{Luck}
+use Rattle.luck.specs.declared.luck.Going.{Going}
+use Rattle.luck.specs.declared.luck.Fate.{Fate}
+use Rattle.luck.specs.declared.luck.Fate.the-variants.{Missing, Arrives}
+use Rattle.luck.specs.declared.went.Missed.{Missed}
 use Rattle.lossy.specs.declared.ends.Ends.{Ends}
 use Rattle.lossy.specs.declared.carry_call.Carried.{Carried}
-use Rattle.lossy.specs.declared.pass_call.Passed.{Passed}
 use Rattle.lossy.specs.Both.{Both, both}
-use Rattle.lossy.specs.Way.{way, nothing, messageOf, risesOf, nextOf, behindOf, afterOf}
-use Rattle.lossy.specs.Luck.{fateOf, goesOf}
-use Rattle.lossy.specs.Ends.{ends, losesOf}
-use Rattle.lossy.specs.Called.{aboveOf, belowOf}
+use Rattle.luck.specs.Way.{way, nothing, messageOf, risesOf, nextOf, behindOf, afterOf}
+use Rattle.luck.specs.Luck.{fateOf, goesOf}
+use Rattle.luck.specs.Went.{missedOf}
+use Rattle.lossy_ends.specs.Roof.{arrivesOf as requestArrives}
+use Rattle.lossy_ends.specs.Indoors.{arrivesOf as responseArrives}
+use Rattle.lossy.specs.Ends.{ends}
 use Rattle.lossy.specs.Carry.{missOf, askOf, tellOf, goOf, carryOf}
-use Rattle.lossy.specs.Pass.{passOf}
 use Rattle.lossy.specs.Over.{world, OnItsWay, Over, Same}
 
 abbrev going : Luck → Bool → Way → Fate → Going
@@ -102,7 +101,7 @@ module _ (file : List ℕ) (e : Ends) (image up down : List ℕ) (o : Over file 
   }
 
   -- The receiver has written what its answer says, and so has the indoor end.
-  above-goes : (rising : Way) → OnItsWay rising up (o .requests) → (x : ReceiverOutcome) (image′ down′ : List ℕ) → receiver.Leads (e .receiver) down x down′
+  pub above-goes : (rising : Way) → OnItsWay rising up (o .requests) → (x : ReceiverOutcome) (image′ down′ : List ℕ) → receiver.Leads (e .receiver) down x down′
       → Reached file (o .memory) (o .release) (o .identity)
       (world (ends (x .state) (e .indoor) rising (afterOf (e .down) (x .written))) image′ (o .requests) (withSent (x .written) down′ (o .responses)))
       → Over file (ends (x .state) (e .indoor) rising (afterOf (e .down) (x .written))) image′ up down′
@@ -110,7 +109,7 @@ module _ (file : List ℕ) (e : Ends) (image up down : List ℕ) (o : Over file 
       goes-on (ends (x .state) (e .indoor) rising (afterOf (e .down) (x .written))) image′ up down′ (o .requests) (withSent (x .written) down′ (o .responses)) reached on
       (after (e .down) down (o .responses) (o .falling) (receiverBytesOf (e .receiver) (x .answer)) down′ (x .written) (l .first) (l .written))
 
-  below-goes : (falling : Way) → OnItsWay falling down (o .responses) → (x : Left IndoorOutcome) → indoor.Leads (e .indoor .plan) file up x
+  pub below-goes : (falling : Way) → OnItsWay falling down (o .responses) → (x : Left IndoorOutcome) → indoor.Leads (e .indoor .plan) file up x
       → Reached file (o .memory) (o .release) (o .identity)
       (world (ends (e .receiver) (x .answer .state) (afterOf (e .up) (x .answer .written)) falling) image (withSent (x .answer .written) (x .memory) (o .requests)) (o .responses))
       → Over file (ends (e .receiver) (x .answer .state) (afterOf (e .up) (x .answer .written)) falling) image (x .memory) down
@@ -125,6 +124,7 @@ module _ (file : List ℕ) (e : Ends) (image up down : List ℕ) (o : Over file 
 
   -- The request on its way has arrived.
   ask-over : (luck : Luck) (fate : Fate) (stays : Bool) → 0 < e .up .bytes → OverCarried (askOf e (going luck true (e .up) fate) stays image up down)
+  unfolding requestArrives
   ask-over luck fate stays some =
       let request = messageOf (e .up) up in
       let x = requestOf (e .receiver) image request 0 Good down in
@@ -134,6 +134,7 @@ module _ (file : List ℕ) (e : Ends) (image up down : List ℕ) (o : Over file 
 
   -- The response on its way has arrived.
   tell-over : (luck : Luck) (fate : Fate) (stays : Bool) → 0 < e .down .bytes → OverCarried (left (tellOf e (going luck false (e .down) fate) stays file up down) image)
+  unfolding responseArrives
   tell-over luck fate stays some =
       let response = messageOf (e .down) down in
       let x = responseOf (e .indoor) file response up in
@@ -150,19 +151,22 @@ module _ (file : List ℕ) (e : Ends) (image up down : List ℕ) (o : Over file 
   arrive-over luck fate true stays some = ask-over luck fate stays some
   arrive-over luck fate false stays some = tell-over luck fate stays some
 
-  -- A message is lost.
-  lost-over : (rises : Bool) → Over file (losesOf e rises) image up down
-  unfolding pick
-  lost-over true = goes-on (ends (e .receiver) (e .indoor) nothing (e .down)) image up down (o .requests) (o .responses) (o .reached) (inl refl) (o .falling)
-  lost-over false = goes-on (ends (e .receiver) (e .indoor) (e .up) nothing) image up down (o .requests) (o .responses) (o .reached) (o .rising) (inl refl)
+  -- Nothing was on its way, or it is lost.
+  abbrev OverMissed : Missed → Type 0
+  OverMissed m = Over file (ends (e .receiver) (e .indoor) (m .up) (m .down)) image up down
 
-  miss-over : (g : Going) → Over file (missOf e g .ends) image up down
-  unfolding missOf
-  miss-over g = pick-all (λ (r : Carried). Over file (r .ends) image up down) (eqb (g .way .bytes) 0) _ _ (λ _. o) (λ _. lost-over (g .rises))
+  stays-over : (up′ down′ : Way) → OnItsWay up′ up (o .requests) → OnItsWay down′ down (o .responses) → Over file (ends (e .receiver) (e .indoor) up′ down′) image up down
+  stays-over up′ down′ = goes-on (ends (e .receiver) (e .indoor) up′ down′) image up down (o .requests) (o .responses) (o .reached)
+
+  miss-over : (g : Going) → OverMissed (missedOf g (e .up) (e .down))
+  unfolding missedOf
+  miss-over g =
+      pick-all OverMissed (eqb (g .way .bytes) 0) _ _ (λ _. stays-over (e .up) (e .down) (o .rising) (o .falling))
+      (λ _. pick-all OverMissed (g .rises) _ _ (λ _. stays-over nothing (e .down) (inl refl) (o .falling)) (λ _. stays-over (e .up) nothing (o .rising) (inl refl)))
 
   go-over : (luck : Luck) (then fate : Fate) (rises : Bool) → ((stays : Bool) → fate ≡ Arrives stays → 0 < next rises .bytes)
       → OverCarried (goOf fate e (going luck rises (next rises) then) file image up down)
-  unfolding goOf
+  unfolding goOf missOf
   go-over luck then Missing rises some = miss-over (going luck rises (next rises) then)
   go-over luck then (Arrives stays) rises some = arrive-over luck then rises stays (some stays refl)
 
@@ -172,27 +176,9 @@ module _ (file : List ℕ) (e : Ends) (image up down : List ℕ) (o : Over file 
       let rises = risesOf (e .up) (e .down) in
       subst OverCarried (sym did) (go-over _ _ (fateOf luck (next rises)) rises (fate-some luck (next rises)))
 
-  -- Time has passed on the roof, and indoors.
-  roof-over : (elapsed : ℕ) → Over file (aboveOf e (e .up) (receiverTimeOf (e .receiver) elapsed down .answer)) image up (receiverTimeOf (e .receiver) elapsed down .memory)
-  roof-over elapsed =
-      let x = receiverTimeOf (e .receiver) elapsed down in
-      above-goes (e .up) (o .rising) (x .answer) image (x .memory) (receiver.time-leads (e .receiver) elapsed down) (atReceiver (o .reached) elapsed down)
-
-  indoors-over : (elapsed : ℕ) → Over file (belowOf e (e .down) (indoorTimeOf (e .indoor) file elapsed up .answer)) image (indoorTimeOf (e .indoor) file elapsed up .memory) down
-  indoors-over elapsed =
-      let x = indoorTimeOf (e .indoor) file elapsed up in
-      below-goes (e .down) (o .falling) x (indoor.time-leads (e .indoor) file elapsed up) (atIndoor (o .reached) file (inl refl) elapsed up)
-
   -- Demand 3: when the indoor end reports done, the receiver's image is the file.
   pub done-holds : e .indoor .stand .phase ≡ Done → Same file e image
   done-holds done =
       let d = demand3 file (o .memory) (o .release) (o .identity) (o .wide) in
       let g = d .doneIsGood (world e image (o .requests) (o .responses)) (o .reached) done in
       (ap (λ (p : Phase). acceptedOf p .bytes) (g .good) ∙ g .holds .counted, g .holds .bytes)
-
-pub pass-over : (file : List ℕ) (e : Ends) (image up down : List ℕ) → Over file e image up down
-    → (elapsed : ℕ) (r : Passed) (up′ down′ : List ℕ) → both r up′ down′ ≡ passOf e elapsed file up down → Over file (r .ends) image up′ down′
-pass-over file e image up down o elapsed r up′ down′ did =
-    let x = receiverTimeOf (e .receiver) elapsed down in
-    subst (λ (b : Both Passed). Over file (b .answer .ends) image (b .up) (b .down)) (sym did)
-    (indoors-over file (aboveOf e (e .up) (x .answer)) image up (x .memory) (roof-over file e image up down o elapsed) elapsed)

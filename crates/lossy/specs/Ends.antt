@@ -1,15 +1,17 @@
 -- Both ends, with what is on its way between them.
-use mathlib.Core.Bool.{Bool}
-use Rattle.basis.specs.Pick.{pick}
 use Rattle.receiver_state.specs.declared.session.Receiver.{Receiver}
 use Rattle.indoor_state.specs.declared.session.Indoor.{Indoor}
-use Rattle.lossy.specs.Way.{nothing}
-use Rattle.lossy.specs.declared.way.Way.{Way}
+use Rattle.luck.specs.declared.way.Way.{Way}
+use Rattle.lossy_ends.specs.declared.roof.Roof.{Roof}
+use Rattle.lossy_ends.specs.declared.indoors.Indoors.{Indoors}
 use Rattle.lossy.specs.declared.ends.Ends.{Ends}
 
 abbrev pub ends : Receiver → Indoor → Way → Way → Ends
 ends receiver indoor up down = record { receiver = receiver; indoor = indoor; up = up; down = down }
 
--- The message that went is lost.
-abbrev pub losesOf : Ends → Bool → Ends
-losesOf e rises = pick rises (ends (e .receiver) (e .indoor) nothing (e .down)) (ends (e .receiver) (e .indoor) (e .up) nothing)
+-- The receiver was called, or the indoor end; what is on its way to it is then as told.
+abbrev pub roofEnds : Ends → Way → Roof → Ends
+roofEnds e rising x = ends (x .receiver) (e .indoor) rising (x .down)
+
+abbrev pub indoorEnds : Ends → Way → Indoors → Ends
+indoorEnds e falling x = ends (e .receiver) (x .indoor) (x .up) falling

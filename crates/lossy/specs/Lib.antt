@@ -1,10 +1,4 @@
 pub mod Both
-pub mod Way
-pub mod Luck
 pub mod Ends
-pub mod Called
-pub mod Start
 pub mod Carry
-pub mod Pass
-pub mod Judge
 pub mod Over

@@ -8,8 +8,8 @@ use Rattle.wire.specs.declared.response.Identity.{Identity}
 use Rattle.receiver_state.specs.Phase.{acceptedOf}
 use Rattle.indoor_state.specs.declared.plan.Release.{Release}
 use Rattle.line.specs.Line.{World, Wide, Reached}
-use Rattle.lossy.specs.Way.{messageOf}
-use Rattle.lossy.specs.declared.way.Way.{Way}
+use Rattle.luck.specs.Way.{messageOf}
+use Rattle.luck.specs.declared.way.Way.{Way}
 use Rattle.lossy.specs.declared.ends.Ends.{Ends}
 
 abbrev pub world : Ends → List ℕ → List (List ℕ) → List (List ℕ) → World

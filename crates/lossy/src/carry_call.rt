@@ -1,26 +1,17 @@
 // One message goes: it arrives at its end, or it is lost.
-use crate::called::Answered;
-use crate::called::answers;
 use crate::ends::Ends;
-use crate::luck::Fate;
-use crate::luck::Going;
-use crate::luck::Luck;
-use crate::way::Way;
-use indoor_state::session::Outcome as Below;
-use receiver_state::session::Outcome as Above;
-use receiver_state::verdict::Verdict;
+use indoor_state::session::Indoor;
+use luck::Fate;
+use luck::Going;
+use luck::Luck;
+use luck::Way;
+use luck::Went;
+use receiver_state::session::Receiver;
 ghost use mathlib.Core.Path.{_≡_};
 ghost use Rattle.basis.specs.Left.{left};
 ghost use Rattle.lossy.specs.Both.{both};
-ghost use Rattle.lossy.specs.Ends.{losesOf};
-ghost use Rattle.lossy.specs.Carry.{carried, carryOf, missOf, askOf, roseOf, tellOf, fellOf};
-ghost use Rattle.lossy.specs.declared.carry_call.Went.the-variants.{Lost};
-
-pub enum Went {
-    Nothing,
-    Lost,
-    Arrived(Answered),
-}
+ghost use Rattle.lossy.specs.Ends.{ends as endsOf};
+ghost use Rattle.lossy.specs.Carry.{carried, carryOf, missOf, askOf, tellOf};
 
 // `rises` says whether it is the request that went, `way` which part of its buffer that was, and `luck` is what the next message goes by.
 pub struct Carried {
@@ -42,9 +33,7 @@ pub fn carry(
 ) -> Carried
     ensures { λ r. ⌜ left (both r (now (up .exit)) (now (down .exit))) (now (image .exit)) ≡ carryOf ends luck (now (file .entry)) (now (image .entry)) (now (up .entry)) (now (down .entry)) ⌝ }
 {
-    let rising = ends.up;
-    let falling = ends.down;
-    let going = luck.goes(rising, falling);
+    let going = luck.goes(ends.up, ends.down);
     let fate = going.fate;
     let Fate::Arrives { stays } = fate else {
         return miss(ends, going);
@@ -55,29 +44,22 @@ pub fn carry(
     tell(ends, going, stays, file, up, down)
 }
 
-// Nothing was on its way, or it is lost.
 fn miss(ends: Ends, going: Going) -> Carried
     ensures { λ r. ⌜ r ≡ missOf ends going ⌝ }
 {
-    let way = going.way;
-    if way.bytes == 0 {
-        return made(ends, going, Went::Nothing);
-    }
-    lose(ends, going)
+    let missed = going.missed(ends.up, ends.down);
+    let went = missed.went;
+    made(
+        ends.receiver,
+        ends.indoor,
+        missed.up,
+        missed.down,
+        going,
+        went,
+    )
 }
 
-fn lose(mut ends: Ends, going: Going) -> Carried
-    ensures { λ r. ⌜ r ≡ carried (losesOf ends (going .rises)) going Lost ⌝ }
-{
-    if going.rises {
-        ends.up = Way::nothing();
-        return made(ends, going, Went::Lost);
-    }
-    ends.down = Way::nothing();
-    made(ends, going, Went::Lost)
-}
-
-// Every signature is taken for good: the verdict is handed to us (01, The receiver's phases).
+// The request arrives.
 fn ask(
     ends: Ends,
     going: Going,
@@ -88,66 +70,48 @@ fn ask(
 ) -> Carried
     ensures { λ r. ⌜ left (both r (now (up .entry)) (now (down .exit))) (now (image .exit)) ≡ askOf ends going stays (now (image .entry)) (now (up .entry)) (now (down .entry)) ⌝ }
 {
-    let receiver = ends.receiver;
     let way = going.way;
-    let heard = receiver::request(receiver, image, way.message(up), 0, Verdict::Good, down);
-    rose(ends, going, stays, heard)
-}
-
-// The request has arrived.
-fn rose(mut ends: Ends, going: Going, stays: bool, heard: Above) -> Carried
-    ensures { λ r. ⌜ r ≡ roseOf ends going stays heard ⌝ }
-{
-    let way = going.way;
-    let falling = ends.down;
-    let receiver = heard.state;
-    let answer = heard.answer;
-    let number = receiver_decide::answer_number(answer);
-    ends.receiver = receiver;
-    ends.up = way.behind(stays);
-    ends.down = falling.after(heard.written);
+    let roof = lossy_ends::request(ends.receiver, way, ends.down, image, up, down);
+    let answered = roof.answered;
     made(
-        ends,
+        roof.receiver,
+        ends.indoor,
+        way.behind(stays),
+        roof.down,
         going,
-        Went::Arrived(answers(number, falling, heard.written)),
+        Went::Arrived(answered),
     )
 }
 
+// The response arrives.
 fn tell(ends: Ends, going: Going, stays: bool, file: &[u8], up: &mut [u8], down: &[u8]) -> Carried
     ensures { λ r. ⌜ both r (now (up .exit)) (now (down .entry)) ≡ tellOf ends going stays (now (file .entry)) (now (up .entry)) (now (down .entry)) ⌝ }
 {
-    let indoor = ends.indoor;
     let way = going.way;
-    let heard = indoor::response(indoor, file, way.message(down), up);
-    fell(ends, going, stays, heard)
-}
-
-// The response has arrived.
-fn fell(mut ends: Ends, going: Going, stays: bool, heard: Below) -> Carried
-    ensures { λ r. ⌜ r ≡ fellOf ends going stays heard ⌝ }
-{
-    let way = going.way;
-    let rising = ends.up;
-    let indoor = heard.state;
-    let answer = heard.answer;
-    let number = indoor_decide::answer_number(answer);
-    ends.indoor = indoor;
-    ends.up = rising.after(heard.written);
-    ends.down = way.behind(stays);
+    let indoors = lossy_ends::response(ends.indoor, way, ends.up, file, up, down);
+    let answered = indoors.answered;
     made(
-        ends,
+        ends.receiver,
+        indoors.indoor,
+        indoors.up,
+        way.behind(stays),
         going,
-        Went::Arrived(answers(number, rising, heard.written)),
+        Went::Arrived(answered),
     )
 }
 
-fn made(ends: Ends, going: Going, went: Went) -> Carried
-    ensures { λ r. ⌜ r ≡ carried ends going went ⌝ }
+fn made(receiver: Receiver, indoor: Indoor, up: Way, down: Way, going: Going, went: Went) -> Carried
+    ensures { λ r. ⌜ r ≡ carried (endsOf receiver indoor up down) going went ⌝ }
 {
     let luck = going.luck;
     let way = going.way;
     Carried {
-        ends,
+        ends: Ends {
+            receiver,
+            indoor,
+            up,
+            down,
+        },
         luck,
         rises: going.rises,
         way,

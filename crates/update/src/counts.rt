@@ -1,8 +1,8 @@
 // How many messages were sent, lost, repeated and replaced.
-use lossy::Answered;
 use lossy::Carried;
-use lossy::Passed;
-use lossy::Went;
+use lossy_session::Passed;
+use luck::Answered;
+use luck::Went;
 
 // `pushed` counts those whose place a newer one has taken before they arrived.
 pub(crate) struct Counts {

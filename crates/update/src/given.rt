@@ -1,6 +1,6 @@
 // What the program was started with.
-use lossy::Luck;
-use lossy::Odds;
+use luck::Luck;
+use luck::Odds;
 
 const WORD: usize = 16;
 

@@ -7,14 +7,14 @@ use crate::turn;
 use indoor_state::phase::Phase;
 use indoor_state::phase::Reason;
 use lossy::Ends;
-use lossy::Judged;
+use lossy_session::Judged;
 use receiver_state::session::Receiver;
 use receiver_state::sum::Summed;
 ghost use mathlib.Core.Bool.{true};
 ghost use mathlib.Core.Path.{_≡_};
 ghost use Prim.Native.Nat.{_≤_};
 ghost use Rattle.indoor_state.specs.declared.phase.Phase.the-variants.{Done};
-ghost use Rattle.lossy.specs.Judge.{doneOf};
+ghost use Rattle.lossy_session.specs.Judge.{doneOf};
 ghost use Rattle.lossy.specs.Over.{Same};
 
 // A start was refused with this number (01, Numbers we answer).
@@ -55,7 +55,7 @@ fn judge(ends: Ends, file: &[u8], image: &[u8]) -> Judged
     ensures { λ r. ⌜ (Same (now (file .entry)) ends (now (image .entry)) → r .same ≡ true) ⌝ }
     ensures { λ r. ⌜ (r .done ≡ true → r .same ≡ true) ⌝ }
 {
-    lossy::judge(ends, file, image)
+    lossy_session::judge(ends, file, image)
 }
 
 fn outcome(ends: Ends, judged: Judged) -> bool {

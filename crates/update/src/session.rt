@@ -6,9 +6,9 @@ use crate::turn;
 use crate::view::View;
 use indoor_state::plan::Release;
 use lossy::Ends;
-use lossy::Limits;
-use lossy::Luck;
-use lossy::Started;
+use lossy_session::Limits;
+use lossy_session::Started;
+use luck::Luck;
 use wire::codes;
 use wire::response::Identity;
 ghost use mathlib.Core.Path.{_≡_};
@@ -100,7 +100,15 @@ pub(crate) fn start(
         silence: INDOORS_LIMIT,
         resends: RESENDS,
     };
-    let started = lossy::start(roof, indoors, identity, release, file, image.len(), &mut up);
+    let started = lossy_session::start(
+        roof,
+        indoors,
+        identity,
+        release,
+        file,
+        image.len(),
+        &mut up,
+    );
     match started {
         Started::Made(ends) => begin(ends, seed, quiet, file, image, &mut up, &mut down),
         Started::Refused(number) => report::refused(number),

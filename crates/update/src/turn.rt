@@ -5,12 +5,12 @@ use crate::stands;
 use crate::view;
 use crate::view::View;
 use crate::words;
-use lossy::Answered;
 use lossy::Carried;
 use lossy::Ends;
-use lossy::Luck;
-use lossy::Passed;
-use lossy::Went;
+use lossy_session::Passed;
+use luck::Answered;
+use luck::Luck;
+use luck::Went;
 ghost use mathlib.Core.Path.{_≡_};
 ghost use Prim.Native.Nat.{_≤_};
 ghost use Rattle.lossy.specs.Over.{Over};
@@ -48,7 +48,7 @@ pub(crate) fn step(
     let carried = lossy::carry(ends, luck, file, image, up, down);
     let untold = message(carried, view, up, down);
     let between = carried.ends;
-    let passed = lossy::pass(between, TICK, file, up, down);
+    let passed = lossy_session::pass(between, TICK, file, up, down);
     told(carried, passed, counts, view, untold)
 }
 

@@ -15,4 +15,4 @@ ask-spec =
     (λ c. search needs)
     (λ c. search needs)
     (λ c. let a = c .before .before .before .before .before .before .before .before .before .before .before .before .before .before .args in
-    rw (c .rose .ensures, ← (c .before .before .before .before .before .before .before .message .ensures)) (ap (askedOf (a .ends) (a .going) (a .stays) (now (a .up))) (c .before .before .before .before .before .request .ensures))))
+    rw (c .made .ensures, c .before .behind .ensures) (ap (askedOf (a .ends) (a .going) (a .stays) (now (a .up))) (c .before .before .before .before .before .before .before .request .ensures))))

@@ -27,4 +27,4 @@ carry-spec =
     (λ c κs. search needs)
     (λ c. search needs)
     (λ c. search needs)
-    (λ c. let a = c .before .before .before .before .before .before .before .before .before .before .before .before .before .before .before .before .args in rw (← (c .before .before .before .before .before .before .before .before .before .goes .ensures), c .before .before .before .before .before .before .before .fate .given .1) (ap (λ (b : Both Carried). left b (now (a .image))) (c .before .before .tell .ensures) ∙ sym (pick-no _ _ _ (c .before .before .before .before .before .if1 .left)))))
+    (λ c. let a = c .before .before .before .before .before .before .before .before .before .before .before .before .before .before .args in rw (← (c .before .before .before .before .before .before .before .before .before .goes .ensures), c .before .before .before .before .before .before .before .fate .given .1) (ap (λ (b : Both Carried). left b (now (a .image))) (c .before .before .tell .ensures) ∙ sym (pick-no _ _ _ (c .before .before .before .before .before .if1 .left)))))

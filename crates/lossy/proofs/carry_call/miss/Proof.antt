@@ -1,4 +1,3 @@
-use Rattle.basis.specs.Pick.{tests}
 use Rattle.lossy.specs.Carry.{missOf}
 use borrow.Author.Needs.{needs}
 use Rattle.lossy.proofs.carry_call.miss.Statement.{statement}
@@ -10,6 +9,5 @@ miss-spec =
     tie.close
     (tie.spec
     (λ c κs. search needs)
-    (λ c. search (c .made .ensures, tests))
     (λ c κs. search needs)
-    (λ c. search (c .lose .ensures, tests)))
+    (λ c. rw (c .made .ensures, c .before .missed .ensures)))

@@ -14,4 +14,4 @@ tell-spec =
     (λ c κs. search needs)
     (λ c. search needs)
     (λ c. let a = c .before .before .before .before .before .before .before .before .before .before .before .args in
-    rw (c .fell .ensures, ← (c .before .before .before .before .before .message .ensures)) (ap (toldOf (a .ends) (a .going) (a .stays) (now (a .down))) (c .before .before .before .response .ensures))))
+    rw (c .made .ensures, c .before .behind .ensures) (ap (toldOf (a .ends) (a .going) (a .stays) (now (a .down))) (c .before .before .before .before .before .response .ensures))))

@@ -1,6 +1,6 @@
 use mathlib.Core.Path.{refl}
 use denote.Ref.{now}
-use Rattle.lossy.proofs.Judges.{judge-same, same-judge, judge-done}
+use Rattle.lossy_session.proofs.Judges.{judge-same, same-judge, judge-done}
 use borrow.Author.Needs.{needs}
 use Rattle.update.proofs.report.judge.Statement.{statement}
 use Rattle.update.proofs.report.judge.Tie as tie

@@ -1,6 +1,6 @@
 use denote.Ref.{now}
 use Rattle.line.proofs.Widths.{values-wide}
-use Rattle.lossy.proofs.Starts.{start-over}
+use Rattle.lossy_session.proofs.Starts.{start-over}
 use borrow.Author.Needs.{needs}
 use Rattle.update.proofs.session.start.Statement.{statement}
 use Rattle.update.proofs.session.start.Tie as tie

@@ -1,5 +1,6 @@
 use native.Mathlib.Omega.{arith}
-use Rattle.lossy.proofs.Arrives.{carry-over, pass-over}
+use Rattle.lossy.proofs.Arrives.{carry-over}
+use Rattle.lossy_session.proofs.Passes.{pass-over}
 use borrow.Author.Needs.{needs}
 use Rattle.update.proofs.turn.step.Statement.{statement}
 use Rattle.update.proofs.turn.step.Tie as tie

@@ -1,0 +1,12 @@
+use borrow.Author.Needs.{needs}
+use Rattle.lossy_ends.proofs.roof.called.Statement.{statement}
+use Rattle.lossy_ends.proofs.roof.called.Tie as tie
+
+pub called-spec : {M : Type 1} → statement M
+called-spec =
+    tie.close
+    (tie.spec
+    (λ c κs. search needs)
+    (λ c κs. search needs)
+    (λ c κs. search needs)
+    (λ c. rw (c .answers .ensures, c .before .after .ensures, c .before .before .answer-number .ensures)))

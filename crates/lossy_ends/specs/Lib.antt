@@ -1,0 +1,2 @@
+pub mod Roof
+pub mod Indoors

@@ -1,0 +1,4 @@
+pub mod Starts
+pub mod Passes
+pub mod Judges
+pub mod Unique

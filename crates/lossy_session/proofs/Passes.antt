@@ -1,0 +1,42 @@
+-- Whatever time passes, both ends stay those of a session over a line.
+use Prim.Native.Nat.{ℕ}
+use mathlib.Core.Logic.{inl}
+use mathlib.Core.Path.{_≡_, refl, sym, subst}
+use mathlib.Core.List.{List}
+use Rattle.receiver_rules.specs.Time.{timeOf as receiverTimeOf}
+use Rattle.receiver_rules.proofs.Written as receiver
+use Rattle.indoor_rules.specs.Time.{timeOf as indoorTimeOf}
+use Rattle.indoor_rules.proofs.Written as indoor
+use Rattle.line.specs.Line.{atReceiver, atIndoor}
+use Rattle.lossy_ends.specs.Roof.{passesOf as roofPasses}
+use Rattle.lossy_ends.specs.Indoors.{passesOf as indoorPasses}
+use Rattle.lossy.specs.Both.{Both, both}
+use Rattle.lossy.specs.Ends.{roofEnds, indoorEnds}
+use Rattle.lossy.specs.Over.{Over}
+use Rattle.lossy.specs.declared.ends.Ends.{Ends}
+use Rattle.lossy.proofs.Arrives.{above-goes, below-goes}
+use Rattle.lossy_session.specs.Pass.{passOf}
+use Rattle.lossy_session.specs.declared.pass_call.Passed.{Passed}
+
+module _ (file : List ℕ) (e : Ends) (image up down : List ℕ) (o : Over file e image up down) where
+  roof-over : (elapsed : ℕ)
+      → Over file (roofEnds e (e .up) (roofPasses (e .receiver) elapsed (e .down) down .answer)) image up (roofPasses (e .receiver) elapsed (e .down) down .memory)
+  unfolding roofPasses
+  roof-over elapsed =
+      let x = receiverTimeOf (e .receiver) elapsed down in
+      above-goes file e image up down o (e .up) (o .rising) (x .answer) image (x .memory) (receiver.time-leads (e .receiver) elapsed down) (atReceiver (o .reached) elapsed down)
+
+  indoors-over : (elapsed : ℕ)
+      → Over file (indoorEnds e (e .down) (indoorPasses (e .indoor) elapsed (e .up) file up .answer)) image (indoorPasses (e .indoor) elapsed (e .up) file up .memory) down
+  unfolding indoorPasses
+  indoors-over elapsed =
+      let x = indoorTimeOf (e .indoor) file elapsed up in
+      below-goes file e image up down o (e .down) (o .falling) x (indoor.time-leads (e .indoor) file elapsed up) (atIndoor (o .reached) file (inl refl) elapsed up)
+
+pub pass-over : (file : List ℕ) (e : Ends) (image up down : List ℕ) → Over file e image up down
+    → (elapsed : ℕ) (r : Passed) (up′ down′ : List ℕ) → both r up′ down′ ≡ passOf e elapsed file up down → Over file (r .ends) image up′ down′
+unfolding passOf
+pass-over file e image up down o elapsed r up′ down′ did =
+    let x = roofPasses (e .receiver) elapsed (e .down) down in
+    subst (λ (b : Both Passed). Over file (b .answer .ends) image (b .up) (b .down)) (sym did)
+    (indoors-over file (roofEnds e (e .up) (x .answer)) image up (x .memory) (roof-over file e image up down o elapsed) elapsed)

@@ -1,0 +1,19 @@
+use Rattle.lossy_session.specs.Pass.{passOf}
+use Rattle.basis.specs.Left.{answers, leaves}
+use borrow.Author.Needs.{needs}
+use Rattle.lossy_session.proofs.pass_call.pass.Statement.{statement}
+use Rattle.lossy_session.proofs.pass_call.pass.Tie as tie
+
+pub pass-spec : {M : Type 1} → statement M
+unfolding passOf
+pass-spec =
+    tie.close
+    (tie.spec
+    (λ c κs. search needs)
+    (λ c κs. search needs)
+    (λ c κs. search needs)
+    (λ c. search needs)
+    (λ c. search needs)
+    (λ c. let first = c .before .before .before .before .before .before .before .roof-time .ensures in
+    let second = c .before .before .before .indoor-time .ensures in
+    rw (c .outcome .ensures, answers second, leaves second, answers first, leaves first)))

@@ -1,0 +1,14 @@
+use mathlib.Core.Path.{ap}
+use Rattle.lossy_session.specs.Start.{begunOf}
+use borrow.Author.Needs.{needs}
+use Rattle.lossy_session.proofs.start_call.begin.Statement.{statement}
+use Rattle.lossy_session.proofs.start_call.begin.Tie as tie
+
+pub begin-spec : {M : Type 1} → statement M
+begin-spec =
+    tie.close
+    (tie.spec
+    (λ c κs. search needs)
+    (λ c κs. search needs)
+    (λ c. search needs)
+    (λ c. let a = c .before .before .before .before .before .before .before .args in rw (c .joined .ensures) (ap (begunOf (a .receiver)) (c .before .before .before .start .ensures))))

@@ -1,0 +1,18 @@
+use Rattle.lossy_session.specs.Start.{madeOf}
+use borrow.Author.Needs.{needs}
+use Rattle.lossy_session.proofs.start_call.start.Statement.{statement}
+use Rattle.lossy_session.proofs.start_call.start.Tie as tie
+
+pub start-spec : {M : Type 1} → statement M
+unfolding madeOf
+start-spec =
+    tie.close
+    (tie.spec
+    (λ c κs. search needs)
+    (λ c κs. search needs)
+    (λ c. search needs)
+    (λ c. search needs)
+    (λ c. rw (c .before .before .started-number .ensures, ← (c .before .before .before .start .ensures), c .enum-told .given .1))
+    (λ c κs. search needs)
+    (λ c. search needs)
+    (λ c. rw (← (c .before .before .before .before .before .before .before .before .start .ensures), c .before .before .before .before .before .made .given .1) (c .before .before .begin .ensures)))

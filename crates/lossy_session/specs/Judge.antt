@@ -1,0 +1,37 @@
+-- What may be told of a session.
+use Prim.Native.Nat.{ℕ}
+use mathlib.Core.Bool.{Bool, true, false}
+use mathlib.Core.List.{List, [], _∷_}
+use lib.Dec.{eqb}
+use lib.ListN.{length, take}
+use Rattle.basis.specs.Pick.{pick}
+use Rattle.receiver_state.specs.Phase.{acceptedOf}
+use Rattle.indoor_state.specs.declared.phase.Phase.{Phase}
+use Rattle.indoor_state.specs.declared.phase.Phase.the-variants.{Identify, Initiate, Transfer, Validate, Done, Failed}
+use Rattle.lossy.specs.declared.ends.Ends.{Ends}
+use Rattle.lossy_session.specs.declared.judge_call.Judged.{Judged}
+
+-- The indoor end reports done.
+abbrev pub doneOf : Phase → Bool
+doneOf Identify = false
+doneOf (Initiate wait) = false
+doneOf (Transfer p) = false
+doneOf (Validate wait) = false
+doneOf Done = true
+doneOf (Failed reason) = false
+
+unfoldable pub equalOf : List ℕ → List ℕ → Bool
+equalOf [] [] = true
+equalOf [] (y ∷ b) = false
+equalOf (x ∷ a) [] = false
+equalOf (x ∷ a) (y ∷ b) = pick (eqb x y) (equalOf a b) false
+
+-- As many bytes were accepted as the file has, and they are the file's.
+unfoldable pub sameOf : ℕ → List ℕ → List ℕ → Bool
+sameOf accepted image file = pick (eqb accepted (length file)) (equalOf (take (length file) image) file) false
+
+abbrev pub judgeOf : Ends → List ℕ → List ℕ → Judged
+judgeOf e file image = record {
+  done = doneOf (e .indoor .stand .phase);
+  same = sameOf (acceptedOf (e .receiver .phase) .bytes) image file;
+}

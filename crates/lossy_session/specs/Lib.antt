@@ -1,0 +1,3 @@
+pub mod Start
+pub mod Pass
+pub mod Judge

@@ -1,0 +1,20 @@
+-- So many milliseconds pass on the roof and indoors.
+use Prim.Native.Nat.{ℕ}
+use mathlib.Core.List.{List}
+use Rattle.lossy_ends.specs.Roof.{passesOf as roofPasses}
+use Rattle.lossy_ends.specs.Indoors.{passesOf as indoorPasses}
+use Rattle.lossy_ends.specs.declared.roof.Roof.{Roof}
+use Rattle.lossy_ends.specs.declared.indoors.Indoors.{Indoors}
+use Rattle.lossy.specs.Both.{Both, both}
+use Rattle.lossy.specs.Ends.{ends}
+use Rattle.lossy.specs.declared.ends.Ends.{Ends}
+use Rattle.lossy_session.specs.declared.pass_call.Passed.{Passed}
+
+abbrev pub passedOf : Roof → Indoors → Passed
+passedOf x y = record { ends = ends (x .receiver) (y .indoor) (y .up) (x .down); above = x .answered; below = y .answered }
+
+unfoldable pub passOf : Ends → ℕ → List ℕ → List ℕ → List ℕ → Both Passed
+passOf e elapsed file up down =
+    let x = roofPasses (e .receiver) elapsed (e .down) down in
+    let y = indoorPasses (e .indoor) elapsed (e .up) file up in
+    both (passedOf (x .answer) (y .answer)) (y .memory) (x .memory)

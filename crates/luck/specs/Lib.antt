@@ -1,0 +1,4 @@
+pub mod Way
+pub mod Luck
+pub mod Called
+pub mod Went

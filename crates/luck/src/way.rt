@@ -1,0 +1,95 @@
+// A message on its way, one way: how many bytes of its buffer it takes, 0 for none, and whether it has arrived before.
+ghost use mathlib.Core.Path.{_≡_};
+ghost use Rattle.luck.specs.Way.{nothing, sentOf, messageOf, risesOf, nextOf, behindOf, afterOf, pushedOf};
+
+pub struct Way {
+    pub bytes: usize,
+    pub again: bool,
+}
+
+impl Way {
+    pub(crate) fn nothing() -> Way
+        ensures { λ r. ⌜ r ≡ nothing ⌝ }
+    {
+        Way::sent(0)
+    }
+
+    // A message of so many bytes that was just sent; with 0 bytes nothing was.
+    pub fn sent(bytes: usize) -> Way
+        ensures { λ r. ⌜ r ≡ sentOf bytes ⌝ }
+    {
+        Way {
+            bytes,
+            again: false,
+        }
+    }
+
+    // The message in its buffer: the whole of one that is shorter than the message is said to be.
+    pub fn message(self, buffer: &[u8]) -> &[u8]
+        ensures { λ r. ⌜ now r ≡ messageOf self (now (buffer .entry)) ⌝ }
+    {
+        let n = self.bytes;
+        if buffer.len() < n {
+            return buffer;
+        }
+        &buffer[..n]
+    }
+
+    // The request goes next: alone, or if it comes again. Otherwise it is the response's turn.
+    pub(crate) fn rises(self, falling: Way) -> bool
+        ensures { λ r. ⌜ r ≡ risesOf self falling ⌝ }
+    {
+        if self.bytes == 0 {
+            return false;
+        }
+        if falling.bytes == 0 {
+            return true;
+        }
+        self.again
+    }
+
+    pub(crate) fn next(self, falling: Way, rises: bool) -> Way
+        ensures { λ r. ⌜ r ≡ nextOf self falling rises ⌝ }
+    {
+        if rises {
+            return self;
+        }
+        falling
+    }
+
+    // What is on its way behind a message that went: the message itself once more, or nothing.
+    pub fn behind(self, stays: bool) -> Way
+        ensures { λ r. ⌜ r ≡ behindOf self stays ⌝ }
+    {
+        if stays {
+            return Way {
+                bytes: self.bytes,
+                again: true,
+            };
+        }
+        Way::nothing()
+    }
+
+    // What is on its way after a call that has written so many bytes.
+    pub fn after(self, written: usize) -> Way
+        ensures { λ r. ⌜ r ≡ afterOf self written ⌝ }
+    {
+        if written == 0 {
+            return self;
+        }
+        Way::sent(written)
+    }
+
+    // Whether such a call has put its message in the place of one that has never arrived.
+    pub(crate) fn pushed(self, written: usize) -> bool
+        ensures { λ r. ⌜ r ≡ pushedOf self written ⌝ }
+    {
+        if written == 0 {
+            return false;
+        }
+        if self.again {
+            return false;
+        }
+        0 < self.bytes
+    }
+}
