@@ -1,48 +1,38 @@
 -- Whatever arrives, is lost or comes again, both ends stay those of a session over a line.
 use Prim.Native.Nat.{ℕ, _<_}
 use mathlib.Core.Bool.{Bool, true, false}
-use mathlib.Core.Logic.{inl, inr, ⊎-elim}
-use mathlib.Core.Path.{_≡_, refl, sym, _∙_, ap, subst}
-use mathlib.Core.List.{List, [], _∷_, List·Memᴰ, List·Memᴰ·head}
+use mathlib.Core.Logic.{inl, ⊎-elim}
+use mathlib.Core.Path.{_≡_, refl, sym, subst}
+use mathlib.Core.List.{List, List·Memᴰ}
 use native.Mathlib.Omega.{arith}
-use borrow.Author.Tests.{eqb-true, eqb-false}
+use borrow.Author.Tests.{eqb-false}
 use lib.Dec.{eqb}
-use lib.ListN.{length, take}
 use Rattle.basis.specs.Pick.{pick, pick-all}
 use Rattle.basis.specs.Left.{Left, left}
-use Rattle.lent.specs.Led.{led}
-use Rattle.lent.specs.Sent.{withSent}
-use Rattle.receiver_state.specs.Phase.{acceptedOf}
-use Rattle.receiver_state.specs.declared.phase.Phase.{Phase}
 use Rattle.receiver_state.specs.declared.verdict.Verdict.the-variants.{Good}
 use Rattle.receiver_rules.specs.Request.{requestOf}
-use Rattle.receiver_rules.specs.Respond.{bytesOf as receiverBytesOf}
-use Rattle.receiver_state.specs.declared.session.Outcome.{Outcome as ReceiverOutcome}
 use Rattle.receiver_rules.proofs.Written as receiver
-use Rattle.indoor_state.specs.declared.phase.Phase.the-variants.{Done}
 use Rattle.indoor_rules.specs.Response.{responseOf}
-use Rattle.indoor_rules.specs.Send.{bytesOf as indoorBytesOf}
-use Rattle.indoor_state.specs.declared.session.Outcome.{Outcome as IndoorOutcome}
 use Rattle.indoor_rules.proofs.Written as indoor
-use Rattle.line.specs.Line.{Reached, toReceiver, toIndoor}
-use Rattle.line.proofs.Demand3.{demand3}
+use Rattle.line.specs.Line.{toReceiver, toIndoor}
 use Rattle.luck.specs.declared.way.Way.{Way}
 use Rattle.luck.specs.declared.luck.Luck.{Luck}
 use Rattle.luck.specs.declared.luck.Going.{Going}
 use Rattle.luck.specs.declared.luck.Fate.{Fate}
 use Rattle.luck.specs.declared.luck.Fate.the-variants.{Missing, Arrives}
 use Rattle.luck.specs.declared.went.Missed.{Missed}
-use Rattle.lossy.specs.declared.ends.Ends.{Ends}
+use Rattle.lossy_ends.specs.declared.ends.Ends.{Ends}
 use Rattle.lossy.specs.declared.carry_call.Carried.{Carried}
-use Rattle.lossy.specs.Both.{Both, both}
-use Rattle.luck.specs.Way.{way, nothing, messageOf, risesOf, nextOf, behindOf, afterOf}
+use Rattle.lossy_ends.specs.Both.{Both, both}
+use Rattle.luck.specs.Way.{way, nothing, messageOf, risesOf, nextOf, behindOf}
 use Rattle.luck.specs.Luck.{fateOf, goesOf}
 use Rattle.luck.specs.Went.{missedOf}
 use Rattle.lossy_ends.specs.Roof.{arrivesOf as requestArrives}
 use Rattle.lossy_ends.specs.Indoors.{arrivesOf as responseArrives}
-use Rattle.lossy.specs.Ends.{ends}
+use Rattle.lossy_ends.specs.Ends.{ends}
 use Rattle.lossy.specs.Carry.{missOf, askOf, tellOf, goOf, carryOf}
-use Rattle.lossy.specs.Over.{world, OnItsWay, Over, Same}
+use Rattle.lossy_ends.specs.Over.{OnItsWay, Over}
+use Rattle.lossy_ends.proofs.Stays.{goes-on, above-goes, below-goes}
 
 abbrev going : Luck → Bool → Way → Fate → Going
 going luck rises w fate = record { luck = luck; rises = rises; way = w; fate = fate }
@@ -68,57 +58,7 @@ fate-some l w stays =
     (λ _ e. absurd (missing-arrives stays e))
     (λ f _. let some = eqb-false (w .bytes) 0 f in omega arith)
 
-module _ (w : Way) (out : List ℕ) (sent : List (List ℕ)) (o : OnItsWay w out sent) (bytes out′ : List ℕ) (written : ℕ)
-    (first : out′ ≡ led bytes out) (count : written ≡ length bytes) where
-  unwritten : (s : List ℕ) → out′ ≡ led s out → written ≡ length s → written ≡ 0 → out′ ≡ out
-  unwritten [] f n z = f
-  unwritten (x ∷ s) f n z = absurd (omega (arith, n, z))
-
-  after-by : (t : Bool) → eqb written 0 ≡ t → OnItsWay (pick t w (way written false)) out′ (pick t sent (take written out′ ∷ sent))
-  unfolding pick
-  after-by true t = subst (λ (l : List ℕ). OnItsWay w l sent) (sym (unwritten bytes first count (eqb-true written 0 t))) o
-  after-by false t = inr (List·Memᴰ·head refl)
-
-  -- What a call wrote is on its way; where it wrote nothing, what was on its way is so still.
-  after : OnItsWay (afterOf w written) out′ (withSent written out′ sent)
-  after = after-by (eqb written 0) refl
-
 module _ (file : List ℕ) (e : Ends) (image up down : List ℕ) (o : Over file e image up down) where
-  -- The session goes on with these ends and what they sent.
-  goes-on : (e′ : Ends) (image′ up′ down′ : List ℕ) (requests responses : List (List ℕ))
-      → Reached file (o .memory) (o .release) (o .identity) (world e′ image′ requests responses)
-      → OnItsWay (e′ .up) up′ requests → OnItsWay (e′ .down) down′ responses → Over file e′ image′ up′ down′
-  goes-on e′ image′ up′ down′ requests responses reached rising falling = record {
-    memory = o .memory;
-    release = o .release;
-    identity = o .identity;
-    wide = o .wide;
-    requests = requests;
-    responses = responses;
-    reached = reached;
-    rising = rising;
-    falling = falling;
-  }
-
-  -- The receiver has written what its answer says, and so has the indoor end.
-  pub above-goes : (rising : Way) → OnItsWay rising up (o .requests) → (x : ReceiverOutcome) (image′ down′ : List ℕ) → receiver.Leads (e .receiver) down x down′
-      → Reached file (o .memory) (o .release) (o .identity)
-      (world (ends (x .state) (e .indoor) rising (afterOf (e .down) (x .written))) image′ (o .requests) (withSent (x .written) down′ (o .responses)))
-      → Over file (ends (x .state) (e .indoor) rising (afterOf (e .down) (x .written))) image′ up down′
-  above-goes rising on x image′ down′ l reached =
-      goes-on (ends (x .state) (e .indoor) rising (afterOf (e .down) (x .written))) image′ up down′ (o .requests) (withSent (x .written) down′ (o .responses)) reached on
-      (after (e .down) down (o .responses) (o .falling) (receiverBytesOf (e .receiver) (x .answer)) down′ (x .written) (l .first) (l .written))
-
-  pub below-goes : (falling : Way) → OnItsWay falling down (o .responses) → (x : Left IndoorOutcome) → indoor.Leads (e .indoor .plan) file up x
-      → Reached file (o .memory) (o .release) (o .identity)
-      (world (ends (e .receiver) (x .answer .state) (afterOf (e .up) (x .answer .written)) falling) image (withSent (x .answer .written) (x .memory) (o .requests)) (o .responses))
-      → Over file (ends (e .receiver) (x .answer .state) (afterOf (e .up) (x .answer .written)) falling) image (x .memory) down
-  below-goes falling on x l reached =
-      goes-on (ends (e .receiver) (x .answer .state) (afterOf (e .up) (x .answer .written)) falling) image (x .memory) down
-      (withSent (x .answer .written) (x .memory) (o .requests)) (o .responses) reached
-      (after (e .up) up (o .requests) (o .rising) (indoorBytesOf (e .indoor .plan) file (x .answer .answer)) (x .memory) (x .answer .written) (l .first) (l .written))
-      on
-
   abbrev OverCarried : Left (Both Carried) → Type 0
   OverCarried x = Over file (x .answer .answer .ends) (x .memory) (x .answer .up) (x .answer .down)
 
@@ -128,7 +68,7 @@ module _ (file : List ℕ) (e : Ends) (image up down : List ℕ) (o : Over file 
   ask-over luck fate stays some =
       let request = messageOf (e .up) up in
       let x = requestOf (e .receiver) image request 0 Good down in
-      above-goes (behindOf (e .up) stays) (behind (e .up) up (o .requests) stays (o .rising)) (x .outcome) (x .image) (x .out)
+      above-goes file e image up down o (behindOf (e .up) stays) (behind (e .up) up (o .requests) stays (o .rising)) (x .outcome) (x .image) (x .out)
       (receiver.request-leads (e .receiver) image request 0 Good down)
       (toReceiver (o .reached) request (arrived (e .up) up (o .requests) (o .rising) some) image (inl refl) 0 Good down)
 
@@ -138,7 +78,7 @@ module _ (file : List ℕ) (e : Ends) (image up down : List ℕ) (o : Over file 
   tell-over luck fate stays some =
       let response = messageOf (e .down) down in
       let x = responseOf (e .indoor) file response up in
-      below-goes (behindOf (e .down) stays) (behind (e .down) down (o .responses) stays (o .falling)) x
+      below-goes file e image up down o (behindOf (e .down) stays) (behind (e .down) down (o .responses) stays (o .falling)) x
       (indoor.response-leads (e .indoor) file response up)
       (toIndoor (o .reached) response (arrived (e .down) down (o .responses) (o .falling) some) file (inl refl) up)
 
@@ -156,7 +96,7 @@ module _ (file : List ℕ) (e : Ends) (image up down : List ℕ) (o : Over file 
   OverMissed m = Over file (ends (e .receiver) (e .indoor) (m .up) (m .down)) image up down
 
   stays-over : (up′ down′ : Way) → OnItsWay up′ up (o .requests) → OnItsWay down′ down (o .responses) → Over file (ends (e .receiver) (e .indoor) up′ down′) image up down
-  stays-over up′ down′ = goes-on (ends (e .receiver) (e .indoor) up′ down′) image up down (o .requests) (o .responses) (o .reached)
+  stays-over up′ down′ = goes-on file e image up down o (ends (e .receiver) (e .indoor) up′ down′) image up down (o .requests) (o .responses) (o .reached)
 
   miss-over : (g : Going) → OverMissed (missedOf g (e .up) (e .down))
   unfolding missedOf
@@ -175,10 +115,3 @@ module _ (file : List ℕ) (e : Ends) (image up down : List ℕ) (o : Over file 
   carry-over luck r image′ up′ down′ did =
       let rises = risesOf (e .up) (e .down) in
       subst OverCarried (sym did) (go-over _ _ (fateOf luck (next rises)) rises (fate-some luck (next rises)))
-
-  -- Demand 3: when the indoor end reports done, the receiver's image is the file.
-  pub done-holds : e .indoor .stand .phase ≡ Done → Same file e image
-  done-holds done =
-      let d = demand3 file (o .memory) (o .release) (o .identity) (o .wide) in
-      let g = d .doneIsGood (world e image (o .requests) (o .responses)) (o .reached) done in
-      (ap (λ (p : Phase). acceptedOf p .bytes) (g .good) ∙ g .holds .counted, g .holds .bytes)

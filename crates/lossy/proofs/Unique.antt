@@ -4,10 +4,10 @@ use mathlib.Core.List.{List}
 use mathlib.Core.Path.{_≡_}
 use Rattle.basis.specs.Left.{left}
 use Rattle.basis.specs.Only.{only}
-use Rattle.lossy.specs.Both.{both}
+use Rattle.lossy_ends.specs.Both.{both}
+use Rattle.lossy_ends.specs.declared.ends.Ends.{Ends}
 use Rattle.lossy.specs.Carry.{carryOf}
 use Rattle.lossy.specs.declared.carry_call.Carried.{Carried}
-use Rattle.lossy.specs.declared.ends.Ends.{Ends}
 use Rattle.luck.specs.declared.luck.Luck.{Luck}
 
 pub one-carry : (ends : Ends) (luck : Luck) (file image up down : List ℕ) (r r′ : Carried) (image-left image-left′ up-left up-left′ down-left down-left′ : List ℕ)

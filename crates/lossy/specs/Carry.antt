@@ -4,14 +4,14 @@ use mathlib.Core.Bool.{Bool}
 use mathlib.Core.List.{List}
 use Rattle.basis.specs.Pick.{pick}
 use Rattle.basis.specs.Left.{Left, left}
-use Rattle.lossy.specs.Both.{Both, both}
+use Rattle.lossy_ends.specs.Both.{Both, both}
 use Rattle.luck.specs.Way.{behindOf}
 use Rattle.luck.specs.Luck.{goesOf}
 use Rattle.lossy_ends.specs.Roof.{arrivesOf as requestArrives}
 use Rattle.lossy_ends.specs.Indoors.{arrivesOf as responseArrives}
 use Rattle.lossy_ends.specs.declared.roof.Roof.{Roof}
 use Rattle.lossy_ends.specs.declared.indoors.Indoors.{Indoors}
-use Rattle.lossy.specs.Ends.{ends, roofEnds, indoorEnds}
+use Rattle.lossy_ends.specs.Ends.{ends, roofEnds, indoorEnds}
 use Rattle.luck.specs.Went.{missedOf}
 use Rattle.luck.specs.declared.went.Went.{Went}
 use Rattle.luck.specs.declared.went.Went.the-variants.{Arrived}
@@ -19,7 +19,7 @@ use Rattle.luck.specs.declared.luck.Luck.{Luck}
 use Rattle.luck.specs.declared.luck.Going.{Going}
 use Rattle.luck.specs.declared.luck.Fate.{Fate}
 use Rattle.luck.specs.declared.luck.Fate.the-variants.{Missing, Arrives}
-use Rattle.lossy.specs.declared.ends.Ends.{Ends}
+use Rattle.lossy_ends.specs.declared.ends.Ends.{Ends}
 use Rattle.lossy.specs.declared.carry_call.Carried.{Carried}
 
 abbrev pub carried : Ends → Going → Went → Carried

@@ -1,4 +1,1 @@
-pub mod Both
-pub mod Ends
 pub mod Carry
-pub mod Over

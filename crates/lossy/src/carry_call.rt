@@ -1,6 +1,6 @@
 // One message goes: it arrives at its end, or it is lost.
-use crate::ends::Ends;
 use indoor_state::session::Indoor;
+use lossy_ends::Ends;
 use luck::Fate;
 use luck::Going;
 use luck::Luck;
@@ -9,8 +9,8 @@ use luck::Went;
 use receiver_state::session::Receiver;
 ghost use mathlib.Core.Path.{_≡_};
 ghost use Rattle.basis.specs.Left.{left};
-ghost use Rattle.lossy.specs.Both.{both};
-ghost use Rattle.lossy.specs.Ends.{ends as endsOf};
+ghost use Rattle.lossy_ends.specs.Both.{both};
+ghost use Rattle.lossy_ends.specs.Ends.{ends as endsOf};
 ghost use Rattle.lossy.specs.Carry.{carried, carryOf, missOf, askOf, tellOf};
 
 // `rises` says whether it is the request that went, `way` which part of its buffer that was, and `luck` is what the next message goes by.

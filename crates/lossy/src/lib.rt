@@ -1,7 +1,5 @@
 // A line that loses and repeats messages by a seed, with both ends on it: one message goes, and arrives or is lost.
 mod carry_call;
-mod ends;
 
 pub use carry_call::Carried;
 pub use carry_call::carry;
-pub use ends::Ends;

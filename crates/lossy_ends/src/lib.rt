@@ -1,7 +1,10 @@
-// One end on a line that loses and repeats: a message arrives at it or time passes there, and what it sends goes on its way.
+// Both ends on a line that loses and repeats, of which one is called at a time: a message arrives at it or time passes there, and what it
+// sends goes on its way.
+mod ends;
 mod indoors;
 mod roof;
 
+pub use ends::Ends;
 pub use indoors::Indoors;
 pub use indoors::indoor_time;
 pub use indoors::response;

@@ -10,10 +10,10 @@ use Rattle.basis.specs.Pick.{pick-yes, pick-both}
 use Rattle.receiver_state.specs.Phase.{acceptedOf}
 use Rattle.indoor_state.specs.declared.phase.Phase.{Phase}
 use Rattle.indoor_state.specs.declared.phase.Phase.the-variants.{Identify, Initiate, Transfer, Validate, Done, Failed}
-use Rattle.lossy.specs.declared.ends.Ends.{Ends}
+use Rattle.lossy_ends.specs.declared.ends.Ends.{Ends}
 use Rattle.lossy_session.specs.Judge.{doneOf, equalOf, sameOf, judgeOf}
-use Rattle.lossy.specs.Over.{Over, Same}
-use Rattle.lossy.proofs.Arrives.{done-holds}
+use Rattle.lossy_ends.specs.Over.{Over, Same}
+use Rattle.lossy_ends.proofs.Stays.{done-holds}
 
 equal-true : (a b : List ℕ) → equalOf a b ≡ true → a ≡ b
 unfolding equalOf

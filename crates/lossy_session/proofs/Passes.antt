@@ -10,11 +10,11 @@ use Rattle.indoor_rules.proofs.Written as indoor
 use Rattle.line.specs.Line.{atReceiver, atIndoor}
 use Rattle.lossy_ends.specs.Roof.{passesOf as roofPasses}
 use Rattle.lossy_ends.specs.Indoors.{passesOf as indoorPasses}
-use Rattle.lossy.specs.Both.{Both, both}
-use Rattle.lossy.specs.Ends.{roofEnds, indoorEnds}
-use Rattle.lossy.specs.Over.{Over}
-use Rattle.lossy.specs.declared.ends.Ends.{Ends}
-use Rattle.lossy.proofs.Arrives.{above-goes, below-goes}
+use Rattle.lossy_ends.specs.Both.{Both, both}
+use Rattle.lossy_ends.specs.Ends.{roofEnds, indoorEnds}
+use Rattle.lossy_ends.specs.Over.{Over}
+use Rattle.lossy_ends.specs.declared.ends.Ends.{Ends}
+use Rattle.lossy_ends.proofs.Stays.{above-goes, below-goes}
 use Rattle.lossy_session.specs.Pass.{passOf}
 use Rattle.lossy_session.specs.declared.pass_call.Passed.{Passed}
 

@@ -20,13 +20,13 @@ use Rattle.indoor_state.specs.declared.plan.Release.{Release}
 use Rattle.indoor_state.specs.declared.session.Started as Ind
 use Rattle.indoor_state.specs.declared.session.Started.the-variants as IndStarted
 use Rattle.line.specs.Line.{Wide, begins}
-use Rattle.lossy.specs.declared.ends.Ends.{Ends}
+use Rattle.lossy_ends.specs.declared.ends.Ends.{Ends}
 use Rattle.lossy_session.specs.declared.start_call.Limits.{Limits}
 use Rattle.lossy_session.specs.declared.start_call.Started.the-variants.{Made, Refused}
 use Rattle.luck.specs.Way.{nothing, sentOf}
-use Rattle.lossy.specs.Ends.{ends}
+use Rattle.lossy_ends.specs.Ends.{ends}
 use Rattle.lossy_session.specs.Start.{joinedOf, madeOf, startOf}
-use Rattle.lossy.specs.Over.{world, Over}
+use Rattle.lossy_ends.specs.Over.{world, Over}
 
 -- A start that was refused has the number of its refusal.
 pub not-made : (r : Receiver) (x : Ind.Started) → OneOf (1 ∷ 2 ∷ 3 ∷ []) (tagOf the-type x) → Refused (numberOf x) ≡ joinedOf r x

@@ -5,8 +5,8 @@ use mathlib.Core.Path.{_≡_}
 use Rattle.basis.specs.Left.{left}
 use Rattle.basis.specs.Only.{only}
 use Rattle.indoor_state.specs.declared.plan.Release.{Release}
-use Rattle.lossy.specs.Both.{both}
-use Rattle.lossy.specs.declared.ends.Ends.{Ends}
+use Rattle.lossy_ends.specs.Both.{both}
+use Rattle.lossy_ends.specs.declared.ends.Ends.{Ends}
 use Rattle.lossy_session.specs.Judge.{judgeOf}
 use Rattle.lossy_session.specs.Pass.{passOf}
 use Rattle.lossy_session.specs.Start.{startOf}

@@ -8,7 +8,7 @@ use Rattle.basis.specs.Pick.{pick}
 use Rattle.receiver_state.specs.Phase.{acceptedOf}
 use Rattle.indoor_state.specs.declared.phase.Phase.{Phase}
 use Rattle.indoor_state.specs.declared.phase.Phase.the-variants.{Identify, Initiate, Transfer, Validate, Done, Failed}
-use Rattle.lossy.specs.declared.ends.Ends.{Ends}
+use Rattle.lossy_ends.specs.declared.ends.Ends.{Ends}
 use Rattle.lossy_session.specs.declared.judge_call.Judged.{Judged}
 
 -- The indoor end reports done.

@@ -5,9 +5,9 @@ use Rattle.lossy_ends.specs.Roof.{passesOf as roofPasses}
 use Rattle.lossy_ends.specs.Indoors.{passesOf as indoorPasses}
 use Rattle.lossy_ends.specs.declared.roof.Roof.{Roof}
 use Rattle.lossy_ends.specs.declared.indoors.Indoors.{Indoors}
-use Rattle.lossy.specs.Both.{Both, both}
-use Rattle.lossy.specs.Ends.{ends}
-use Rattle.lossy.specs.declared.ends.Ends.{Ends}
+use Rattle.lossy_ends.specs.Both.{Both, both}
+use Rattle.lossy_ends.specs.Ends.{ends}
+use Rattle.lossy_ends.specs.declared.ends.Ends.{Ends}
 use Rattle.lossy_session.specs.declared.pass_call.Passed.{Passed}
 
 abbrev pub passedOf : Roof → Indoors → Passed

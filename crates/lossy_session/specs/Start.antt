@@ -12,7 +12,7 @@ use Rattle.indoor_state.specs.declared.plan.Release.{Release}
 use Rattle.indoor_state.specs.declared.session.Started as Ind
 use Rattle.indoor_state.specs.declared.session.Started.the-variants as IndStarted
 use Rattle.luck.specs.Way.{nothing, sentOf}
-use Rattle.lossy.specs.Ends.{ends}
+use Rattle.lossy_ends.specs.Ends.{ends}
 use Rattle.lossy_session.specs.declared.start_call.Limits.{Limits}
 use Rattle.lossy_session.specs.declared.start_call.Started.{Started}
 use Rattle.lossy_session.specs.declared.start_call.Started.the-variants.{Made, Refused}

@@ -1,6 +1,6 @@
 // Whether the session is done, and whether the image is the file.
 use indoor_state::phase::Phase;
-use lossy::Ends;
+use lossy_ends::Ends;
 use receiver_state::session::Receiver;
 ghost use mathlib.Core.Path.{_≡_};
 ghost use Rattle.receiver_state.specs.Phase.{acceptedOf};

@@ -1,10 +1,10 @@
 // Time passes at both ends: first on the roof, then indoors.
-use lossy::Ends;
+use lossy_ends::Ends;
 use lossy_ends::Indoors;
 use lossy_ends::Roof;
 use luck::Answered;
 ghost use mathlib.Core.Path.{_≡_};
-ghost use Rattle.lossy.specs.Both.{both};
+ghost use Rattle.lossy_ends.specs.Both.{both};
 ghost use Rattle.lossy_session.specs.Pass.{passedOf, passOf};
 
 pub struct Passed {

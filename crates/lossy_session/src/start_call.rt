@@ -1,7 +1,7 @@
 // Both starts. The receiver's comes first, and the indoor end's writes the first request.
 use indoor_state::plan::Release;
 use indoor_state::session::Started as Begun;
-use lossy::Ends;
+use lossy_ends::Ends;
 use luck::Way;
 use receiver_state::session::Receiver;
 use receiver_state::session::Started as Made;

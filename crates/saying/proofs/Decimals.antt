@@ -1,5 +1,5 @@
 -- A turn of the loop that spells a number from its last digit on, and its end.
-use Prim.Native.Nat.{ℕ, zero, suc, _+_, _*_, _/_, _%_, _^_, _<_, _≤_}
+use Prim.Native.Nat.{ℕ, zero, suc, _+_, _*_, _/_, _%_, _^_, _<_}
 use mathlib.Core.List.{List, _∷_}
 use mathlib.Core.Path.{_≡_, refl, sym, subst, _∙_, ap}
 use native.Mathlib.Nat.{pow-suc, div-lt-iff-lt-mul}
@@ -7,7 +7,7 @@ use native.Mathlib.Numerals.{add-one}
 use native.Mathlib.Omega.{arith}
 use borrow.Author.Tests.{eq-eqb, ne-eqb}
 use lib.Dec.{eqb}
-use lib.ListN.{length, set, take, drop, length-take}
+use lib.ListN.{length, set, take, drop}
 use lib.Seq.{set-split, drop-at, length-take-le}
 use Rattle.basis.specs.Pick.{pick-yes, pick-no}
 use Rattle.printing.specs.Digits.{figure}

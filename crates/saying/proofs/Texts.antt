@@ -1,5 +1,5 @@
 -- What is printed: one piece behind the other, and numbers that read back as what they were.
-use Prim.Native.Nat.{ℕ, zero, suc, _+_, _*_, _/_, _%_, _^_, _<_, _≤_}
+use Prim.Native.Nat.{ℕ, zero, suc, _+_, _/_, _%_, _^_, _<_, _≤_}
 use mathlib.Core.List.{List, [], _∷_, _++_}
 use mathlib.Core.Path.{_≡_, refl, subst, sym, _∙_, ap}
 use native.Mathlib.Omega.{arith}
@@ -10,7 +10,7 @@ use Rattle.basis.specs.Bytes.{byteAt}
 use Rattle.basis.specs.Pick.{pick, pick-yes, pick-no, pick-all}
 use Rattle.lent.proofs.Laws.{pasted-there}
 use Rattle.lent.specs.Put.{pasted}
-use Rattle.printing.specs.Digits.{figure, digitIn, behind, numberIn}
+use Rattle.printing.specs.Digits.{figure, behind, numberIn}
 use Rattle.printing.proofs.Digits.{figure-read}
 use Rattle.saying.specs.Said.{said, printedOf, textOf}
 use Rattle.saying.specs.Decimal.{frontOf, decimalOf}

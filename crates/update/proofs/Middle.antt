@@ -3,8 +3,8 @@ use Prim.Native.Nat.{ℕ, _≤_}
 use mathlib.Core.Path.{_≡_}
 use mathlib.Core.List.{List}
 use lib.ListN.{length}
-use Rattle.lossy.specs.declared.ends.Ends.{Ends}
-use Rattle.lossy.specs.Over.{Over}
+use Rattle.lossy_ends.specs.declared.ends.Ends.{Ends}
+use Rattle.lossy_ends.specs.Over.{Over}
 
 pub record Middle (file image₀ up₀ down₀ : List ℕ) (e : Ends) (image up down : List ℕ) (turns : ℕ) : Type 0 where
   pub over : Over file e image up down

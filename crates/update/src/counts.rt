@@ -1,6 +1,4 @@
 // How many messages were sent, lost, repeated and replaced.
-use lossy::Carried;
-use lossy_session::Passed;
 use luck::Answered;
 use luck::Went;
 
@@ -26,21 +24,12 @@ impl Counts {
     }
 
     // At most one message went.
-    pub(crate) fn carried(self, carried: Carried) -> Counts {
-        let way = carried.way;
-        let went = carried.went;
+    pub(crate) fn carried(self, went: Went, again: bool, rises: bool) -> Counts {
         match went {
             Went::Nothing => self,
             Went::Lost => self.lose(),
-            Went::Arrived(answered) => self.arrive(way.again, carried.rises, answered),
+            Went::Arrived(answered) => self.arrive(again, rises, answered),
         }
-    }
-
-    // Time passed at both ends.
-    pub(crate) fn passed(self, passed: Passed) -> Counts {
-        let roof = passed.above;
-        let indoors = passed.below;
-        self.above(roof).below(indoors)
     }
 
     fn lose(mut self) -> Counts {
@@ -57,14 +46,14 @@ impl Counts {
     }
 
     // The receiver was called.
-    fn above(mut self, answered: Answered) -> Counts {
+    pub(crate) fn above(mut self, answered: Answered) -> Counts {
         self.responses = plus(self.responses, answered.sent);
         self.pushed = plus(self.pushed, answered.pushed);
         self
     }
 
     // The indoor end was called.
-    fn below(mut self, answered: Answered) -> Counts {
+    pub(crate) fn below(mut self, answered: Answered) -> Counts {
         self.requests = plus(self.requests, answered.sent);
         self.pushed = plus(self.pushed, answered.pushed);
         self

@@ -6,7 +6,7 @@ use crate::stands;
 use crate::turn;
 use indoor_state::phase::Phase;
 use indoor_state::phase::Reason;
-use lossy::Ends;
+use lossy_ends::Ends;
 use lossy_session::Judged;
 use receiver_state::session::Receiver;
 use receiver_state::sum::Summed;
@@ -15,7 +15,7 @@ ghost use mathlib.Core.Path.{_≡_};
 ghost use Prim.Native.Nat.{_≤_};
 ghost use Rattle.indoor_state.specs.declared.phase.Phase.the-variants.{Done};
 ghost use Rattle.lossy_session.specs.Judge.{doneOf};
-ghost use Rattle.lossy.specs.Over.{Same};
+ghost use Rattle.lossy_ends.specs.Over.{Same};
 
 // A start was refused with this number (01, Numbers we answer).
 pub(crate) fn refused(number: u8) {
@@ -35,7 +35,7 @@ pub(crate) fn ended(ended: Ended, file: &[u8], image: &[u8])
     let counts = ended.counts;
     let receiver = ends.receiver;
     let judged = judge(ends, file, image);
-    if outcome(ends, judged) {
+    if outcome(receiver, stands::indoors(ends.indoor), judged) {
         return;
     }
     if messages(counts, ended.turns) {
@@ -58,14 +58,13 @@ fn judge(ends: Ends, file: &[u8], image: &[u8]) -> Judged
     lossy_session::judge(ends, file, image)
 }
 
-fn outcome(ends: Ends, judged: Judged) -> bool {
+fn outcome(receiver: Receiver, phase: Phase, judged: Judged) -> bool {
     if judged.done {
         return say(Page::blank().word(b"done: the receiver has marked the image good"));
     }
-    let phase = stands::indoors(ends);
     let begun = Page::blank().word(b"not done: ");
     let named = failure(stands::indoor(begun, phase), phase);
-    say(stands::above(named.word(b"; "), stands::roof(ends)))
+    say(stands::above(named.word(b"; "), stands::roof(receiver)))
 }
 
 fn failure(page: Page, phase: Phase) -> Page

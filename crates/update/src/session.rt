@@ -5,7 +5,7 @@ use crate::stands;
 use crate::turn;
 use crate::view::View;
 use indoor_state::plan::Release;
-use lossy::Ends;
+use lossy_ends::Ends;
 use lossy_session::Limits;
 use lossy_session::Started;
 use luck::Luck;
@@ -13,7 +13,7 @@ use wire::codes;
 use wire::response::Identity;
 ghost use mathlib.Core.Path.{_≡_};
 ghost use Rattle.indoor_state.specs.declared.phase.Phase.the-variants.{Done};
-ghost use Rattle.lossy.specs.Over.{Over, Same};
+ghost use Rattle.lossy_ends.specs.Over.{Over, Same};
 
 // The receiver's limit is far below the indoor end's, since it alone heals a loss in Transfer (docs/HAZARDS.md), and with its resends it
 // lasts for some of the indoor end's (include/harsolvek.h, Limits).
@@ -77,7 +77,7 @@ pub(crate) fn carry(
 // The indoor end is done or has failed, and no ABORT is on its way.
 fn rests(ends: Ends) -> bool {
     let rising = ends.up;
-    let ended = stands::ended(stands::indoors(ends));
+    let ended = stands::ended(stands::indoors(ends.indoor));
     ended && rising.bytes == 0
 }
 

@@ -1,8 +1,9 @@
 // Where each end stands (01, The receiver's phases; The indoor end's phases).
 use crate::page::Page;
 use indoor_state::phase::Phase as Indoors;
-use lossy::Ends;
+use indoor_state::session::Indoor;
 use receiver_state::phase::Phase;
+use receiver_state::session::Receiver;
 ghost use Prim.Native.Nat.{_≤_};
 
 // With the blocks that it has accepted, of those that the file has.
@@ -46,13 +47,11 @@ pub(crate) fn indoor(page: Page, phase: Indoors) -> Page
     }
 }
 
-pub(crate) fn roof(ends: Ends) -> Phase {
-    let receiver = ends.receiver;
+pub(crate) fn roof(receiver: Receiver) -> Phase {
     receiver.phase
 }
 
-pub(crate) fn indoors(ends: Ends) -> Indoors {
-    let indoor = ends.indoor;
+pub(crate) fn indoors(indoor: Indoor) -> Indoors {
     let stand = indoor.stand;
     stand.phase
 }

@@ -6,14 +6,16 @@ use crate::view;
 use crate::view::View;
 use crate::words;
 use lossy::Carried;
-use lossy::Ends;
+use lossy_ends::Ends;
 use lossy_session::Passed;
 use luck::Answered;
 use luck::Luck;
+use luck::Way;
 use luck::Went;
+use receiver_state::session::Receiver;
 ghost use mathlib.Core.Path.{_≡_};
 ghost use Prim.Native.Nat.{_≤_};
-ghost use Rattle.lossy.specs.Over.{Over};
+ghost use Rattle.lossy_ends.specs.Over.{Over};
 
 // The milliseconds of a turn.
 const TICK: u16 = 10;
@@ -47,8 +49,7 @@ pub(crate) fn step(
 {
     let carried = lossy::carry(ends, luck, file, image, up, down);
     let untold = message(carried, view, up, down);
-    let between = carried.ends;
-    let passed = lossy_session::pass(between, TICK, file, up, down);
+    let passed = lossy_session::pass(carried.ends, TICK, file, up, down);
     told(carried, passed, counts, view, untold)
 }
 
@@ -56,16 +57,20 @@ pub(crate) fn step(
 fn told(carried: Carried, passed: Passed, counts: Counts, view: View, untold: bool) -> Stepped
     ensures { λ r. ⌜ r .ends ≡ passed .ends ⌝ }
 {
-    let between = carried.ends;
-    let luck = carried.luck;
     let ends = passed.ends;
     let above = passed.above;
     let below = passed.below;
+    let luck = carried.luck;
+    let way = carried.way;
+    let went = carried.went;
+    let counted = counts.carried(went, way.again, carried.rises);
+    let between = carried.ends;
+    let gave_up = gave_up(between.receiver, ends.receiver);
     Stepped {
         ends,
-        counts: counts.carried(carried).passed(passed),
+        counts: counted.above(above).below(below),
         luck,
-        failed: silence(untold, gave_up(between, ends), above, below, view),
+        failed: silence(untold, gave_up, above, below, view),
     }
 }
 
@@ -73,20 +78,19 @@ fn message(carried: Carried, view: View, up: &[u8], down: &[u8]) -> bool {
     let went = carried.went;
     match went {
         Went::Nothing => false,
-        Went::Lost => view.fails(line(carried, view, up, down).word(b"lost")),
+        Went::Lost => view.fails(line(carried.rises, carried.way, view, up, down).word(b"lost")),
         Went::Arrived(answered) => {
-            let page = line(carried, view, up, down);
-            view.fails(answer(page, carried, answered, view.blocks))
+            let page = line(carried.rises, carried.way, view, up, down);
+            view.fails(answer(page, carried.rises, carried.ends, answered, view.blocks))
         }
     }
 }
 
 // The message that went, up to where it is told what became of it.
-fn line(carried: Carried, view: View, up: &[u8], down: &[u8]) -> Page
+fn line(rises: bool, way: Way, view: View, up: &[u8], down: &[u8]) -> Page
     ensures { λ r. ⌜ r .at ≤ 120 ⌝ }
 {
-    let way = carried.way;
-    if carried.rises {
+    if rises {
         let begun = view.begin(b"up", way.again);
         return words::request(begun, way.message(up)).column(view::ANSWER);
     }
@@ -95,19 +99,18 @@ fn line(carried: Carried, view: View, up: &[u8], down: &[u8]) -> Page
 }
 
 // The answer's number, and where the end that answers then stands.
-fn answer(page: Page, carried: Carried, answered: Answered, blocks: u64) -> Page
+fn answer(page: Page, rises: bool, ends: Ends, answered: Answered, blocks: u64) -> Page
     requires { ⌜ page .at ≤ 120 ⌝ }
     ensures { λ r. ⌜ r .at ≤ 120 ⌝ }
 {
-    let ends = carried.ends;
     let numbered = page.number(answered.number as u64).column(view::PHASE);
-    if carried.rises {
-        return stands::receiver(numbered, stands::roof(ends), blocks);
+    if rises {
+        return stands::receiver(numbered, stands::roof(ends.receiver), blocks);
     }
-    stands::indoor(numbered, stands::indoors(ends))
+    stands::indoor(numbered, stands::indoors(ends.indoor))
 }
 
-fn gave_up(before: Ends, after: Ends) -> bool {
+fn gave_up(before: Receiver, after: Receiver) -> bool {
     let was_idle = stands::idle(stands::roof(before));
     let is_idle = stands::idle(stands::roof(after));
     !was_idle && is_idle

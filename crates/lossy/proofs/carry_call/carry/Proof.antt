@@ -2,7 +2,7 @@ use mathlib.Core.Path.{ap, sym, _∙_}
 use denote.Ref.{now}
 use Rattle.basis.specs.Pick.{pick-yes, pick-no}
 use Rattle.basis.specs.Left.{left}
-use Rattle.lossy.specs.Both.{Both}
+use Rattle.lossy_ends.specs.Both.{Both}
 use Rattle.lossy.specs.declared.carry_call.Carried.{Carried}
 use Rattle.lossy.specs.Carry.{goOf, carryOf}
 use borrow.Author.Needs.{needs}

@@ -2,7 +2,7 @@ use Prim.Native.Nat.{_-_}
 use mathlib.Core.Path.{refl}
 use native.Mathlib.Omega.{arith}
 use borrow.Author.Needs.{needs}
-use Rattle.lossy.proofs.Arrives.{done-holds}
+use Rattle.lossy_ends.proofs.Stays.{done-holds}
 use Rattle.update.proofs.Middle.{Middle}
 use Rattle.update.proofs.session.carry.Statement.{statement}
 use Rattle.update.proofs.session.carry.Tie as tie

@@ -13,9 +13,9 @@ step-spec =
     (λ c κs. search needs)
     (λ c κs. search needs)
     (λ c κs. search needs)
-    (λ c. omega (arith, c .before .before .before .before .before .before .before .before .before .before .before .before .before .before .before .before .before .image .given))
-    (λ c. omega (arith, c .before .before .before .before .before .before .before .before .before .before .before .before .before .before .before .up .given, c .before .before .before .before .up2 .given))
-    (λ c. omega (arith, c .before .before .before .before .before .before .before .before .before .before .before .before .before .down .given, c .before .before .down2 .given))
-    (λ c. let carry = c .before .before .before .before .before .before .before .before .before .before .before .before .before .before .before .before .before .before .carry in
+    (λ c. omega (arith, c .before .before .before .before .before .before .before .before .before .before .before .before .before .before .before .before .image .given))
+    (λ c. omega (arith, c .before .before .before .before .before .before .before .before .before .before .before .before .before .before .up .given, c .before .before .before .before .up2 .given))
+    (λ c. omega (arith, c .before .before .before .before .before .before .before .before .before .before .before .before .down .given, c .before .before .down2 .given))
+    (λ c. let carry = c .before .before .before .before .before .before .before .before .before .before .before .before .before .before .before .before .before .carry in
     let pass = c .before .before .before .before .before .pass in
-    rw (c .told .ensures) (pass-over _ _ _ _ _ (carry-over _ _ _ _ _ (c .before .before .before .before .before .before .before .before .before .before .before .before .before .before .before .before .before .before .before .before .before .before .before .before .before .before .pre) _ (carry .result) _ _ _ (carry .ensures)) _ (pass .result) _ _ (pass .ensures))))
+    rw (c .told .ensures) (pass-over _ _ _ _ _ (carry-over _ _ _ _ _ (c .before .before .before .before .before .before .before .before .before .before .before .before .before .before .before .before .before .before .before .before .before .before .before .before .before .pre) _ (carry .result) _ _ _ (carry .ensures)) _ (pass .result) _ _ (pass .ensures))))

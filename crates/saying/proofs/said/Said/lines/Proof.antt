@@ -6,8 +6,7 @@ use lib.ListN.{length, drop}
 use Rattle.saying.specs.Said.{characterOf, linesOf}
 use Rattle.script.proofs.Steps.{steps-more, steps-all}
 use borrow.Author.Needs.{needs}
-use Rattle.basis.specs.Pick.{tests, pick-no}
-use borrow.Author.Tests.{ne-eqb}
+use Rattle.basis.specs.Pick.{tests}
 use Rattle.saying.proofs.said.Said.lines.Statement.{statement}
 use Rattle.saying.proofs.said.Said.lines.Tie as tie
 

@@ -10,7 +10,7 @@ use Rattle.indoor_state.specs.declared.plan.Release.{Release}
 use Rattle.line.specs.Line.{World, Wide, Reached}
 use Rattle.luck.specs.Way.{messageOf}
 use Rattle.luck.specs.declared.way.Way.{Way}
-use Rattle.lossy.specs.declared.ends.Ends.{Ends}
+use Rattle.lossy_ends.specs.declared.ends.Ends.{Ends}
 
 abbrev pub world : Ends → List ℕ → List (List ℕ) → List (List ℕ) → World
 world e image requests responses = record { receiver = e .receiver; indoor = e .indoor; image = image; requests = requests; responses = responses }

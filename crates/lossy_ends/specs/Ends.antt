@@ -2,9 +2,9 @@
 use Rattle.receiver_state.specs.declared.session.Receiver.{Receiver}
 use Rattle.indoor_state.specs.declared.session.Indoor.{Indoor}
 use Rattle.luck.specs.declared.way.Way.{Way}
 use Rattle.lossy_ends.specs.declared.roof.Roof.{Roof}
 use Rattle.lossy_ends.specs.declared.indoors.Indoors.{Indoors}
-use Rattle.lossy.specs.declared.ends.Ends.{Ends}
+use Rattle.lossy_ends.specs.declared.ends.Ends.{Ends}
 
 abbrev pub ends : Receiver → Indoor → Way → Way → Ends
 ends receiver indoor up down = record { receiver = receiver; indoor = indoor; up = up; down = down }
