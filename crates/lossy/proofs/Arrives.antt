@@ -27,8 +27,7 @@ use Rattle.lossy_ends.specs.Both.{Both, both}
 use Rattle.luck.specs.Way.{way, nothing, messageOf, risesOf, nextOf, behindOf}
 use Rattle.luck.specs.Luck.{fateOf, goesOf}
 use Rattle.luck.specs.Went.{missedOf}
-use Rattle.lossy_ends.specs.Roof.{arrivesOf as requestArrives}
-use Rattle.lossy_ends.specs.Indoors.{arrivesOf as responseArrives}
+use Rattle.lossy.specs.Arrive.{requestArrives, responseArrives}
 use Rattle.lossy_ends.specs.Ends.{ends}
 use Rattle.lossy.specs.Carry.{missOf, askOf, tellOf, goOf, carryOf}
 use Rattle.lossy_ends.specs.Over.{OnItsWay, Over}

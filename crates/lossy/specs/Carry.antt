@@ -7,8 +7,7 @@ use Rattle.basis.specs.Left.{Left, left}
 use Rattle.lossy_ends.specs.Both.{Both, both}
 use Rattle.luck.specs.Way.{behindOf}
 use Rattle.luck.specs.Luck.{goesOf}
-use Rattle.lossy_ends.specs.Roof.{arrivesOf as requestArrives}
-use Rattle.lossy_ends.specs.Indoors.{arrivesOf as responseArrives}
+use Rattle.lossy.specs.Arrive.{requestArrives, responseArrives}
 use Rattle.lossy_ends.specs.declared.roof.Roof.{Roof}
 use Rattle.lossy_ends.specs.declared.indoors.Indoors.{Indoors}
 use Rattle.lossy_ends.specs.Ends.{ends, roofEnds, indoorEnds}

@@ -1,1 +1,2 @@
+pub mod Arrive
 pub mod Carry

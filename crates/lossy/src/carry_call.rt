@@ -1,4 +1,5 @@
 // One message goes: it arrives at its end, or it is lost.
+use crate::arrive;
 use indoor_state::session::Indoor;
 use lossy_ends::Ends;
 use luck::Fate;
@@ -71,7 +72,7 @@ fn ask(
     ensures { λ r. ⌜ left (both r (now (up .entry)) (now (down .exit))) (now (image .exit)) ≡ askOf ends going stays (now (image .entry)) (now (up .entry)) (now (down .entry)) ⌝ }
 {
     let way = going.way;
-    let roof = lossy_ends::request(ends.receiver, way, ends.down, image, up, down);
+    let roof = arrive::request(ends.receiver, way, ends.down, image, up, down);
     let answered = roof.answered;
     made(
         roof.receiver,
@@ -88,7 +89,7 @@ fn tell(ends: Ends, going: Going, stays: bool, file: &[u8], up: &mut [u8], down:
     ensures { λ r. ⌜ both r (now (up .exit)) (now (down .entry)) ≡ tellOf ends going stays (now (file .entry)) (now (up .entry)) (now (down .entry)) ⌝ }
 {
     let way = going.way;
-    let indoors = lossy_ends::response(ends.indoor, way, ends.up, file, up, down);
+    let indoors = arrive::response(ends.indoor, way, ends.up, file, up, down);
     let answered = indoors.answered;
     made(
         ends.receiver,

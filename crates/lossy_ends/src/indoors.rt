@@ -4,8 +4,7 @@ use indoor_state::session::Outcome;
 use luck::Answered;
 use luck::Way;
 ghost use mathlib.Core.Path.{_≡_};
-ghost use Rattle.basis.specs.Left.{left};
-ghost use Rattle.lossy_ends.specs.Indoors.{indoorsOf, arrivesOf, passesOf};
+ghost use Rattle.lossy_ends.specs.Indoors.{indoorsOf};
 
 pub struct Indoors {
     pub indoor: Indoor,
@@ -13,30 +12,8 @@ pub struct Indoors {
     pub answered: Answered,
 }
 
-// The response in `down` arrives.
-pub fn response(
-    indoor: Indoor,
-    way: Way,
-    rising: Way,
-    file: &[u8],
-    up: &mut [u8],
-    down: &[u8],
-) -> Indoors
-    ensures { λ r. ⌜ left r (now (up .exit)) ≡ arrivesOf indoor way rising (now (file .entry)) (now (up .entry)) (now (down .entry)) ⌝ }
-{
-    let heard = indoor::response(indoor, file, way.message(down), up);
-    called(heard, rising)
-}
-
-pub fn indoor_time(indoor: Indoor, elapsed: u16, rising: Way, file: &[u8], up: &mut [u8]) -> Indoors
-    ensures { λ r. ⌜ left r (now (up .exit)) ≡ passesOf indoor elapsed rising (now (file .entry)) (now (up .entry)) ⌝ }
-{
-    let heard = indoor::time(indoor, file, elapsed, up);
-    called(heard, rising)
-}
-
 // The indoor end was called while this was on its way up.
-fn called(heard: Outcome, rising: Way) -> Indoors
+pub fn indoor_called(heard: Outcome, rising: Way) -> Indoors
     ensures { λ r. ⌜ r ≡ indoorsOf heard rising ⌝ }
 {
     let indoor = heard.state;

@@ -1,13 +1,10 @@
-// Both ends on a line that loses and repeats, of which one is called at a time: a message arrives at it or time passes there, and what it
-// sends goes on its way.
+// Both ends on a line that loses and repeats, and what a call of one of them makes of it: what that end sends goes on its way.
 mod ends;
 mod indoors;
 mod roof;
 
 pub use ends::Ends;
 pub use indoors::Indoors;
-pub use indoors::indoor_time;
-pub use indoors::response;
+pub use indoors::indoor_called;
 pub use roof::Roof;
-pub use roof::request;
-pub use roof::roof_time;
+pub use roof::roof_called;

@@ -8,8 +8,7 @@ use Rattle.receiver_rules.proofs.Written as receiver
 use Rattle.indoor_rules.specs.Time.{timeOf as indoorTimeOf}
 use Rattle.indoor_rules.proofs.Written as indoor
 use Rattle.line.specs.Line.{atReceiver, atIndoor}
-use Rattle.lossy_ends.specs.Roof.{passesOf as roofPasses}
-use Rattle.lossy_ends.specs.Indoors.{passesOf as indoorPasses}
+use Rattle.lossy_session.specs.Clock.{roofPasses, indoorPasses}
 use Rattle.lossy_ends.specs.Both.{Both, both}
 use Rattle.lossy_ends.specs.Ends.{roofEnds, indoorEnds}
 use Rattle.lossy_ends.specs.Over.{Over}

@@ -1,3 +1,4 @@
 pub mod Start
+pub mod Clock
 pub mod Pass
 pub mod Judge

@@ -1,8 +1,7 @@
 -- So many milliseconds pass on the roof and indoors.
 use Prim.Native.Nat.{ℕ}
 use mathlib.Core.List.{List}
-use Rattle.lossy_ends.specs.Roof.{passesOf as roofPasses}
-use Rattle.lossy_ends.specs.Indoors.{passesOf as indoorPasses}
+use Rattle.lossy_session.specs.Clock.{roofPasses, indoorPasses}
 use Rattle.lossy_ends.specs.declared.roof.Roof.{Roof}
 use Rattle.lossy_ends.specs.declared.indoors.Indoors.{Indoors}
 use Rattle.lossy_ends.specs.Both.{Both, both}

@@ -1,4 +1,5 @@
 // Time passes at both ends: first on the roof, then indoors.
+use crate::clock;
 use lossy_ends::Ends;
 use lossy_ends::Indoors;
 use lossy_ends::Roof;
@@ -16,8 +17,8 @@ pub struct Passed {
 pub fn pass(ends: Ends, elapsed: u16, file: &[u8], up: &mut [u8], down: &mut [u8]) -> Passed
     ensures { λ r. ⌜ both r (now (up .exit)) (now (down .exit)) ≡ passOf ends elapsed (now (file .entry)) (now (up .entry)) (now (down .entry)) ⌝ }
 {
-    let roof = lossy_ends::roof_time(ends.receiver, elapsed, ends.down, down);
-    let indoors = lossy_ends::indoor_time(ends.indoor, elapsed, ends.up, file, up);
+    let roof = clock::roof_time(ends.receiver, elapsed, ends.down, down);
+    let indoors = clock::indoor_time(ends.indoor, elapsed, ends.up, file, up);
     outcome(roof, indoors)
 }
 

@@ -1,9 +1,9 @@
 use borrow.Author.Needs.{needs}
-use Rattle.lossy_ends.proofs.indoors.called.Statement.{statement}
-use Rattle.lossy_ends.proofs.indoors.called.Tie as tie
+use Rattle.lossy_ends.proofs.indoors.indoor_called.Statement.{statement}
+use Rattle.lossy_ends.proofs.indoors.indoor_called.Tie as tie
 
-pub called-spec : {M : Type 1} → statement M
-called-spec =
+pub indoor-called-spec : {M : Type 1} → statement M
+indoor-called-spec =
     tie.close
     (tie.spec
     (λ c κs. search needs)

@@ -1,9 +1,9 @@
 use borrow.Author.Needs.{needs}
-use Rattle.lossy_ends.proofs.roof.called.Statement.{statement}
-use Rattle.lossy_ends.proofs.roof.called.Tie as tie
+use Rattle.lossy_ends.proofs.roof.roof_called.Statement.{statement}
+use Rattle.lossy_ends.proofs.roof.roof_called.Tie as tie
 
-pub called-spec : {M : Type 1} → statement M
-called-spec =
+pub roof-called-spec : {M : Type 1} → statement M
+roof-called-spec =
     tie.close
     (tie.spec
     (λ c κs. search needs)

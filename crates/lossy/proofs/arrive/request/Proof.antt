@@ -1,0 +1,17 @@
+use mathlib.Core.Path.{ap}
+use Rattle.lossy.specs.Arrive.{roofHeard, requestArrives}
+use borrow.Author.Needs.{needs}
+use Rattle.lossy.proofs.arrive.request.Statement.{statement}
+use Rattle.lossy.proofs.arrive.request.Tie as tie
+
+pub request-spec : {M : Type 1} → statement M
+unfolding requestArrives
+request-spec =
+    tie.close
+    (tie.spec
+    (λ c κs. search needs)
+    (λ c κs. search needs)
+    (λ c κs. search needs)
+    (λ c. search needs)
+    (λ c. search needs)
+    (λ c. let a = c .before .before .before .before .before .before .before .before .before .before .before .before .args in rw (c .roof-called .ensures, ← (c .before .before .before .before .before .before .before .message .ensures)) (ap (roofHeard (a .falling)) (c .before .before .before .before .before .request .ensures))))

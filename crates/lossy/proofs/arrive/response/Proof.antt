@@ -1,0 +1,16 @@
+use mathlib.Core.Path.{ap}
+use Rattle.lossy.specs.Arrive.{indoorsHeard, responseArrives}
+use borrow.Author.Needs.{needs}
+use Rattle.lossy.proofs.arrive.response.Statement.{statement}
+use Rattle.lossy.proofs.arrive.response.Tie as tie
+
+pub response-spec : {M : Type 1} → statement M
+unfolding responseArrives
+response-spec =
+    tie.close
+    (tie.spec
+    (λ c κs. search needs)
+    (λ c κs. search needs)
+    (λ c κs. search needs)
+    (λ c. search needs)
+    (λ c. let a = c .before .before .before .before .before .before .before .before .before .args in rw (c .indoor-called .ensures, ← (c .before .before .before .before .before .message .ensures)) (ap (indoorsHeard (a .rising)) (c .before .before .before .response .ensures))))

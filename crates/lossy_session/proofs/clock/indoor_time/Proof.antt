@@ -1,0 +1,15 @@
+use mathlib.Core.Path.{ap}
+use Rattle.lossy_session.specs.Clock.{indoorsTimed, indoorPasses}
+use borrow.Author.Needs.{needs}
+use Rattle.lossy_session.proofs.clock.indoor_time.Statement.{statement}
+use Rattle.lossy_session.proofs.clock.indoor_time.Tie as tie
+
+pub indoor-time-spec : {M : Type 1} → statement M
+unfolding indoorPasses
+indoor-time-spec =
+    tie.close
+    (tie.spec
+    (λ c κs. search needs)
+    (λ c κs. search needs)
+    (λ c. search needs)
+    (λ c. let a = c .before .before .before .before .before .before .before .args in rw (c .indoor-called .ensures) (ap (indoorsTimed (a .rising)) (c .before .before .before .time .ensures))))
