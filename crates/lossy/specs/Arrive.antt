@@ -6,12 +6,11 @@ use Rattle.receiver_state.specs.declared.session.Receiver.{Receiver}
 use Rattle.receiver_state.specs.declared.verdict.Verdict.the-variants.{Good}
 use Rattle.receiver_rules.specs.Request.{Effect, requestOf}
 use Rattle.indoor_state.specs.declared.session.Indoor.{Indoor}
-use Rattle.indoor_state.specs.declared.session.Outcome.{Outcome}
 use Rattle.indoor_rules.specs.Response.{responseOf}
 use Rattle.luck.specs.Way.{messageOf}
 use Rattle.luck.specs.declared.way.Way.{Way}
 use Rattle.lossy_ends.specs.Roof.{roofOf}
-use Rattle.lossy_ends.specs.Indoors.{indoorsOf}
+use Rattle.lossy_ends.specs.Indoors.{indoorsLeft}
 use Rattle.lossy_ends.specs.declared.roof.Roof.{Roof}
 use Rattle.lossy_ends.specs.declared.indoors.Indoors.{Indoors}
 
@@ -22,9 +21,6 @@ roofHeard falling x = left (left (roofOf (x .outcome) falling) (x .out)) (x .ima
 unfoldable pub requestArrives : Receiver → Way → Way → List ℕ → List ℕ → List ℕ → Left (Left Roof)
 requestArrives receiver w falling image up down = roofHeard falling (requestOf receiver image (messageOf w up) 0 Good down)
 
-abbrev pub indoorsHeard : Way → Left Outcome → Left Indoors
-indoorsHeard rising x = left (indoorsOf (x .answer) rising) (x .memory)
-
 -- A response.
 unfoldable pub responseArrives : Indoor → Way → Way → List ℕ → List ℕ → List ℕ → Left Indoors
-responseArrives indoor w rising file up down = indoorsHeard rising (responseOf indoor file (messageOf w down) up)
+responseArrives indoor w rising file up down = indoorsLeft rising (responseOf indoor file (messageOf w down) up)

@@ -1,4 +1,5 @@
 -- What a call of the indoor end makes of it and of what is on its way up.
+use Rattle.basis.specs.Left.{Left, left}
 use Rattle.indoor_state.specs.Answer.{numberOf}
 use Rattle.indoor_state.specs.declared.session.Outcome.{Outcome}
 use Rattle.luck.specs.Way.{afterOf}
@@ -12,3 +13,7 @@ indoorsOf x rising = record {
   up = afterOf rising (x .written);
   answered = answeredOf (numberOf (x .answer)) rising (x .written);
 }
+
+-- With the buffer that was lent for it.
+abbrev pub indoorsLeft : Way → Left Outcome → Left Indoors
+indoorsLeft rising x = left (indoorsOf (x .answer) rising) (x .memory)

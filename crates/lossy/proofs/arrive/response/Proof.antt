@@ -1,5 +1,6 @@
 use mathlib.Core.Path.{ap}
-use Rattle.lossy.specs.Arrive.{indoorsHeard, responseArrives}
+use Rattle.lossy_ends.specs.Indoors.{indoorsLeft}
+use Rattle.lossy.specs.Arrive.{responseArrives}
 use borrow.Author.Needs.{needs}
 use Rattle.lossy.proofs.arrive.response.Statement.{statement}
 use Rattle.lossy.proofs.arrive.response.Tie as tie
@@ -13,4 +14,4 @@ response-spec =
     (λ c κs. search needs)
     (λ c κs. search needs)
     (λ c. search needs)
-    (λ c. let a = c .before .before .before .before .before .before .before .before .before .args in rw (c .indoor-called .ensures, ← (c .before .before .before .before .before .message .ensures)) (ap (indoorsHeard (a .rising)) (c .before .before .before .response .ensures))))
+    (λ c. let a = c .before .before .before .before .before .before .before .before .before .args in rw (c .indoor-called .ensures, ← (c .before .before .before .before .before .message .ensures)) (ap (indoorsLeft (a .rising)) (c .before .before .before .response .ensures))))

@@ -1,5 +1,6 @@
 use mathlib.Core.Path.{ap}
-use Rattle.lossy_session.specs.Clock.{indoorsTimed, indoorPasses}
+use Rattle.lossy_ends.specs.Indoors.{indoorsLeft}
+use Rattle.lossy_session.specs.Clock.{indoorPasses}
 use borrow.Author.Needs.{needs}
 use Rattle.lossy_session.proofs.clock.indoor_time.Statement.{statement}
 use Rattle.lossy_session.proofs.clock.indoor_time.Tie as tie
@@ -12,4 +13,4 @@ indoor-time-spec =
     (λ c κs. search needs)
     (λ c κs. search needs)
     (λ c. search needs)
-    (λ c. let a = c .before .before .before .before .before .before .before .args in rw (c .indoor-called .ensures) (ap (indoorsTimed (a .rising)) (c .before .before .before .time .ensures))))
+    (λ c. let a = c .before .before .before .before .before .before .before .args in rw (c .indoor-called .ensures) (ap (indoorsLeft (a .rising)) (c .before .before .before .time .ensures))))
