@@ -18,13 +18,13 @@ use Rattle.lent.specs.Sent.{withSent}
 use Rattle.wire.specs.Codes.{longest}
 use Rattle.wire.specs.declared.response.Identity.{Identity}
 use Rattle.wire.specs.Codes.{imageSizeMost}
-use Rattle.receiver_rules.specs.Session.{freshOf, startOf as receiverStartOf}
+use Rattle.receiver_rules.specs.Session.{receiverFreshOf, receiverStartOf}
 use Rattle.receiver_state.specs.declared.session.Receiver.{Receiver}
 use Rattle.receiver_state.specs.declared.session.Started.{Started as ReceiverStarted}
 use Rattle.receiver_state.specs.declared.session.Started.the-variants as Rec
 use Rattle.receiver_rules.proofs.Fresh.{refused-made}
 use Rattle.indoor_state.specs.declared.plan.Release.{Release}
-use Rattle.indoor_rules.specs.Start.{beginOf, startedOf, startOf}
+use Rattle.indoor_rules.specs.Start.{indoorBeginOf, indoorStartedOf, indoorStartOf}
 use Rattle.indoor_state.specs.declared.session.Indoor.{Indoor}
 use Rattle.indoor_state.specs.declared.session.Started.{Started}
 use Rattle.indoor_state.specs.declared.session.Started.the-variants as Ind
@@ -32,14 +32,14 @@ use Rattle.indoor_state.proofs.session.Started.{the-type}
 use Rattle.indoor_rules.proofs.Fresh.{start-fresh}
 use Rattle.line.specs.Line.{Wide}
 use Rattle.line.specs.Line as line
-use Rattle.clean.specs.Run.{carriedOf, begunOf}
+use Rattle.clean.specs.Run.{carriedOf, cleanBegunOf}
 use Rattle.clean.specs.Turn.{ends}
-use Rattle.clean.specs.On.{world, On}
+use Rattle.clean.specs.On.{cleanWorld, On}
 use Rattle.clean.specs.declared.ran.Ran.the-variants.{FileSize}
 use Rattle.clean.proofs.On.{one-goes}
 
-made-checked : (identity : Identity) (capacity : ℕ) (r : Receiver) (x : Checked) → freshOf x identity capacity ≡ Rec.Made r → (s : Settings) × (x ≡ Che.Made s)
-unfolding freshOf
+made-checked : (identity : Identity) (capacity : ℕ) (r : Receiver) (x : Checked) → receiverFreshOf x identity capacity ≡ Rec.Made r → (s : Settings) × (x ≡ Che.Made s)
+unfolding receiverFreshOf
 made-checked identity capacity r (Che.Made s) e = (s, refl)
 made-checked identity capacity r Che.Refused e = absurd (refused-made r e)
 
@@ -57,10 +57,10 @@ NotMade x = OneOf (1 ∷ 2 ∷ 3 ∷ []) (tagOf the-type x)
 
 module _ (release : Release) (identity : Identity) (file up memory : List ℕ) (room : 260 ≤ length up) where
   abbrev Refuses : Left Started → Type 0
-  Refuses x = NotMade (x .answer) → left FileSize memory ≡ begunOf release identity file memory
+  Refuses x = NotMade (x .answer) → left FileSize memory ≡ cleanBegunOf release identity file memory
 
-  begin-refuses : (s : Settings) → Refuses (beginOf s release file up)
-  unfolding beginOf begunOf pick
+  begin-refuses : (s : Settings) → Refuses (indoorBeginOf s release file up)
+  unfolding indoorBeginOf cleanBegunOf pick
   begin-refuses s =
       pick-all Refuses (eqb (length file) 0) _ _ (λ a _. rw a)
       (λ a. pick-all Refuses (ltb imageSizeMost (length file)) _ _ (λ b _. rw (a, b))
@@ -70,34 +70,34 @@ module _ (release : Release) (identity : Identity) (file up memory : List ℕ) (
 
   module _ (limit resends : ℕ) (r : Receiver) (made : receiverStartOf limit resends (r .identity) (length memory) ≡ Rec.Made r) where
     -- With these settings and this buffer only 46 is left.
-    pub start-refuses : (x : Started) (up′ : List ℕ) → left x up′ ≡ startOf limit resends release file up → NotMade x
-        → left FileSize memory ≡ begunOf release identity file memory
-    unfolding startedOf
+    pub start-refuses : (x : Started) (up′ : List ℕ) → left x up′ ≡ indoorStartOf limit resends release file up → NotMade x
+        → left FileSize memory ≡ cleanBegunOf release identity file memory
+    unfolding indoorStartedOf
     start-refuses x up′ e =
         let s = made-settings limit resends (r .identity) (length memory) r made in
-        let same : left x up′ ≡ beginOf (s .0) release file up = e ∙ ap (λ (y : Checked). startedOf y release file up) (s .1) in
+        let same : left x up′ ≡ indoorBeginOf (s .0) release file up = e ∙ ap (λ (y : Checked). indoorStartedOf y release file up) (s .1) in
         subst Refuses (sym same) (begin-refuses (s .0))
 
-    module _ (x : Started) (up′ : List ℕ) (did : left x up′ ≡ startOf limit resends release file up) (state : Indoor) (written : ℕ) (is : x ≡ Ind.Made state written) where
-      started : startOf limit resends release file up ≡ left (Ind.Made state written) up′
+    module _ (x : Started) (up′ : List ℕ) (did : left x up′ ≡ indoorStartOf limit resends release file up) (session : Indoor) (written : ℕ) (is : x ≡ Ind.Made session written) where
+      started : indoorStartOf limit resends release file up ≡ left (Ind.Made session written) up′
       started = sym did ∙ ap (λ (y : Started). left y up′) is
 
       -- A file that was taken is carried.
-      pub start-carries : carriedOf (state .plan .release) identity file memory ≡ begunOf release identity file memory
-      unfolding begunOf pick
+      pub start-carries : carriedOf (session .plan .release) identity file memory ≡ cleanBegunOf release identity file memory
+      unfolding cleanBegunOf pick
       start-carries =
-          let f = start-fresh release file up limit resends state written up′ started in
+          let f = start-fresh release file up limit resends session written up′ started in
           let some = f .some in
           rw (ne-eqb (length file) 0 (λ z. omega arith), le-ltb imageSizeMost (length file) (f .most), f .offered)
 
       pub start-on : Wide release (r .identity) → length up′ ≡ 260
-          → On file memory (state .plan .release) (r .identity) (ends r state written) memory up′ 0
+          → On file memory (session .plan .release) (r .identity) (ends r session written) memory up′ 0
       start-on wide long =
-          let f = start-fresh release file up limit resends state written up′ started in
+          let f = start-fresh release file up limit resends session written up′ started in
           let two = ap length (f .written) in
           let cut = length-take written up′ in
           let one : withSent written up′ [] ≡ take written up′ ∷ [] = one-goes written up′ (λ z. omega arith) in
-          let w : line.World = world (ends r state written) memory (take written up′ ∷ []) [] in
+          let w : line.World = cleanWorld (ends r session written) memory (take written up′ ∷ []) [] in
           let fresh : line.Fresh file memory release (r .identity) limit resends limit resends w = record {
             receiver = made;
             out = up;
@@ -108,7 +108,7 @@ module _ (release : Release) (identity : Identity) (file up memory : List ℕ) (
             requests = refl;
             responses = refl;
           } in
-          subst (λ (q : Release). On file memory q (r .identity) (ends r state written) memory up′ 0) (sym (f .offered))
+          subst (λ (q : Release). On file memory q (r .identity) (ends r session written) memory up′ 0) (sym (f .offered))
           (record {
             wide = wide;
             deliveries = 0;

@@ -25,13 +25,13 @@ use Rattle.indoor_state.specs.declared.phase.Reason.the-variants.{NotNewer, Too
 use Rattle.indoor_state.specs.declared.phase.Phase.the-variants.{Done, Failed}
 use Rattle.indoor_rules.specs.Newer.{newerOf}
 use Rattle.indoor_rules.proofs.Compared.{Newer, newer-only, newer-yes, newer-no}
-use Rattle.clean.specs.Run.{numberOf, transferredOf, carriedOf, begunOf, checkedOf, runOf}
+use Rattle.clean.specs.Run.{cleanNumberOf, transferredOf, carriedOf, cleanBegunOf, checkedOf, runOf}
 use Rattle.clean.specs.declared.ran.Ran.{Ran}
 use Rattle.clean.specs.declared.ran.Ran.the-variants.{Settings, FileSize, Ended}
 
 -- 01, Numbers we answer: 29, 46, 42, 43, and 0 where the session ends done.
 pub ran-rows : (requests : ℕ) →
-    map numberOf (Settings ∷ FileSize ∷ Ended (Failed NotNewer) requests ∷ Ended (Failed TooLarge) requests ∷ Ended Done requests ∷ [])
+    map cleanNumberOf (Settings ∷ FileSize ∷ Ended (Failed NotNewer) requests ∷ Ended (Failed TooLarge) requests ∷ Ended Done requests ∷ [])
     ≡ 29 ∷ 46 ∷ 42 ∷ 43 ∷ 0 ∷ []
 ran-rows requests = refl
 
@@ -56,7 +56,7 @@ module _ (limit resends : ℕ) (identity : Identity) (release : Release) (file i
   unfolding runOf pick
   run-29-capacity h = rw (lt-ltb 1048575 (length image) h)
 
-  refused : (x : Checked) → silent.numberOf x ≡ 29 → checkedOf x release identity file image ≡ left Settings image
+  refused : (x : Checked) → silent.settingsNumberOf x ≡ 29 → checkedOf x release identity file image ≡ left Settings image
   unfolding checkedOf
   refused (Che.Made settings) e = absurd (omega arith)
   refused Che.Refused e = refl
@@ -68,22 +68,22 @@ module _ (limit resends : ℕ) (identity : Identity) (release : Release) (file i
       (λ _. refused (silent.settingsOf limit resends) (outside-29 limit resends h))
 
   module _ (room : length image ≤ 1048575) (within : Within limit resends) where
-    begins : ran ≡ begunOf release identity file image
+    begins : ran ≡ cleanBegunOf release identity file image
     unfolding runOf checkedOf pick
     begins = rw (le-ltb 1048575 (length image) room, within-made limit resends within)
 
     -- 46 whatever the receiver is
     pub run-46-empty : length file ≡ 0 → ran ≡ left FileSize image
-    unfolding begunOf pick
+    unfolding cleanBegunOf pick
     run-46-empty h = begins ∙ rw (eq-eqb (length file) 0 h)
 
     pub run-46-long : 1048575 < length file → ran ≡ left FileSize image
-    unfolding begunOf pick
+    unfolding cleanBegunOf pick
     run-46-long h = begins ∙ rw (ne-eqb (length file) 0 (λ e. omega arith), lt-ltb 1048575 (length file) h)
 
     module _ (some : 1 ≤ length file) (most : length file ≤ 1048575) where
       carried : ran ≡ carriedOf release identity file image
-      unfolding begunOf pick
+      unfolding cleanBegunOf pick
       carried = begins ∙ rw (ne-eqb (length file) 0 (λ e. omega arith), le-ltb 1048575 (length file) most)
 
       -- 42 also where the file is too large; nothing but GET_FW_ID was sent, and the image is as it was.
@@ -133,8 +133,8 @@ module _ (limit resends : ℕ) (identity : Identity) (release : Release) (file i
         begins = take-append-seam file (drop (length file) image);
       })
 
-  begun-only : Within limit resends → length image ≤ imageSizeMost → Only (begunOf release identity file image)
-  unfolding begunOf carriedOf
+  begun-only : Within limit resends → length image ≤ imageSizeMost → Only (cleanBegunOf release identity file image)
+  unfolding cleanBegunOf carriedOf
   begun-only legal room =
       pick-all Only (eqb (length file) 0) _ _ (λ _ requests e. absurd (size-done requests e))
       (λ a. let none = eqb-false (length file) 0 a in

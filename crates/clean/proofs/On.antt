@@ -10,19 +10,19 @@ use lib.Dec.{eqb, ltb}
 use lib.ListN.{length, take, drop, take-append-drop}
 use Rattle.basis.specs.Pick.{pick, pick-yes, pick-no, pick-all}
 use Rattle.basis.specs.Left.{Left, left}
-use Rattle.lent.specs.Led.{led}
+use Rattle.lent.specs.Led.{writtenInto}
 use Rattle.lent.specs.Sent.{withSent}
 use Rattle.image.specs.Blocks.{blocksOf}
 use Rattle.wire.specs.declared.response.Identity.{Identity}
 use Rattle.receiver_state.specs.declared.verdict.Verdict.the-variants as Ver
-use Rattle.receiver_rules.specs.Request.{Effect, requestOf}
+use Rattle.receiver_rules.specs.Request.{Effect, receiverRequestOf}
 use Rattle.receiver_rules.proofs.Written.{request-length}
 use Rattle.indoor_state.specs.declared.plan.Release.{Release}
 use Rattle.indoor_state.specs.declared.phase.Reason.the-variants.{NotNewer, TooLarge}
 use Rattle.indoor_state.specs.declared.phase.Phase.{Phase}
 use Rattle.indoor_state.specs.declared.phase.Phase.the-variants.{Done, Failed}
 use Rattle.indoor_rules.specs.Newer.{newerOf}
-use Rattle.indoor_rules.specs.Response.{responseOf}
+use Rattle.indoor_rules.specs.Response.{indoorResponseOf}
 use Rattle.indoor_state.specs.declared.session.Outcome.{Outcome}
 use Rattle.indoor_rules.proofs.Written.{response-leads, written-most, response-length}
 use Rattle.line.specs.Line.{Line, line, AtRest, up, down, Clean, delivers, carriedUp, carriedDown}
@@ -32,7 +32,7 @@ use Rattle.line.proofs.Ends.{most-requests, rests-done, rests-42, rests-43}
 use Rattle.line.proofs.Demand3.{demand3}
 use Rattle.clean.specs.Run.{transferredOf, carriedOf}
 use Rattle.clean.specs.Turn.{ends, Answered, answered, answerOf, Turned, turned, deliveredOf, turnOf}
-use Rattle.clean.specs.On.{turnsMost, world, lineOf, On}
+use Rattle.clean.specs.On.{turnsMost, cleanWorld, lineOf, On}
 use Rattle.clean.specs.declared.ends.Ends.{Ends}
 use Rattle.clean.specs.declared.ran.Ran.{Ran}
 use Rattle.clean.specs.declared.ran.Ran.the-variants.{Ended}
@@ -46,10 +46,10 @@ none-goes written out none = pick-yes (eqb written 0) [] (take written out ∷ [
 module _ (file memory : List ℕ) (release : Release) (identity : Identity) (e : Ends) (image upper lower : List ℕ) (delivered : ℕ)
     (on : On file memory release identity e image upper delivered) (some : e .underway ≡ 0 → ⊥) (room : 260 ≤ length lower) where
   abbrev x : Effect
-  x = requestOf (e .receiver) image (take (e .underway) upper) 0 Ver.Good lower
+  x = receiverRequestOf (e .receiver) image (take (e .underway) upper) 0 Ver.Good lower
 
   abbrev y : Left Outcome
-  y = responseOf (e .indoor) file (take (x .outcome .written) (x .out)) upper
+  y = indoorResponseOf (e .indoor) file (take (x .outcome .written) (x .out)) upper
 
   heard : Clean file memory release identity (suc (on .deliveries)) (carriedUp (lineOf e image upper (on .requests) (on .responses)) [] x)
   heard = delivers (on .clean) _ (up (take (e .underway) upper) [] (one-goes (e .underway) upper some) lower room)
@@ -60,7 +60,7 @@ module _ (file memory : List ℕ) (release : Release) (identity : Identity) (e :
   abbrev Then : Answered → Type 0
   Then a = On file memory release identity (a .ends) (x .image) (a .up) (delivered + 1)
 
-  silent : x .outcome .written ≡ 0 → Then (answered (ends (x .outcome .state) (e .indoor) 0) upper)
+  silent : x .outcome .written ≡ 0 → Then (answered (ends (x .outcome .session) (e .indoor) 0) upper)
   unfolding pick
   silent none = record {
     wide = on .wide;
@@ -77,7 +77,7 @@ module _ (file memory : List ℕ) (release : Release) (identity : Identity) (e :
   told : (x .outcome .written ≡ 0 → ⊥) → Clean file memory release identity (suc (suc (on .deliveries))) (carriedDown (carriedUp (lineOf e image upper (on .requests) (on .responses)) [] x) [] y)
   told more = delivers heard _ (down (take (x .outcome .written) (x .out)) [] (one-goes (x .outcome .written) (x .out) more) upper (let long = on .room in omega arith))
 
-  answers : (x .outcome .written ≡ 0 → ⊥) → Then (answered (ends (x .outcome .state) (y .answer .state) (y .answer .written)) (y .memory))
+  answers : (x .outcome .written ≡ 0 → ⊥) → Then (answered (ends (x .outcome .session) (y .answer .session) (y .answer .written)) (y .memory))
   answers more = record {
     wide = on .wide;
     deliveries = suc (suc (on .deliveries));
@@ -90,7 +90,7 @@ module _ (file memory : List ℕ) (release : Release) (identity : Identity) (e :
     fits = written-most (e .indoor .plan) file upper y (response-leads (e .indoor) file (take (x .outcome .written) (x .out)) upper);
   }
 
-  answer-on : Then (answerOf (x .outcome .state) (e .indoor) file upper (x .out) (x .outcome .written))
+  answer-on : Then (answerOf (x .outcome .session) (e .indoor) file upper (x .out) (x .outcome .written))
   unfolding answerOf
   answer-on =
       pick-all Then (eqb (x .outcome .written) 0) _ _
@@ -138,17 +138,17 @@ module _ (file memory : List ℕ) (release : Release) (identity : Identity) (e :
     all-delivered = on .count ∙ ap (λ (m : List (List ℕ)). delivered + length m) (none-goes (e .underway) upper none) ∙ omega arith
 
     abbrev Is : Left Ran → Type 0
-    Is r = left (Ended (e .indoor .stand .phase) delivered) image ≡ r
+    Is r = left (Ended (e .indoor .state .phase) delivered) image ≡ r
 
-    same : (phase : Phase) (requests : ℕ) (lies : List ℕ) → e .indoor .stand .phase ≡ phase → length (on .requests) ≡ requests → image ≡ lies → Is (left (Ended phase requests) lies)
+    same : (phase : Phase) (requests : ℕ) (lies : List ℕ) → e .indoor .state .phase ≡ phase → length (on .requests) ≡ requests → image ≡ lies → Is (left (Ended phase requests) lies)
     same phase requests lies p n i = rw (p, ← n, ← all-delivered, i)
 
-    done : newerOf release identity ≡ true → length file ≤ length memory → Is (left (Ended Done (blocksOf (length file) + 4)) (led file memory))
+    done : newerOf release identity ≡ true → length file ≤ length memory → Is (left (Ended Done (blocksOf (length file) + 4)) (writtenInto file memory))
     done new fits =
         let r = rests-done file memory release identity (on .wide) (on .clean) rest new fits in
         let d = demand3 file memory release identity (on .wide) in
         let g = d .doneIsGood (l .world) (d .cleanReached (on .deliveries) l (on .clean)) (r .stands) .holds in
-        same Done (blocksOf (length file) + 4) (led file memory) (r .stands) (r .requests)
+        same Done (blocksOf (length file) + 4) (writtenInto file memory) (r .stands) (r .requests)
         (sym (take-append-drop (length file) image) ∙ ap (λ (m : List ℕ). m ++ drop (length file) image) (g .bytes) ∙ ap (λ (m : List ℕ). file ++ m) (g .behind))
 
     transferred : newerOf release identity ≡ true → Is (transferredOf file memory)
@@ -193,6 +193,6 @@ module _ (file memory : List ℕ) (release : Release) (identity : Identity) (e :
   mid-size = safe file memory release identity (mid .on .wide) (mid .on .clean) .size
 
   -- No turn is left, or the loop was left because nothing is on its way.
-  pub mid-rests : (remaining ≡ 0) ⊎ (e .underway ≡ 0) → left (Ended (e .indoor .stand .phase) (turnsMost - remaining)) image ≡ carriedOf release identity file memory
+  pub mid-rests : (remaining ≡ 0) ⊎ (e .underway ≡ 0) → left (Ended (e .indoor .state .phase) (turnsMost - remaining)) image ≡ carriedOf release identity file memory
   mid-rests (inl none) = ran file memory release identity e image upper (turnsMost - remaining) (mid .on) (turns-suffice file memory release identity e image upper (turnsMost - remaining) (mid .on) (omega arith))
   mid-rests (inr none) = ran file memory release identity e image upper (turnsMost - remaining) (mid .on) none

@@ -12,7 +12,7 @@ use Rattle.wire.specs.declared.request.Request.{Request}
 use Rattle.wire.specs.declared.request.Parsed.the-variants.{Valid}
 use Rattle.receiver_state.specs.declared.verdict.Verdict.{Verdict}
 use Rattle.receiver_state.specs.declared.verdict.Verdict.the-variants as Ver
-use Rattle.receiver_rules.specs.Request.{Effect, effect, requestOf}
+use Rattle.receiver_rules.specs.Request.{Effect, effect, receiverRequestOf}
 use Rattle.receiver_state.specs.declared.session.Receiver.{Receiver}
 use Rattle.receiver_state.specs.declared.session.Outcome.{Outcome}
 use Rattle.receiver_rules.proofs.Walk.{request-walk}
@@ -23,21 +23,21 @@ use Rattle.clean.specs.declared.ends.Ends.{Ends}
 
 -- Whatever the receiver answers, and to whatever it was given, lies in the buffer.
 pub answer-fits : (r : Receiver) (image request : List ℕ) (readiness : ℕ) (verdict : Verdict) (down : List ℕ) (heard : Outcome) (image′ down′ : List ℕ)
-    → effect heard image′ down′ ≡ requestOf r image request readiness verdict down → heard .written ≤ length down′
+    → effect heard image′ down′ ≡ receiverRequestOf r image request readiness verdict down → heard .written ≤ length down′
 answer-fits r image request readiness verdict down heard image′ down′ did =
     subst (λ (x : Effect). x .outcome .written ≤ length (x .out)) (sym did) (request-within r image request readiness verdict down)
 
 pub delivers : (e : Ends) (file image up down : List ℕ) (heard : Outcome) (image′ down′ : List ℕ)
-    → effect heard image′ down′ ≡ requestOf (e .receiver) image (take (e .underway) up) 0 Ver.Good down
-    → (e′ : Ends) (up′ : List ℕ) → answered e′ up′ ≡ answerOf (heard .state) (e .indoor) file up down′ (heard .written)
+    → effect heard image′ down′ ≡ receiverRequestOf (e .receiver) image (take (e .underway) up) 0 Ver.Good down
+    → (e′ : Ends) (up′ : List ℕ) → answered e′ up′ ≡ answerOf (heard .session) (e .indoor) file up down′ (heard .written)
     → turned e′ image′ up′ down′ ≡ deliveredOf e file image up down
 unfolding deliveredOf
 delivers e file image up down heard image′ down′ did e′ up′ told =
     ap (turnedOf (effect heard image′ down′)) told
-    ∙ ap (λ (x : Effect). turnedOf x (answerOf (x .outcome .state) (e .indoor) file up (x .out) (x .outcome .written))) did
+    ∙ ap (λ (x : Effect). turnedOf x (answerOf (x .outcome .session) (e .indoor) file up (x .out) (x .outcome .written))) did
 
-none-read : (q : Request) → message.requestOf [] ≡ Valid q → ⊥
-unfolding message.requestOf headed pick
+none-read : (q : Request) → message.parsedRequestOf [] ≡ Valid q → ⊥
+unfolding message.parsedRequestOf headed pick
 none-read q e = let z : _≡_ {A = ℕ} 0 1 = cc in omega arith
 
 module _ (r : Receiver) (i : Indoor) (file image up down : List ℕ) where
@@ -47,6 +47,6 @@ module _ (r : Receiver) (i : Indoor) (file image up down : List ℕ) where
   rest-stays =
       rw (le-ltb (length up) 0 (omega arith))
       (request-walk r image [] 0 Ver.Good down
-      (λ x. turnedOf x (answerOf (x .outcome .state) i file up (x .out) (x .outcome .written)) ≡ turned (ends r i 0) image up down)
+      (λ x. turnedOf x (answerOf (x .outcome .session) i file up (x .out) (x .outcome .written)) ≡ turned (ends r i 0) image up down)
       refl refl refl refl
       (λ q _ _ e. absurd (none-read q e)))

@@ -4,7 +4,7 @@ use mathlib.Core.List.{List}
 use mathlib.Core.Path.{_≡_}
 use Rattle.basis.specs.Left.{left}
 use Rattle.basis.specs.Only.{only}
-use Rattle.clean.specs.Run.{numberOf, runOf}
+use Rattle.clean.specs.Run.{cleanNumberOf, runOf}
 use Rattle.clean.specs.Turn.{turned, turnOf}
 use Rattle.clean.specs.declared.ends.Ends.{Ends}
 use Rattle.clean.specs.declared.ran.Ran.{Ran}
@@ -18,8 +18,8 @@ pub one-turn : (self : Ends) (file image up down : List ℕ) (r r′ : Ends) (im
 one-turn self file image up down r r′ image-left image-left′ up-left up-left′ down-left down-left′ is is′ = only is is′
 
 pub one-number : (self : Ran) (r r′ : ℕ)
-    → r ≡ numberOf self
-    → r′ ≡ numberOf self
+    → r ≡ cleanNumberOf self
+    → r′ ≡ cleanNumberOf self
     → r ≡ r′
 one-number self r r′ is is′ = only is is′
 

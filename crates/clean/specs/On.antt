@@ -13,12 +13,12 @@ use Rattle.clean.specs.declared.ends.Ends.{Ends}
 abbrev pub turnsMost : ℕ
 turnsMost = 4100
 
-abbrev pub world : Ends → List ℕ → List (List ℕ) → List (List ℕ) → World
-world e image requests responses = record { receiver = e .receiver; indoor = e .indoor; image = image; requests = requests; responses = responses }
+abbrev pub cleanWorld : Ends → List ℕ → List (List ℕ) → List (List ℕ) → World
+cleanWorld e image requests responses = record { receiver = e .receiver; indoor = e .indoor; image = image; requests = requests; responses = responses }
 
 -- The request in the buffer is all that is on its way.
 abbrev pub lineOf : Ends → List ℕ → List ℕ → List (List ℕ) → List (List ℕ) → Line
-lineOf e image up requests responses = line (world e image requests responses) (withSent (e .underway) up []) []
+lineOf e image up requests responses = line (cleanWorld e image requests responses) (withSent (e .underway) up []) []
 
 -- So many requests were delivered.
 pub record On (file memory : List ℕ) (release : Release) (identity : Identity) (e : Ends) (image up : List ℕ) (delivered : ℕ) : Type 0 where

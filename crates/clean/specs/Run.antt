@@ -6,7 +6,7 @@ use lib.Dec.{ltb, eqb}
 use lib.ListN.{length}
 use Rattle.basis.specs.Pick.{pick}
 use Rattle.basis.specs.Left.{Left, left}
-use Rattle.lent.specs.Led.{led}
+use Rattle.lent.specs.Led.{writtenInto}
 use Rattle.silence.specs.Settings.{settingsOf}
 use Rattle.silence.specs.declared.Checked.{Checked}
 use Rattle.silence.specs.declared.Checked.the-variants as Che
@@ -31,16 +31,16 @@ phaseNumber (Validate wait) = 0
 phaseNumber Done = 0
 phaseNumber (Failed reason) = reasonNumber reason
 
-abbrev pub numberOf : Ran → ℕ
-numberOf Settings = 29
-numberOf FileSize = 46
-numberOf (Ended phase requests) = phaseNumber phase
+abbrev pub cleanNumberOf : Ran → ℕ
+cleanNumberOf Settings = 29
+cleanNumberOf FileSize = 46
+cleanNumberOf (Ended phase requests) = phaseNumber phase
 
 -- 43: GET_FW_ID, INITIATE and ABORT were sent. Else the image begins with the file, and goes on as it lay.
 unfoldable pub transferredOf : List ℕ → List ℕ → Left Ran
 transferredOf file image =
     pick (ltb (length image) (length file)) (left (Ended (Failed TooLarge) 3) image)
-    (left (Ended Done (blocksOf (length file) + 4)) (led file image))
+    (left (Ended Done (blocksOf (length file) + 4)) (writtenInto file image))
 
 -- 42: nothing but GET_FW_ID was sent.
 unfoldable pub carriedOf : Release → Identity → List ℕ → List ℕ → Left Ran
@@ -49,15 +49,15 @@ carriedOf release identity file image =
     (left (Ended (Failed NotNewer) 1) image)
 
 -- 46
-unfoldable pub begunOf : Release → Identity → List ℕ → List ℕ → Left Ran
-begunOf release identity file image =
+unfoldable pub cleanBegunOf : Release → Identity → List ℕ → List ℕ → Left Ran
+cleanBegunOf release identity file image =
     pick (eqb (length file) 0) (left FileSize image)
     (pick (ltb imageSizeMost (length file)) (left FileSize image)
     (carriedOf release identity file image))
 
 -- 29
 unfoldable pub checkedOf : Checked → Release → Identity → List ℕ → List ℕ → Left Ran
-checkedOf (Che.Made settings) release identity file image = begunOf release identity file image
+checkedOf (Che.Made settings) release identity file image = cleanBegunOf release identity file image
 checkedOf Che.Refused release identity file image = left Settings image
 
 unfoldable pub runOf : ℕ → ℕ → Identity → Release → List ℕ → List ℕ → Left Ran

@@ -6,9 +6,9 @@ use lib.ListN.{length, take}
 use Rattle.basis.specs.Pick.{pick}
 use Rattle.basis.specs.Left.{Left}
 use Rattle.receiver_state.specs.declared.verdict.Verdict.the-variants as Ver
-use Rattle.receiver_rules.specs.Request.{Effect, requestOf}
+use Rattle.receiver_rules.specs.Request.{Effect, receiverRequestOf}
 use Rattle.receiver_state.specs.declared.session.Receiver.{Receiver}
-use Rattle.indoor_rules.specs.Response.{responseOf}
+use Rattle.indoor_rules.specs.Response.{indoorResponseOf}
 use Rattle.indoor_state.specs.declared.session.Indoor.{Indoor}
 use Rattle.indoor_state.specs.declared.session.Outcome.{Outcome}
 use Rattle.clean.specs.declared.ends.Ends.{Ends}
@@ -24,13 +24,13 @@ pub record Answered : Type 0 where
 abbrev pub answered : Ends → List ℕ → Answered
 answered e up = record { ends = e; up = up }
 
-abbrev pub toldOf : Receiver → Left Outcome → Answered
-toldOf receiver x = answered (ends receiver (x .answer .state) (x .answer .written)) (x .memory)
+abbrev pub afterResponseOf : Receiver → Left Outcome → Answered
+afterResponseOf receiver x = answered (ends receiver (x .answer .session) (x .answer .written)) (x .memory)
 
 unfoldable pub answerOf : Receiver → Indoor → List ℕ → List ℕ → List ℕ → ℕ → Answered
 answerOf receiver indoor file up down written =
     pick (eqb written 0) (answered (ends receiver indoor 0) up)
-    (toldOf receiver (responseOf indoor file (take written down) up))
+    (afterResponseOf receiver (indoorResponseOf indoor file (take written down) up))
 
 -- Both ends, the image and the two buffers.
 pub record Turned : Type 0 where
@@ -47,8 +47,8 @@ turnedOf x a = turned (a .ends) (x .image) (a .up) (x .out)
 
 unfoldable pub deliveredOf : Ends → List ℕ → List ℕ → List ℕ → List ℕ → Turned
 deliveredOf e file image up down =
-    let x = requestOf (e .receiver) image (take (e .underway) up) 0 Ver.Good down in
-    turnedOf x (answerOf (x .outcome .state) (e .indoor) file up (x .out) (x .outcome .written))
+    let x = receiverRequestOf (e .receiver) image (take (e .underway) up) 0 Ver.Good down in
+    turnedOf x (answerOf (x .outcome .session) (e .indoor) file up (x .out) (x .outcome .written))
 
 -- Ends whose request is longer than the lent buffer stay as they are.
 unfoldable pub turnOf : Ends → List ℕ → List ℕ → List ℕ → List ℕ → Turned

@@ -33,9 +33,9 @@ impl Ends {
         let indoor = self.indoor;
         let underway = self.underway;
         let heard = receiver::request(receiver, image, &up[..underway], 0, Verdict::Good, down);
-        let state = heard.state;
+        let session = heard.session;
         let written = heard.written;
-        answer(state, indoor, file, up, down, written)
+        answer(session, indoor, file, up, down, written)
     }
 }
 
@@ -59,10 +59,10 @@ fn answer(
         };
     }
     let told = indoor::response(indoor, file, &down[..written], up);
-    let state = told.state;
+    let session = told.session;
     Ends {
         receiver,
-        indoor: state,
+        indoor: session,
         underway: told.written,
     }
 }

@@ -1,7 +1,7 @@
 // What came of a session.
 use indoor_state::phase::Phase;
 ghost use mathlib.Core.Path.{_≡_};
-ghost use Rattle.clean.specs.Run.{phaseNumber, numberOf};
+ghost use Rattle.clean.specs.Run.{phaseNumber, cleanNumberOf};
 
 // A start was refused, for the settings or the capacity or for the file's size; or both were made, and it is told where the indoor end
 // stands when nothing is on its way, and how many requests were sent.
@@ -14,7 +14,7 @@ pub enum Ran {
 impl Ran {
     // 01, Numbers we answer.
     pub fn number(self) -> u8
-        ensures { λ r. ⌜ r ≡ numberOf self ⌝ }
+        ensures { λ r. ⌜ r ≡ cleanNumberOf self ⌝ }
     {
         match self {
             Ran::Settings => 29,

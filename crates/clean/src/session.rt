@@ -10,10 +10,10 @@ use wire::response::Identity;
 ghost use mathlib.Core.Path.{_≡_};
 ghost use lib.ListN.{length};
 ghost use Rattle.basis.specs.Left.{left};
-ghost use Rattle.receiver_rules.specs.Session.{startOf};
+ghost use Rattle.receiver_rules.specs.Session.{receiverStartOf};
 ghost use Rattle.receiver_state.specs.declared.session.Started.the-variants.{Made};
 ghost use Rattle.line.specs.Line.{Wide};
-ghost use Rattle.clean.specs.Run.{runOf, begunOf, carriedOf};
+ghost use Rattle.clean.specs.Run.{runOf, cleanBegunOf, carriedOf};
 ghost use Rattle.clean.specs.On.{On};
 
 // A file of 4,096 blocks, the most that there are, takes 4,100 requests; every session has ended by then.
@@ -46,18 +46,18 @@ fn begin(
     file: &[u8],
     image: &mut [u8],
 ) -> Ran
-    requires { ⌜ startOf limit resends (receiver .identity) (length (now image)) ≡ Made receiver ⌝ }
+    requires { ⌜ receiverStartOf limit resends (receiver .identity) (length (now image)) ≡ Made receiver ⌝ }
     requires { ⌜ Wide release (receiver .identity) ⌝ }
-    ensures { λ r. ⌜ left r (now (image .exit)) ≡ begunOf release (receiver .identity) (now (file .entry)) (now (image .entry)) ⌝ }
+    ensures { λ r. ⌜ left r (now (image .exit)) ≡ cleanBegunOf release (receiver .identity) (now (file .entry)) (now (image .entry)) ⌝ }
 {
     let mut up = [0u8; codes::LONGEST];
     let begun = indoor::start(limit, resends, release, file, &mut up);
-    let Begun::Made { state, written } = begun else {
+    let Begun::Made { session, written } = begun else {
         return Ran::FileSize;
     };
     let ends = Ends {
         receiver,
-        indoor: state,
+        indoor: session,
         underway: written,
     };
     carry(ends, file, image, &mut up)
@@ -78,8 +78,8 @@ fn carry(begun: Ends, file: &[u8], image: &mut [u8], up: &mut [u8]) -> Ran
         left -= 1;
     }
     let indoor = ends.indoor;
-    let stand = indoor.stand;
-    let phase = stand.phase;
+    let state = indoor.state;
+    let phase = state.phase;
     Ran::Ended {
         phase,
         requests: TURNS_MOST - left,

@@ -12,7 +12,7 @@ use Rattle.basis.specs.Lists.{take-own}
 use Rattle.lent.specs.Put.{pasted}
 use Rattle.lent.proofs.Laws.{put-fits, put-passes, pasted-there}
 use Rattle.lent.specs.declared.Placed.the-variants.{Stored, NoRoom}
-use Rattle.image.specs.Blocks.{blocksOf, passesOf, putBlockOf, blockAt}
+use Rattle.image.specs.Blocks.{blocksOf, blockPassesOf, putBlockOf, blockAt}
 use Rattle.image.specs.Sum.{total, sumOf}
 
 -- n is the least whole number with 256·n ≥ L.
@@ -64,12 +64,12 @@ module _ (file : List ℕ) where
 
 -- A block that does not pass the capacity is stored: after it, the image begins with what stood before its place and then the block.
 module _ (image : List ℕ) (number : ℕ) (block : List ℕ) where
-  pub block-stored : passesOf number (length block) (length image) ≡ false → putBlockOf image number block ≡ left Stored (pasted image (256 * number) block)
-  unfolding passesOf
+  pub block-stored : blockPassesOf number (length block) (length image) ≡ false → putBlockOf image number block ≡ left Stored (pasted image (256 * number) block)
+  unfolding blockPassesOf
   block-stored h = put-fits image (256 * number) block (ltb-false (length image) (256 * number + length block) h)
 
-  pub block-refused : passesOf number (length block) (length image) ≡ true → putBlockOf image number block ≡ left NoRoom image
-  unfolding passesOf
+  pub block-refused : blockPassesOf number (length block) (length image) ≡ true → putBlockOf image number block ≡ left NoRoom image
+  unfolding blockPassesOf
   block-refused h = put-passes image (256 * number) block (ltb-true (length image) (256 * number + length block) h)
 
 -- Where the image begins as the file does up to block i's place, block i put there carries that on to the block's end.
@@ -82,12 +82,12 @@ front-grows image file i h e =
     there ∙ rw (e, take-add (256 * i) (length b) file, take-own 256 (drop (256 * i) file))
 
 -- Block 4,095 at full capacity (01, Bench examples).
-pub last-block-256 : passesOf 4095 256 1048575 ≡ true
-unfolding passesOf
+pub last-block-256 : blockPassesOf 4095 256 1048575 ≡ true
+unfolding blockPassesOf
 last-block-256 = refl
 
-pub last-block-255 : passesOf 4095 255 1048575 ≡ false
-unfolding passesOf
+pub last-block-255 : blockPassesOf 4095 255 1048575 ≡ false
+unfolding blockPassesOf
 last-block-255 = refl
 
 total-append : (a b : List ℕ) → total (a ++ b) ≡ total a + total b

@@ -6,7 +6,7 @@ use mathlib.Core.Path.{_≡_}
 use lib.ListN.{take}
 use Rattle.basis.specs.Left.{left}
 use Rattle.basis.specs.Only.{only}
-use Rattle.image.specs.Blocks.{blocksOf, placeOf, passesOf, putBlockOf, blockAt}
+use Rattle.image.specs.Blocks.{blocksOf, placeOf, blockPassesOf, putBlockOf, blockAt}
 use Rattle.image.specs.Sum.{sumOf}
 use Rattle.lent.specs.declared.Placed.{Placed}
 
@@ -23,8 +23,8 @@ pub one-place-of : (number r r′ : ℕ)
 one-place-of number r r′ is is′ = only is is′
 
 pub one-passes : (number size capacity : ℕ) (r r′ : Bool)
-    → r ≡ passesOf number size capacity
-    → r′ ≡ passesOf number size capacity
+    → r ≡ blockPassesOf number size capacity
+    → r′ ≡ blockPassesOf number size capacity
     → r ≡ r′
 one-passes number size capacity r r′ is is′ = only is is′
 

@@ -19,8 +19,8 @@ abbrev pub placeOf : ℕ → ℕ
 placeOf number = blockSize * number
 
 -- A block passes a capacity if it ends behind it.
-unfoldable pub passesOf : ℕ → ℕ → ℕ → Bool
-passesOf number size capacity = ltb capacity (placeOf number + size)
+unfoldable pub blockPassesOf : ℕ → ℕ → ℕ → Bool
+blockPassesOf number size capacity = ltb capacity (placeOf number + size)
 
 -- The image before the block's place, the block, the image behind it; or all as it was where the block passes its end.
 abbrev pub putBlockOf : List ℕ → ℕ → List ℕ → Left Placed

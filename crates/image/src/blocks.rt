@@ -2,7 +2,7 @@
 use lent::Placed;
 ghost use mathlib.Core.Path.{_≡_};
 ghost use Rattle.basis.specs.Left.{left};
-ghost use Rattle.image.specs.Blocks.{blocksOf, placeOf, passesOf, putBlockOf, blockAt};
+ghost use Rattle.image.specs.Blocks.{blocksOf, placeOf, blockPassesOf, putBlockOf, blockAt};
 
 // The bytes of a block (001 T5-8); a file's last may have fewer.
 pub const BLOCK: usize = 256;
@@ -24,7 +24,7 @@ pub fn place_of(number: u16) -> usize
 
 // The end of the block is never added up, since a large size could wrap it.
 pub fn passes(number: u16, size: usize, capacity: usize) -> bool
-    ensures { λ r. ⌜ r ≡ passesOf number size capacity ⌝ }
+    ensures { λ r. ⌜ r ≡ blockPassesOf number size capacity ⌝ }
 {
     let at = place_of(number);
     if capacity < at {

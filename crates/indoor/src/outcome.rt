@@ -5,13 +5,13 @@ use indoor_state::session::Indoor;
 use indoor_state::session::Outcome;
 use indoor_state::step::Step;
 ghost use mathlib.Core.Path.{_≡_};
-ghost use Rattle.indoor_rules.specs.Session.{ends, finishOf};
+ghost use Rattle.indoor_rules.specs.Session.{indoorReturns, indoorStepped};
 
 pub(crate) fn refused(session: Indoor, answer: Answer) -> Outcome
-    ensures { λ r. ⌜ r ≡ ends session answer 0 ⌝ }
+    ensures { λ r. ⌜ r ≡ indoorReturns session answer 0 ⌝ }
 {
     Outcome {
-        state: session,
+        session,
         answer,
         written: 0,
     }
@@ -19,12 +19,12 @@ pub(crate) fn refused(session: Indoor, answer: Answer) -> Outcome
 
 // The step that was decided, and how many bytes of its request were written.
 pub(crate) fn finish(plan: Plan, step: Step, written: usize) -> Outcome
-    ensures { λ r. ⌜ r ≡ finishOf plan step written ⌝ }
+    ensures { λ r. ⌜ r ≡ indoorStepped plan step written ⌝ }
 {
     let answer = step.answer;
-    let stand = step.stand;
+    let state = step.state;
     Outcome {
-        state: Indoor { plan, stand },
+        session: Indoor { plan, state },
         answer,
         written,
     }

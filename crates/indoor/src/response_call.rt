@@ -14,11 +14,11 @@ ghost use Prim.Native.Nat.{_≤_};
 ghost use lib.ListN.{length};
 ghost use Rattle.basis.specs.Left.{left};
 ghost use Rattle.wire.specs.Codes.{longest};
-ghost use Rattle.wire.specs.Response.{responseOf as messageOf};
-ghost use Rattle.indoor_rules.specs.Response.{readOf, responseOf};
+ghost use Rattle.wire.specs.Response.{parsedResponseOf as messageOf};
+ghost use Rattle.indoor_rules.specs.Response.{responseReadOf, indoorResponseOf};
 
 pub fn response(session: Indoor, file: &[u8], response: &[u8], out: &mut [u8]) -> Outcome
-    ensures { λ r. ⌜ left r (now (out .exit)) ≡ responseOf session (now (file .entry)) (now (response .entry)) (now (out .entry)) ⌝ }
+    ensures { λ r. ⌜ left r (now (out .exit)) ≡ indoorResponseOf session (now (file .entry)) (now (response .entry)) (now (out .entry)) ⌝ }
 {
     if file.len() != session.plan.length as usize {
         return refused(session, Answer::FileLength);
@@ -31,15 +31,15 @@ pub fn response(session: Indoor, file: &[u8], response: &[u8], out: &mut [u8]) -
 
 fn read(session: Indoor, file: &[u8], response: &[u8], out: &mut [u8]) -> Outcome
     requires { ⌜ longest ≤ length (now out) ⌝ }
-    ensures { λ r. ⌜ left r (now (out .exit)) ≡ readOf session (messageOf (now (response .entry))) (now (file .entry)) (now (out .entry)) ⌝ }
+    ensures { λ r. ⌜ left r (now (out .exit)) ≡ responseReadOf session (messageOf (now (response .entry))) (now (file .entry)) (now (out .entry)) ⌝ }
 {
     let parsed = reading::read_response(response);
     let Parsed::Valid(valid) = parsed else {
         return refused(session, Answer::Malformed);
     };
     let plan = session.plan;
-    let stand = session.stand;
-    let step = decide(plan, stand, valid);
+    let state = session.state;
+    let step = decide(plan, state, valid);
     let answer = step.answer;
     let written = send(out, file, plan, answer);
     finish(plan, step, written)

@@ -11,12 +11,12 @@ ghost use lib.ListN.{length};
 ghost use Rattle.basis.specs.Left.{left};
 ghost use Rattle.wire.specs.Codes.{longest};
 ghost use Rattle.wire.specs.Written.{requestBytes};
-ghost use Rattle.lent.specs.Led.{leads};
-ghost use Rattle.indoor_rules.specs.Send.{blockBytes, sendsBytes, bytesOf};
+ghost use Rattle.lent.specs.Led.{returnsWritten};
+ghost use Rattle.indoor_rules.specs.Send.{blockBytes, sendsBytes, indoorBytesOf};
 
 pub(crate) fn send(out: &mut [u8], file: &[u8], plan: Plan, answer: Answer) -> usize
     requires { ⌜ longest ≤ length (now out) ⌝ }
-    ensures { λ r. ⌜ left r (now (out .exit)) ≡ leads (bytesOf plan (now (file .entry)) answer) (now (out .entry)) ⌝ }
+    ensures { λ r. ⌜ left r (now (out .exit)) ≡ returnsWritten (indoorBytesOf plan (now (file .entry)) answer) (now (out .entry)) ⌝ }
 {
     let sends = answer_sends(answer);
     let versions = plan.release.versions;
@@ -25,7 +25,7 @@ pub(crate) fn send(out: &mut [u8], file: &[u8], plan: Plan, answer: Answer) -> u
 
 fn deliver(out: &mut [u8], file: &[u8], versions: Versions, sends: Sends) -> usize
     requires { ⌜ longest ≤ length (now out) ⌝ }
-    ensures { λ r. ⌜ left r (now (out .exit)) ≡ leads (sendsBytes versions (now (file .entry)) sends) (now (out .entry)) ⌝ }
+    ensures { λ r. ⌜ left r (now (out .exit)) ≡ returnsWritten (sendsBytes versions (now (file .entry)) sends) (now (out .entry)) ⌝ }
 {
     match sends {
         Sends::Nothing => 0,
@@ -40,7 +40,7 @@ fn deliver(out: &mut [u8], file: &[u8], versions: Versions, sends: Sends) -> usi
 // A request that has no block; of DATA its head.
 pub(crate) fn message(out: &mut [u8], request: Request) -> usize
     requires { ⌜ longest ≤ length (now out) ⌝ }
-    ensures { λ r. ⌜ left r (now (out .exit)) ≡ leads (requestBytes request) (now (out .entry)) ⌝ }
+    ensures { λ r. ⌜ left r (now (out .exit)) ≡ returnsWritten (requestBytes request) (now (out .entry)) ⌝ }
 {
     let message = writing::write_request(request);
     let written = message.len;
@@ -51,7 +51,7 @@ pub(crate) fn message(out: &mut [u8], request: Request) -> usize
 // DATA: its head, and then the block as a part of the lent file.
 fn block(out: &mut [u8], file: &[u8], number: u16) -> usize
     requires { ⌜ longest ≤ length (now out) ⌝ }
-    ensures { λ r. ⌜ left r (now (out .exit)) ≡ leads (blockBytes (now (file .entry)) number) (now (out .entry)) ⌝ }
+    ensures { λ r. ⌜ left r (now (out .exit)) ≡ returnsWritten (blockBytes (now (file .entry)) number) (now (out .entry)) ⌝ }
 {
     let part = image::block_at(file, number);
     let size = part.len();

@@ -1,7 +1,7 @@
 // A session's start (01, Numbers we answer: 29, 46, 27).
 use crate::send::message;
 use indoor_state::phase::Phase;
-use indoor_state::phase::Stand;
+use indoor_state::phase::State;
 use indoor_state::plan::Plan;
 use indoor_state::plan::Release;
 use indoor_state::session::Indoor;
@@ -15,12 +15,12 @@ ghost use Prim.Native.Nat.{_≤_};
 ghost use lib.ListN.{length};
 ghost use Rattle.basis.specs.Left.{left};
 ghost use Rattle.wire.specs.Codes.{longest};
-ghost use Rattle.indoor_state.specs.Session.{numberOf};
-ghost use Rattle.indoor_rules.specs.Start.{begunOf, beginOf, startOf};
+ghost use Rattle.indoor_state.specs.Session.{indoorStartNumberOf};
+ghost use Rattle.indoor_rules.specs.Start.{indoorBegun, indoorBeginOf, indoorStartOf};
 
 // From plain numbers, so that a session that is made here has settings that were tested. It writes GET_FW_ID.
 pub fn start(limit: u16, resends: u8, release: Release, file: &[u8], out: &mut [u8]) -> Started
-    ensures { λ r. ⌜ left r (now (out .exit)) ≡ startOf limit resends release (now (file .entry)) (now (out .entry)) ⌝ }
+    ensures { λ r. ⌜ left r (now (out .exit)) ≡ indoorStartOf limit resends release (now (file .entry)) (now (out .entry)) ⌝ }
 {
     let checked = Settings::new(limit, resends);
     let Checked::Made(settings) = checked else {
@@ -30,7 +30,7 @@ pub fn start(limit: u16, resends: u8, release: Release, file: &[u8], out: &mut [
 }
 
 fn begin(settings: Settings, release: Release, file: &[u8], out: &mut [u8]) -> Started
-    ensures { λ r. ⌜ left r (now (out .exit)) ≡ beginOf settings release (now (file .entry)) (now (out .entry)) ⌝ }
+    ensures { λ r. ⌜ left r (now (out .exit)) ≡ indoorBeginOf settings release (now (file .entry)) (now (out .entry)) ⌝ }
 {
     let length = file.len();
     if length == 0 {
@@ -52,27 +52,27 @@ fn begin(settings: Settings, release: Release, file: &[u8], out: &mut [u8]) -> S
 
 fn begun(plan: Plan, out: &mut [u8]) -> Started
     requires { ⌜ longest ≤ length (now out) ⌝ }
-    ensures { λ r. ⌜ left r (now (out .exit)) ≡ begunOf plan (now (out .entry)) ⌝ }
+    ensures { λ r. ⌜ left r (now (out .exit)) ≡ indoorBegun plan (now (out .entry)) ⌝ }
 {
-    let stand = Stand {
+    let state = State {
         phase: Phase::Identify,
         silence: 0,
         resends: 0,
     };
     let written = message(out, Request::GetFwId);
     Started::Made {
-        state: Indoor { plan, stand },
+        session: Indoor { plan, state },
         written,
     }
 }
 
 // 01, Numbers we answer.
 pub fn started_number(started: Started) -> u8
-    ensures { λ r. ⌜ r ≡ numberOf started ⌝ }
+    ensures { λ r. ⌜ r ≡ indoorStartNumberOf started ⌝ }
 {
     match started {
         Started::Made {
-            state: _,
+            session: _,
             written: _,
         } => 0,
         Started::Settings => 29,

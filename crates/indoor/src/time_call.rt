@@ -12,15 +12,15 @@ ghost use mathlib.Core.Path.{_≡_};
 ghost use Prim.Native.Nat.{_≤_};
 ghost use lib.ListN.{length};
 ghost use Rattle.basis.specs.Left.{left};
-ghost use Rattle.lent.specs.Led.{leads};
+ghost use Rattle.lent.specs.Led.{returnsWritten};
 ghost use Rattle.wire.specs.Codes.{longest};
-ghost use Rattle.indoor_rules.specs.Pass.{passOf};
-ghost use Rattle.indoor_rules.specs.Send.{bytesOf};
-ghost use Rattle.indoor_rules.specs.Session.{doneOf};
-ghost use Rattle.indoor_rules.specs.Time.{timeOf};
+ghost use Rattle.indoor_rules.specs.Tick.{indoorTickOf};
+ghost use Rattle.indoor_rules.specs.Send.{indoorBytesOf};
+ghost use Rattle.indoor_rules.specs.Session.{indoorDone};
+ghost use Rattle.indoor_rules.specs.Time.{indoorTimeOf};
 
 pub fn time(session: Indoor, file: &[u8], elapsed: u16, out: &mut [u8]) -> Outcome
-    ensures { λ r. ⌜ left r (now (out .exit)) ≡ timeOf session (now (file .entry)) elapsed (now (out .entry)) ⌝ }
+    ensures { λ r. ⌜ left r (now (out .exit)) ≡ indoorTimeOf session (now (file .entry)) elapsed (now (out .entry)) ⌝ }
 {
     if file.len() != session.plan.length as usize {
         return refused(session, Answer::FileLength);
@@ -33,11 +33,11 @@ pub fn time(session: Indoor, file: &[u8], elapsed: u16, out: &mut [u8]) -> Outco
 
 fn spend(session: Indoor, file: &[u8], elapsed: u16, out: &mut [u8]) -> Outcome
     requires { ⌜ longest ≤ length (now out) ⌝ }
-    ensures { λ r. ⌜ left r (now (out .exit)) ≡ doneOf (session .plan) (passOf (session .plan) (session .stand) elapsed) (now (file .entry)) (now (out .entry)) ⌝ }
+    ensures { λ r. ⌜ left r (now (out .exit)) ≡ indoorDone (session .plan) (indoorTickOf (session .plan) (session .state) elapsed) (now (file .entry)) (now (out .entry)) ⌝ }
 {
     let plan = session.plan;
-    let stand = session.stand;
-    let step = pass(plan, stand, elapsed);
+    let state = session.state;
+    let step = pass(plan, state, elapsed);
     let answer = step.answer;
     let written = prompt(out, file, plan, answer);
     finish(plan, step, written)
@@ -46,7 +46,7 @@ fn spend(session: Indoor, file: &[u8], elapsed: u16, out: &mut [u8]) -> Outcome
 // Most time calls only count: nothing goes out then, and the file is not looked at.
 fn prompt(out: &mut [u8], file: &[u8], plan: Plan, answer: Answer) -> usize
     requires { ⌜ longest ≤ length (now out) ⌝ }
-    ensures { λ r. ⌜ left r (now (out .exit)) ≡ leads (bytesOf plan (now (file .entry)) answer) (now (out .entry)) ⌝ }
+    ensures { λ r. ⌜ left r (now (out .exit)) ≡ returnsWritten (indoorBytesOf plan (now (file .entry)) answer) (now (out .entry)) ⌝ }
 {
     let Answer::Passed = answer else {
         return send(out, file, plan, answer);

@@ -4,11 +4,11 @@ use indoor_state::answer::Sends;
 use indoor_state::phase::Reason;
 ghost use mathlib.Core.Path.{_≡_};
 ghost use Rattle.indoor_state.specs.Phase.{reasonNumber};
-ghost use Rattle.indoor_state.specs.Answer.{numberOf, abortsOf, sendsOf};
+ghost use Rattle.indoor_state.specs.Answer.{indoorNumberOf, abortsOf, sendsOf};
 
 // 01, Numbers we answer.
 pub fn answer_number(answer: Answer) -> u8
-    ensures { λ r. ⌜ r ≡ numberOf answer ⌝ }
+    ensures { λ r. ⌜ r ≡ indoorNumberOf answer ⌝ }
 {
     match answer {
         Answer::Identifying => 0,

@@ -9,7 +9,7 @@ use indoor_state::answer::Answer;
 use indoor_state::phase::Phase;
 use indoor_state::phase::Progress;
 use indoor_state::phase::Reason;
-use indoor_state::phase::Stand;
+use indoor_state::phase::State;
 use indoor_state::plan::Plan;
 use indoor_state::step::Step;
 use wire::codes;
@@ -17,36 +17,36 @@ use wire::response::Identity;
 use wire::response::Response;
 use wire::status::Status;
 ghost use mathlib.Core.Path.{_≡_};
-ghost use Rattle.indoor_rules.specs.Decide.{passesOver, sends, okOf, whereOk, comparedOf, readyOf, offeredOf, endedOf, closedOf, askedOf, numberedOf, judgedOf, verdictOf, identifyOf, initiateOf, transferOf, validateOf, decidedOf, decideOf};
+ghost use Rattle.indoor_rules.specs.Decide.{passedOver, sendsBlock, okOf, whereOk, comparedOf, readyOf, offeredOf, indoorCloseNumberOf, indoorCloseOf, blockAskedOf, indoorDataOf, indoorSuccessOf, indoorValidatedOf, indoorIdentifyOf, indoorInitiateOf, indoorTransferOf, indoorValidateOf, indoorDecideIn, indoorDecideOf};
 
 // A WaitTime counts so many milliseconds in an INITIATE response (001 T5-20).
 const INITIATE_UNIT: u16 = 10;
 
-pub fn decide(plan: Plan, stand: Stand, response: Response) -> Step
-    ensures { λ r. ⌜ r ≡ decideOf plan stand response ⌝ }
+pub fn decide(plan: Plan, state: State, response: Response) -> Step
+    ensures { λ r. ⌜ r ≡ indoorDecideOf plan state response ⌝ }
 {
-    let phase = stand.phase;
-    decided(plan, stand, phase, response)
+    let phase = state.phase;
+    decided(plan, state, phase, response)
 }
 
-fn decided(plan: Plan, stand: Stand, phase: Phase, response: Response) -> Step
-    ensures { λ r. ⌜ r ≡ decidedOf plan stand phase response ⌝ }
+fn decided(plan: Plan, state: State, phase: Phase, response: Response) -> Step
+    ensures { λ r. ⌜ r ≡ indoorDecideIn plan state phase response ⌝ }
 {
     match phase {
-        Phase::Identify => identify(plan, stand, response),
-        Phase::Initiate { wait: _ } => initiate(plan, stand, response),
-        Phase::Transfer(p) => transfer(plan, stand, p, response),
-        Phase::Validate { wait: _ } => validate(stand, response),
-        Phase::Done => passes_over(stand),
-        Phase::Failed(_) => passes_over(stand),
+        Phase::Identify => identify(plan, state, response),
+        Phase::Initiate { wait: _ } => initiate(plan, state, response),
+        Phase::Transfer(p) => transfer(plan, state, p, response),
+        Phase::Validate { wait: _ } => validate(state, response),
+        Phase::Done => passes_over(state),
+        Phase::Failed(_) => passes_over(state),
     }
 }
 
-fn passes_over(stand: Stand) -> Step
-    ensures { λ r. ⌜ r ≡ passesOver stand ⌝ }
+fn passes_over(state: State) -> Step
+    ensures { λ r. ⌜ r ≡ passedOver state ⌝ }
 {
     Step {
-        stand,
+        state,
         answer: Answer::Unexpected,
     }
 }
@@ -68,11 +68,11 @@ fn where_ok(status: u8, further: Step) -> Step
     fails(Reason::Refused)
 }
 
-fn identify(plan: Plan, stand: Stand, response: Response) -> Step
-    ensures { λ r. ⌜ r ≡ identifyOf plan stand response ⌝ }
+fn identify(plan: Plan, state: State, response: Response) -> Step
+    ensures { λ r. ⌜ r ≡ indoorIdentifyOf plan state response ⌝ }
 {
     let Response::GetFwId { status, identity } = response else {
-        return passes_over(stand);
+        return passes_over(state);
     };
     where_ok(status, compared(plan, identity))
 }
@@ -87,11 +87,11 @@ fn compared(plan: Plan, reported: Identity) -> Step
     fails(Reason::NotNewer)
 }
 
-fn initiate(plan: Plan, stand: Stand, response: Response) -> Step
-    ensures { λ r. ⌜ r ≡ initiateOf plan stand response ⌝ }
+fn initiate(plan: Plan, state: State, response: Response) -> Step
+    ensures { λ r. ⌜ r ≡ indoorInitiateOf plan state response ⌝ }
 {
     let Response::Initiate { status, wait, size } = response else {
-        return passes_over(stand);
+        return passes_over(state);
     };
     where_ok(status, offered(plan, wait, size))
 }
@@ -119,14 +119,14 @@ fn ready(plan: Plan, size: u32) -> Step
 }
 
 fn sends(plan: Plan, number: u16, emptied: bool) -> Step
-    ensures { λ r. ⌜ r ≡ sends plan number emptied ⌝ }
+    ensures { λ r. ⌜ r ≡ sendsBlock plan number emptied ⌝ }
 {
     let phase = sent(plan, number, emptied);
     goes(phase, Answer::Sending { number })
 }
 
-fn transfer(plan: Plan, stand: Stand, p: Progress, response: Response) -> Step
-    ensures { λ r. ⌜ r ≡ transferOf plan stand p response ⌝ }
+fn transfer(plan: Plan, state: State, p: Progress, response: Response) -> Step
+    ensures { λ r. ⌜ r ≡ indoorTransferOf plan state p response ⌝ }
 {
     let Response::Data {
         status,
@@ -134,13 +134,13 @@ fn transfer(plan: Plan, stand: Stand, p: Progress, response: Response) -> Step
         number,
     } = response
     else {
-        return passes_over(stand);
+        return passes_over(state);
     };
     where_ok(status, numbered(plan, p.emptied, wait, number))
 }
 
 fn numbered(plan: Plan, emptied: bool, wait: u8, number: u16) -> Step
-    ensures { λ r. ⌜ r ≡ numberedOf plan emptied wait number ⌝ }
+    ensures { λ r. ⌜ r ≡ indoorDataOf plan emptied wait number ⌝ }
 {
     if wait == codes::UNABLE {
         return closed(plan, emptied, number);
@@ -149,7 +149,7 @@ fn numbered(plan: Plan, emptied: bool, wait: u8, number: u16) -> Step
 }
 
 fn closed(plan: Plan, emptied: bool, number: u16) -> Step
-    ensures { λ r. ⌜ r ≡ closedOf plan emptied number ⌝ }
+    ensures { λ r. ⌜ r ≡ indoorCloseOf plan emptied number ⌝ }
 {
     if emptied {
         return ended(plan, number);
@@ -158,7 +158,7 @@ fn closed(plan: Plan, emptied: bool, number: u16) -> Step
 }
 
 fn ended(plan: Plan, number: u16) -> Step
-    ensures { λ r. ⌜ r ≡ endedOf plan number ⌝ }
+    ensures { λ r. ⌜ r ≡ indoorCloseNumberOf plan number ⌝ }
 {
     let last = last(plan);
     if number as usize == last {
@@ -168,7 +168,7 @@ fn ended(plan: Plan, number: u16) -> Step
 }
 
 fn block_asked(plan: Plan, emptied: bool, wait: u8, number: u16) -> Step
-    ensures { λ r. ⌜ r ≡ askedOf plan emptied wait number ⌝ }
+    ensures { λ r. ⌜ r ≡ blockAskedOf plan emptied wait number ⌝ }
 {
     let last = last(plan);
     if last < number as usize {
@@ -185,8 +185,8 @@ fn block_asked(plan: Plan, emptied: bool, wait: u8, number: u16) -> Step
     goes(Phase::Transfer(p), Answer::Waiting)
 }
 
-fn validate(stand: Stand, response: Response) -> Step
-    ensures { λ r. ⌜ r ≡ validateOf stand response ⌝ }
+fn validate(state: State, response: Response) -> Step
+    ensures { λ r. ⌜ r ≡ indoorValidateOf state response ⌝ }
 {
     let Response::Validate {
         status,
@@ -194,13 +194,13 @@ fn validate(stand: Stand, response: Response) -> Step
         success,
     } = response
     else {
-        return passes_over(stand);
+        return passes_over(state);
     };
     where_ok(status, verdict(wait, success))
 }
 
 fn verdict(wait: u8, success: bool) -> Step
-    ensures { λ r. ⌜ r ≡ verdictOf wait success ⌝ }
+    ensures { λ r. ⌜ r ≡ indoorValidatedOf wait success ⌝ }
 {
     if wait == codes::UNABLE {
         return fails(Reason::Refused);
@@ -212,7 +212,7 @@ fn verdict(wait: u8, success: bool) -> Step
 }
 
 fn judged(success: bool) -> Step
-    ensures { λ r. ⌜ r ≡ judgedOf success ⌝ }
+    ensures { λ r. ⌜ r ≡ indoorSuccessOf success ⌝ }
 {
     if success {
         return goes(Phase::Done, Answer::Finished);

@@ -2,7 +2,7 @@
 use indoor_state::answer::Answer;
 use indoor_state::phase::Phase;
 use indoor_state::phase::Reason;
-use indoor_state::phase::Stand;
+use indoor_state::phase::State;
 use indoor_state::step::Step;
 ghost use mathlib.Core.Path.{_≡_};
 ghost use Rattle.indoor_rules.specs.Step.{goes, fails};
@@ -12,7 +12,7 @@ pub(crate) fn goes(phase: Phase, answer: Answer) -> Step
     ensures { λ r. ⌜ r ≡ goes phase answer ⌝ }
 {
     Step {
-        stand: Stand {
+        state: State {
             phase,
             silence: 0,
             resends: 0,

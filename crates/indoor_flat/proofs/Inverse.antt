@@ -42,7 +42,7 @@ phase-back Done = refl
 phase-back (Failed reason) = rw (reason-back reason)
 
 pub unpack-pack : (s : Indoor) → unpackOf (packOf s) ≡ s
-unpack-pack s = rw (phase-back (s .stand .phase))
+unpack-pack s = rw (phase-back (s .state .phase))
 
 number-back : (n : ℕ) → 40 ≤ n → n ≤ 45 → reasonNumber (reasonOf n) ≡ n
 unfolding reasonOf
@@ -138,4 +138,4 @@ phase-standing (Failed reason) =
 pub pack-session : (s : Indoor) → Within (s .plan .settings .limit) (s .plan .settings .resends) → 1 ≤ s .plan .length → s .plan .length ≤ imageSizeMost
     → isSession (packOf s) ≡ true
 pack-session s within some most =
-    whole-session (packOf s) (record { within = within; some = some; most = most; standing = phase-standing (s .stand .phase) })
+    whole-session (packOf s) (record { within = within; some = some; most = most; standing = phase-standing (s .state .phase) })

@@ -7,7 +7,7 @@ use borrow.Author.Tests.{ltb-false, leb-true, eqb-true, eqb-false}
 use lib.Dec.{eqb, leb, ltb}
 use Rattle.basis.specs.Pick.{pick-all, pick-both, tests}
 use Rattle.silence.specs.Within.{Within}
-use Rattle.silence.specs.Settings.{settingsOf, numberOf}
+use Rattle.silence.specs.Settings.{settingsOf, settingsNumberOf}
 use Rattle.silence.specs.declared.Checked.{Checked}
 use Rattle.silence.specs.declared.Checked.the-variants as Che
 use Rattle.silence.proofs.Laws.{made-within, within-made}
@@ -115,14 +115,14 @@ module _ (p : Place) where
       (λ n. absurd (eqb-false (p .emptied) 0 n emptied))))
       (λ n. absurd (eqb-false (p .reason) 0 n none)))
 
-checked-within : (limit resends : ℕ) (x : Checked) → settingsOf limit resends ≡ x → numberOf x ≡ 0 → Within limit resends
+checked-within : (limit resends : ℕ) (x : Checked) → settingsOf limit resends ≡ x → settingsNumberOf x ≡ 0 → Within limit resends
 checked-within limit resends (Che.Made s) p e = made-within limit resends s p
 checked-within limit resends Che.Refused p e = absurd (omega arith)
 
 pub session-whole : (f : FlatIndoor) → isSession f ≡ true → Whole f
 unfolding isSession
 session-whole f e =
-    let a = pick-both (eqb (numberOf (settingsOf (f .plan .settings .limit) (f .plan .settings .resends))) 0) _ e in
+    let a = pick-both (eqb (settingsNumberOf (settingsOf (f .plan .settings .limit) (f .plan .settings .resends))) 0) _ e in
     let within = checked-within (f .plan .settings .limit) (f .plan .settings .resends) _ refl (eqb-true _ 0 (a .0)) in
     let P : Bool → Type 0 = λ b. b ≡ true → Whole f in
     pick-all P (eqb (f .plan .length) 0) _ _ (λ _ h. absurd (true≢false (sym h)))

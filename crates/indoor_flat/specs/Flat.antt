@@ -3,8 +3,8 @@ use Prim.Native.Nat.{ℕ}
 use mathlib.Core.Bool.{Bool, false}
 use lib.Dec.{eqb, ltb}
 use Rattle.basis.specs.Pick.{pick}
-use Rattle.silence.specs.Settings.{settingsOf, numberOf}
-use Rattle.indoor_state.specs.Phase.{stands}
+use Rattle.silence.specs.Settings.{settingsOf, settingsNumberOf}
+use Rattle.indoor_state.specs.Phase.{indoorState}
 use Rattle.indoor_state.specs.declared.plan.Plan.{Plan}
 use Rattle.indoor_rules.specs.Session.{indoor}
 use Rattle.wire.specs.Codes.{imageSizeMost}
@@ -29,15 +29,15 @@ abbrev pub placed : FlatIndoor → Place
 placed f = place (f .phase) (f .emptied) (f .asked) (f .wait) (f .reason)
 
 abbrev pub packOf : Indoor → FlatIndoor
-packOf s = flat (s .plan) (placeOf (s .stand .phase)) (s .stand .silence) (s .stand .resends)
+packOf s = flat (s .plan) (placeOf (s .state .phase)) (s .state .silence) (s .state .resends)
 
 abbrev pub unpackOf : FlatIndoor → Indoor
-unpackOf f = indoor (f .plan) (stands (phaseOf (placed f)) (f .silence) (f .resends))
+unpackOf f = indoor (f .plan) (indoorState (phaseOf (placed f)) (f .silence) (f .resends))
 
 -- Numbers of a session: what a start takes, in a phase.
 unfoldable pub isSession : FlatIndoor → Bool
 isSession f =
-    pick (eqb (numberOf (settingsOf (f .plan .settings .limit) (f .plan .settings .resends))) 0)
+    pick (eqb (settingsNumberOf (settingsOf (f .plan .settings .limit) (f .plan .settings .resends))) 0)
     (pick (eqb (f .plan .length) 0) false
     (pick (ltb imageSizeMost (f .plan .length)) false
     (standsOf (placed f))))

@@ -4,7 +4,7 @@ use mathlib.Core.Bool.{Bool, true, false}
 use lib.Dec.{eqb, ltb, leb}
 use Rattle.basis.specs.Flag.{byteOf}
 use Rattle.basis.specs.Pick.{pick}
-use Rattle.indoor_state.specs.Phase.{reasonNumber, progress}
+use Rattle.indoor_state.specs.Phase.{reasonNumber, indoorProgress}
 use Rattle.indoor_state.specs.declared.phase.Reason.{Reason}
 use Rattle.indoor_state.specs.declared.phase.Reason.the-variants as Why
 use Rattle.indoor_state.specs.declared.phase.Phase.{Phase}
@@ -36,7 +36,7 @@ reasonOf number =
 unfoldable pub phaseOf : Place → Phase
 phaseOf p =
     pick (eqb (p .phase) 1) (Initiate (p .wait))
-    (pick (eqb (p .phase) 2) (Transfer (progress (p .asked) (p .wait) (eqb (p .emptied) 1)))
+    (pick (eqb (p .phase) 2) (Transfer (indoorProgress (p .asked) (p .wait) (eqb (p .emptied) 1)))
     (pick (eqb (p .phase) 3) (Validate (p .wait))
     (pick (eqb (p .phase) 4) Done
     (pick (eqb (p .phase) 5) (Failed (reasonOf (p .reason)))

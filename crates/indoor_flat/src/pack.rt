@@ -10,8 +10,8 @@ impl FlatIndoor {
         ensures { λ r. ⌜ r ≡ packOf session ⌝ }
     {
         let plan = session.plan;
-        let stand = session.stand;
-        let phase = stand.phase;
+        let state = session.state;
+        let phase = state.phase;
         let place = Place::of(phase);
         FlatIndoor {
             plan,
@@ -20,8 +20,8 @@ impl FlatIndoor {
             asked: place.asked,
             wait: place.wait,
             reason: place.reason,
-            silence: stand.silence,
-            resends: stand.resends,
+            silence: state.silence,
+            resends: state.resends,
         }
     }
 }

@@ -1,7 +1,7 @@
 // The session that the numbers say, and whether they are a session's at all: settings and a file's length that a start takes, in a phase.
 use crate::flat::FlatIndoor;
 use crate::place::Place;
-use indoor_state::phase::Stand;
+use indoor_state::phase::State;
 use indoor_state::session::Indoor;
 use silence::Settings;
 use wire::codes;
@@ -17,12 +17,12 @@ impl FlatIndoor {
         let plan = self.plan;
         let place = self.place();
         let phase = place.phase();
-        let stand = Stand {
+        let state = State {
             phase,
             silence: self.silence,
             resends: self.resends,
         };
-        Indoor { plan, stand }
+        Indoor { plan, state }
     }
 
     pub fn is_session(self) -> bool

@@ -9,44 +9,44 @@ use Rattle.basis.specs.Left.{left}
 use Rattle.wire.specs.Response as message
 use Rattle.wire.specs.declared.response.Response.{Response}
 use Rattle.wire.specs.declared.response.Parsed.the-variants as Par
-use Rattle.indoor_rules.specs.Decide.{decideOf}
-use Rattle.indoor_rules.specs.Pass.{passOf}
+use Rattle.indoor_rules.specs.Decide.{indoorDecideOf}
+use Rattle.indoor_rules.specs.Tick.{indoorTickOf}
 use Rattle.indoor_state.specs.declared.answer.Answer.the-variants.{Malformed, BufferShort, FileLength}
-use Rattle.indoor_rules.specs.Session.{ends, doneOf}
-use Rattle.indoor_rules.specs.Response.{readOf, responseOf}
-use Rattle.indoor_rules.specs.Time.{timeOf}
+use Rattle.indoor_rules.specs.Session.{indoorReturns, indoorDone}
+use Rattle.indoor_rules.specs.Response.{responseReadOf, indoorResponseOf}
+use Rattle.indoor_rules.specs.Time.{indoorTimeOf}
 use Rattle.indoor_state.specs.declared.session.Indoor.{Indoor}
 
 module _ (s : Indoor) (file response out : List ℕ) where
-  pub response-28 : (length file ≡ s .plan .length → ⊥) → responseOf s file response out ≡ left (ends s FileLength 0) out
-  unfolding responseOf pick
+  pub response-28 : (length file ≡ s .plan .length → ⊥) → indoorResponseOf s file response out ≡ left (indoorReturns s FileLength 0) out
+  unfolding indoorResponseOf pick
   response-28 h = rw (ne-eqb (length file) (s .plan .length) h)
 
   module _ (lent : length file ≡ s .plan .length) where
-    pub response-27 : length out < 260 → responseOf s file response out ≡ left (ends s BufferShort 0) out
-    unfolding responseOf pick
+    pub response-27 : length out < 260 → indoorResponseOf s file response out ≡ left (indoorReturns s BufferShort 0) out
+    unfolding indoorResponseOf pick
     response-27 h = rw (eq-eqb (length file) (s .plan .length) lent, lt-ltb (length out) 260 h)
 
     module _ (room : 260 ≤ length out) where
-      pub response-20 : message.responseOf response ≡ Par.Malformed → responseOf s file response out ≡ left (ends s Malformed 0) out
-      unfolding responseOf readOf pick
+      pub response-20 : message.parsedResponseOf response ≡ Par.Malformed → indoorResponseOf s file response out ≡ left (indoorReturns s Malformed 0) out
+      unfolding indoorResponseOf responseReadOf pick
       response-20 e = rw (eq-eqb (length file) (s .plan .length) lent, le-ltb (length out) 260 room, e)
 
-      pub response-step : (r : Response) → message.responseOf response ≡ Par.Valid r
-          → responseOf s file response out ≡ doneOf (s .plan) (decideOf (s .plan) (s .stand) r) file out
-      unfolding responseOf readOf pick
+      pub response-step : (r : Response) → message.parsedResponseOf response ≡ Par.Valid r
+          → indoorResponseOf s file response out ≡ indoorDone (s .plan) (indoorDecideOf (s .plan) (s .state) r) file out
+      unfolding indoorResponseOf responseReadOf pick
       response-step r e = rw (eq-eqb (length file) (s .plan .length) lent, le-ltb (length out) 260 room, e)
 
 module _ (s : Indoor) (file : List ℕ) (elapsed : ℕ) (out : List ℕ) where
-  pub time-28 : (length file ≡ s .plan .length → ⊥) → timeOf s file elapsed out ≡ left (ends s FileLength 0) out
-  unfolding timeOf pick
+  pub time-28 : (length file ≡ s .plan .length → ⊥) → indoorTimeOf s file elapsed out ≡ left (indoorReturns s FileLength 0) out
+  unfolding indoorTimeOf pick
   time-28 h = rw (ne-eqb (length file) (s .plan .length) h)
 
   module _ (lent : length file ≡ s .plan .length) where
-    pub time-27 : length out < 260 → timeOf s file elapsed out ≡ left (ends s BufferShort 0) out
-    unfolding timeOf pick
+    pub time-27 : length out < 260 → indoorTimeOf s file elapsed out ≡ left (indoorReturns s BufferShort 0) out
+    unfolding indoorTimeOf pick
     time-27 h = rw (eq-eqb (length file) (s .plan .length) lent, lt-ltb (length out) 260 h)
 
-    pub time-step : 260 ≤ length out → timeOf s file elapsed out ≡ doneOf (s .plan) (passOf (s .plan) (s .stand) elapsed) file out
-    unfolding timeOf pick
+    pub time-step : 260 ≤ length out → indoorTimeOf s file elapsed out ≡ indoorDone (s .plan) (indoorTickOf (s .plan) (s .state) elapsed) file out
+    unfolding indoorTimeOf pick
     time-step room = rw (eq-eqb (length file) (s .plan .length) lent, le-ltb (length out) 260 room)

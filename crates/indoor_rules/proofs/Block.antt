@@ -5,7 +5,7 @@ use mathlib.Core.List.{List}
 use native.Mathlib.Omega.{arith}
 use lib.ListN.{length}
 use Rattle.basis.specs.Left.{left}
-use Rattle.lent.specs.Led.{led}
+use Rattle.lent.specs.Led.{writtenInto}
 use Rattle.lent.specs.Put.{putOf}
 use Rattle.lent.specs.declared.Placed.the-variants.{Stored}
 use Rattle.lent.proofs.Laws.{led-two}
@@ -27,8 +27,8 @@ module _ (file : List ℕ) (number : ℕ) where
   head-four size = refl
 
   pub block-written : (out : List ℕ) → longest ≤ length out
-      → putOf (led (requestBytes (Req.Data number (length (blockAt file number)))) out) (length (requestBytes (Req.Data number (length (blockAt file number))))) (blockAt file number)
-      ≡ left Stored (led (blockBytes file number) out)
+      → putOf (writtenInto (requestBytes (Req.Data number (length (blockAt file number)))) out) (length (requestBytes (Req.Data number (length (blockAt file number))))) (blockAt file number)
+      ≡ left Stored (writtenInto (blockBytes file number) out)
   unfolding blockBytes
   block-written out room =
       let four = head-four (length (blockAt file number)) in

@@ -2,12 +2,12 @@
 use mathlib.Core.Path.{_≡_, refl}
 use Rattle.wire.specs.declared.response.Response.{Response}
 use Rattle.wire.specs.declared.response.Response.the-variants as Res
-use Rattle.indoor_state.specs.Step.{step}
-use Rattle.indoor_rules.specs.Decide.{identifyOf, initiateOf, transferOf, validateOf, decidedOf, decideOf}
+use Rattle.indoor_state.specs.Step.{indoorStep}
+use Rattle.indoor_rules.specs.Decide.{indoorIdentifyOf, indoorInitiateOf, indoorTransferOf, indoorValidateOf, indoorDecideIn, indoorDecideOf}
 use Rattle.indoor_state.specs.declared.plan.Plan.{Plan}
 use Rattle.indoor_state.specs.declared.phase.Phase.{Phase}
 use Rattle.indoor_state.specs.declared.phase.Phase.the-variants.{Identify, Initiate, Transfer, Validate, Done, Failed}
-use Rattle.indoor_state.specs.declared.phase.Stand.{Stand}
+use Rattle.indoor_state.specs.declared.phase.State.{State}
 use Rattle.indoor_state.specs.declared.answer.Answer.the-variants.{Unexpected}
 
 -- The response that each phase waits for; in Done and Failed none is due.
@@ -35,9 +35,9 @@ Due (Validate left) Res.NotBuilt = ⊥
 Due Done r = ⊥
 Due (Failed reason) r = ⊥
 
-module _ (plan : Plan) (stand : Stand) where
-  passed : (phase : Phase) (r : Response) → (Due phase r → ⊥) → decidedOf plan stand phase r ≡ step stand Unexpected
-  unfolding decidedOf identifyOf initiateOf transferOf validateOf
+module _ (plan : Plan) (state : State) where
+  passed : (phase : Phase) (r : Response) → (Due phase r → ⊥) → indoorDecideIn plan state phase r ≡ indoorStep state Unexpected
+  unfolding indoorDecideIn indoorIdentifyOf indoorInitiateOf indoorTransferOf indoorValidateOf
   passed Identify (Res.GetFwId status reported) h = absurd (h tt)
   passed Identify (Res.Initiate status wait size) h = refl
   passed Identify (Res.Data status wait number) h = refl
@@ -62,5 +62,5 @@ module _ (plan : Plan) (stand : Stand) where
   passed (Failed reason) r h = refl
 
   -- 21
-  pub passed-over : (r : Response) → (Due (stand .phase) r → ⊥) → decideOf plan stand r ≡ step stand Unexpected
-  passed-over r h = passed (stand .phase) r h
+  pub passed-over : (r : Response) → (Due (state .phase) r → ⊥) → indoorDecideOf plan state r ≡ indoorStep state Unexpected
+  passed-over r h = passed (state .phase) r h

@@ -10,10 +10,10 @@ use Rattle.silence.specs.declared.Grown.{Grown}
 use Rattle.silence.specs.declared.Event.{Event}
 use Rattle.silence.specs.declared.Event.the-variants.{Quiet, Resend, NoneLeft}
 use Rattle.silence.proofs.Laws.{below-quiet, left-resends, none-left-ends, limit-expires, many-limits}
-use Rattle.indoor_state.specs.Phase.{progress, stands}
-use Rattle.indoor_state.specs.Step.{step}
+use Rattle.indoor_state.specs.Phase.{indoorProgress, indoorState}
+use Rattle.indoor_state.specs.Step.{indoorStep}
 use Rattle.indoor_rules.specs.Step.{emptiedBy}
-use Rattle.indoor_rules.specs.Pass.{resentOf, expiredOf, resendsOf, expiresOf, initiatePassOf, transferPassOf, validatePassOf, pacedOf, passedOf, passOf}
+use Rattle.indoor_rules.specs.Tick.{resentOf, transferExpiredOf, resendsOf, transferExpiresOf, initiateTickOf, transferTickOf, validateTickOf, pacedOf, indoorTickIn, indoorTickOf}
 use Rattle.indoor_state.specs.declared.plan.Plan.{Plan}
 use Rattle.indoor_state.specs.declared.phase.Reason.{Reason}
 use Rattle.indoor_state.specs.declared.phase.Reason.the-variants.{Silence}
@@ -33,48 +33,48 @@ Resends (Validate left) again = (left ≡ 0) × (again ≡ Ans.Validating)
 Resends Done again = ⊥
 Resends (Failed reason) again = ⊥
 
-expired-40 : (phase : Phase) (g : Grown) (event : Event) → (event ≡ Quiet → ⊥) → expiredOf phase g event ≡ failed Silence
-unfolding expiredOf
+expired-40 : (phase : Phase) (g : Grown) (event : Event) → (event ≡ Quiet → ⊥) → transferExpiredOf phase g event ≡ failed Silence
+unfolding transferExpiredOf
 expired-40 phase g Quiet h = absurd (h refl)
 expired-40 phase g Resend h = refl
 expired-40 phase g NoneLeft h = refl
 
 module _ (plan : Plan) (silence resends elapsed : ℕ) where
   abbrev then : Phase → Step
-  then phase = passOf plan (stands phase silence resends) elapsed
+  then phase = indoorTickOf plan (indoorState phase silence resends) elapsed
 
   -- Silence doesn't grow in a wait.
   module _ (left : ℕ) (below : elapsed < left) where
-    pub initiate-still : then (Initiate left) ≡ step (stands (Initiate (left - elapsed)) silence resends) Ans.Passed
-    unfolding passedOf initiatePassOf pick pacedOf
+    pub initiate-still : then (Initiate left) ≡ indoorStep (indoorState (Initiate (left - elapsed)) silence resends) Ans.Passed
+    unfolding indoorTickIn initiateTickOf pick pacedOf
     initiate-still = rw (ne-eqb left 0 (λ e. omega arith), lt-ltb elapsed left below)
 
     pub transfer-still : (asked : ℕ) (emptied : Bool)
-        → then (Transfer (progress asked left emptied)) ≡ step (stands (Transfer (progress asked (left - elapsed) emptied)) silence resends) Ans.Passed
-    unfolding passedOf transferPassOf pick pacedOf
+        → then (Transfer (indoorProgress asked left emptied)) ≡ indoorStep (indoorState (Transfer (indoorProgress asked (left - elapsed) emptied)) silence resends) Ans.Passed
+    unfolding indoorTickIn transferTickOf pick pacedOf
     transfer-still asked emptied = rw (ne-eqb left 0 (λ e. omega arith), lt-ltb elapsed left below)
 
-    pub validate-still : then (Validate left) ≡ step (stands (Validate (left - elapsed)) silence resends) Ans.Passed
-    unfolding passedOf validatePassOf pick pacedOf
+    pub validate-still : then (Validate left) ≡ indoorStep (indoorState (Validate (left - elapsed)) silence resends) Ans.Passed
+    unfolding indoorTickIn validateTickOf pick pacedOf
     validate-still = rw (ne-eqb left 0 (λ e. omega arith), lt-ltb elapsed left below)
 
   -- The call that ends a wait sends, and its leftover time is dropped; this isn't a resend.
   module _ (left : ℕ) (some : 0 < left) (over : left ≤ elapsed) where
-    pub initiate-sends : then (Initiate left) ≡ step (stands (Initiate 0) 0 resends) Ans.Initiating
-    unfolding passedOf initiatePassOf pick pacedOf
+    pub initiate-sends : then (Initiate left) ≡ indoorStep (indoorState (Initiate 0) 0 resends) Ans.Initiating
+    unfolding indoorTickIn initiateTickOf pick pacedOf
     initiate-sends = rw (ne-eqb left 0 (λ e. omega arith), le-ltb elapsed left over)
 
     pub transfer-sends : (asked : ℕ) (emptied : Bool)
-        → then (Transfer (progress asked left emptied)) ≡ step (stands (Transfer (progress asked 0 (emptiedBy plan asked emptied))) 0 resends) (Ans.Sending asked)
-    unfolding passedOf transferPassOf pick pacedOf
+        → then (Transfer (indoorProgress asked left emptied)) ≡ indoorStep (indoorState (Transfer (indoorProgress asked 0 (emptiedBy plan asked emptied))) 0 resends) (Ans.Sending asked)
+    unfolding indoorTickIn transferTickOf pick pacedOf
     transfer-sends asked emptied = rw (ne-eqb left 0 (λ e. omega arith), le-ltb elapsed left over)
 
-    pub validate-sends : then (Validate left) ≡ step (stands (Validate 0) 0 resends) Ans.Validating
-    unfolding passedOf validatePassOf pick pacedOf
+    pub validate-sends : then (Validate left) ≡ indoorStep (indoorState (Validate 0) 0 resends) Ans.Validating
+    unfolding indoorTickIn validateTickOf pick pacedOf
     validate-sends = rw (ne-eqb left 0 (λ e. omega arith), le-ltb elapsed left over)
 
-  listens : (phase : Phase) (again : Answer) → Resends phase again → then phase ≡ resendsOf plan (stands phase silence resends) again elapsed
-  unfolding passedOf initiatePassOf validatePassOf pick pacedOf
+  listens : (phase : Phase) (again : Answer) → Resends phase again → then phase ≡ resendsOf plan (indoorState phase silence resends) again elapsed
+  unfolding indoorTickIn initiateTickOf validateTickOf pick pacedOf
   listens Identify again e = rw e
   listens (Initiate left) again h = rw (h .0, h .1)
   listens (Transfer p) again h = absurd h
@@ -83,12 +83,12 @@ module _ (plan : Plan) (silence resends elapsed : ℕ) where
   listens (Failed reason) again h = absurd h
 
   module _ (phase : Phase) (again : Answer) (r : Resends phase again) where
-    pub quiet : silence + elapsed < plan .settings .limit → then phase ≡ step (stands phase (silence + elapsed) resends) Ans.Passed
+    pub quiet : silence + elapsed < plan .settings .limit → then phase ≡ indoorStep (indoorState phase (silence + elapsed) resends) Ans.Passed
     unfolding resendsOf resentOf
     quiet h = rw (listens phase again r, below-quiet silence elapsed resends (plan .settings) h)
 
     -- The request is resent at each silence limit while resends are left ..
-    pub resent : plan .settings .limit ≤ silence + elapsed → resends < plan .settings .resends → then phase ≡ step (stands phase 0 (resends + 1)) again
+    pub resent : plan .settings .limit ≤ silence + elapsed → resends < plan .settings .resends → then phase ≡ indoorStep (indoorState phase 0 (resends + 1)) again
     unfolding resendsOf resentOf
     resent h k = rw (listens phase again r, left-resends silence elapsed resends (plan .settings) h k)
 
@@ -99,24 +99,24 @@ module _ (plan : Plan) (silence resends elapsed : ℕ) where
 
   module _ (asked : ℕ) (emptied : Bool) where
     pub transfer-quiet : silence + elapsed < plan .settings .limit
-        → then (Transfer (progress asked 0 emptied)) ≡ step (stands (Transfer (progress asked 0 emptied)) (silence + elapsed) resends) Ans.Passed
-    unfolding passedOf transferPassOf expiresOf expiredOf pick pacedOf
+        → then (Transfer (indoorProgress asked 0 emptied)) ≡ indoorStep (indoorState (Transfer (indoorProgress asked 0 emptied)) (silence + elapsed) resends) Ans.Passed
+    unfolding indoorTickIn transferTickOf transferExpiresOf transferExpiredOf pick pacedOf
     transfer-quiet h = rw (below-quiet silence elapsed resends (plan .settings) h)
 
     -- The first expiry in Transfer: 40, whatever resends are left.
-    pub transfer-40 : plan .settings .limit ≤ silence + elapsed → then (Transfer (progress asked 0 emptied)) ≡ failed Silence
-    unfolding passedOf transferPassOf expiresOf pick pacedOf
+    pub transfer-40 : plan .settings .limit ≤ silence + elapsed → then (Transfer (indoorProgress asked 0 emptied)) ≡ failed Silence
+    unfolding indoorTickIn transferTickOf transferExpiresOf pick pacedOf
     transfer-40 h =
         let g = grownOf silence elapsed resends (plan .settings) in
-        expired-40 (Transfer (progress asked 0 emptied)) g (g .event) (limit-expires silence elapsed resends (plan .settings) h)
+        expired-40 (Transfer (indoorProgress asked 0 emptied)) g (g .event) (limit-expires silence elapsed resends (plan .settings) h)
 
   -- In Done and Failed time does nothing.
-  pub done-still : then Done ≡ step (stands Done silence resends) Ans.Passed
-  unfolding passedOf
+  pub done-still : then Done ≡ indoorStep (indoorState Done silence resends) Ans.Passed
+  unfolding indoorTickIn
   done-still = refl
 
-  pub failed-still : (reason : Reason) → then (Failed reason) ≡ step (stands (Failed reason) silence resends) Ans.Passed
-  unfolding passedOf
+  pub failed-still : (reason : Reason) → then (Failed reason) ≡ indoorStep (indoorState (Failed reason) silence resends) Ans.Passed
+  unfolding indoorTickIn
   failed-still reason = refl
 
 -- One call that passes several limits is one expiry: it does what a call does that reaches the first exactly.
@@ -124,7 +124,7 @@ pub many : (plan : Plan) (silence resends e e′ : ℕ) (phase : Phase) (again :
     → Resends phase again
     → plan .settings .limit ≤ silence + e
     → plan .settings .limit ≤ silence + e′
-    → passOf plan (stands phase silence resends) e ≡ passOf plan (stands phase silence resends) e′
+    → indoorTickOf plan (indoorState phase silence resends) e ≡ indoorTickOf plan (indoorState phase silence resends) e′
 unfolding resendsOf
 many plan silence resends e e′ phase again r h h′ =
     rw (listens plan silence resends e phase again r, listens plan silence resends e′ phase again r, many-limits silence resends e e′ (plan .settings) h h′)

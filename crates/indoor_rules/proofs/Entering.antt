@@ -9,9 +9,9 @@ use Rattle.wire.specs.Response as message
 use Rattle.wire.specs.declared.response.Response.{Response}
 use Rattle.wire.specs.declared.response.Response.the-variants as Res
 use Rattle.wire.specs.declared.response.Parsed.the-variants.{Valid}
-use Rattle.indoor_rules.specs.Step.{last}
-use Rattle.indoor_rules.specs.Decide.{decideOf}
-use Rattle.indoor_rules.specs.Pass.{passOf}
+use Rattle.indoor_rules.specs.Step.{emptyNumber}
+use Rattle.indoor_rules.specs.Decide.{indoorDecideOf}
+use Rattle.indoor_rules.specs.Tick.{indoorTickOf}
 use Rattle.indoor_state.specs.declared.plan.Plan.{Plan}
 use Rattle.indoor_state.specs.declared.phase.Reason.the-variants.{Silence}
 use Rattle.indoor_state.specs.declared.phase.Progress.{Progress}
@@ -21,8 +21,8 @@ use Rattle.indoor_rules.proofs.Owes.{ToValidate, ToDone, Enters, decide
 use Rattle.indoor_rules.proofs.Orders.{failed}
 use Rattle.indoor_rules.proofs.Ticks.{Expires, order, pass-ticks}
 use Rattle.indoor_state.specs.declared.step.Step.{Step}
-use Rattle.indoor_rules.specs.Response.{responseOf}
-use Rattle.indoor_rules.specs.Time.{timeOf}
+use Rattle.indoor_rules.specs.Response.{indoorResponseOf}
+use Rattle.indoor_rules.specs.Time.{indoorTimeOf}
 use Rattle.indoor_state.specs.declared.session.Indoor.{Indoor}
 use Rattle.indoor_rules.proofs.Walk.{response-walk, time-walk}
 
@@ -30,14 +30,14 @@ use Rattle.indoor_rules.proofs.Walk.{response-walk, time-walk}
 pub record Succeeds (before : Phase) (response : List ℕ) : Type 0 where
   pub left : ℕ
   pub validate : before ≡ Validate left
-  pub told : message.responseOf response ≡ Valid (Res.Validate 0x00 0 true)
+  pub told : message.parsedResponseOf response ≡ Valid (Res.Validate 0x00 0 true)
 
 -- In Transfer with the empty block sent, and a DATA response with WaitTime 255 and the number n.
 pub record Closes (plan : Plan) (before : Phase) (response : List ℕ) : Type 0 where
   pub progress : Progress
   pub transfer : before ≡ Transfer progress
   pub emptied : progress .emptied ≡ true
-  pub told : message.responseOf response ≡ Valid (Res.Data 0x00 255 (last plan))
+  pub told : message.parsedResponseOf response ≡ Valid (Res.Data 0x00 255 (emptyNumber plan))
 
 abbrev pub Validating : Phase → Type 0
 Validating Identify = ⊥
@@ -47,7 +47,7 @@ Validating (Validate left) = Unit
 Validating Done = ⊥
 Validating (Failed reason) = ⊥
 
-module _ (response : List ℕ) (r : Response) (e : message.responseOf response ≡ Valid r) where
+module _ (response : List ℕ) (r : Response) (e : message.parsedResponseOf response ≡ Valid r) where
   to-done : (before : Phase) → ToDone before r → (before ≡ Done) ⊎ Succeeds before response
   to-done Identify h = absurd h
   to-done (Initiate left) h = absurd h
@@ -72,42 +72,42 @@ enters-at plan before next phase r e h = rw e at h
 
 module _ (s : Indoor) (file response out : List ℕ) where
   abbrev then : Phase
-  then = responseOf s file response out .answer .state .stand .phase
+  then = indoorResponseOf s file response out .answer .session .state .phase
 
-  enters : (r : Response) (phase : Phase) → decideOf (s .plan) (s .stand) r .stand .phase ≡ phase → Enters (s .plan) (s .stand .phase) r phase
-  enters r phase e = enters-at (s .plan) (s .stand .phase) _ phase r e (decide-row (s .plan) (s .stand) r .enters)
+  enters : (r : Response) (phase : Phase) → indoorDecideOf (s .plan) (s .state) r .state .phase ≡ phase → Enters (s .plan) (s .state .phase) r phase
+  enters r phase e = enters-at (s .plan) (s .state .phase) _ phase r e (decide-row (s .plan) (s .state) r .enters)
 
   -- Done is entered only by a VALIDATE response with status OK, wait 0 and the success bit, in Validate.
-  pub done-entered : then ≡ Done → (s .stand .phase ≡ Done) ⊎ Succeeds (s .stand .phase) response
+  pub done-entered : then ≡ Done → (s .state .phase ≡ Done) ⊎ Succeeds (s .state .phase) response
   done-entered =
       response-walk s file response out
-      (λ x. x .answer .state .stand .phase ≡ Done → (s .stand .phase ≡ Done) ⊎ Succeeds (s .stand .phase) response)
+      (λ x. x .answer .session .state .phase ≡ Done → (s .state .phase ≡ Done) ⊎ Succeeds (s .state .phase) response)
       inl inl inl
-      (λ r _ _ e h. to-done response r e (s .stand .phase) (enters r Done h))
+      (λ r _ _ e h. to-done response r e (s .state .phase) (enters r Done h))
 
   -- Validate is entered only by WaitTime 255 with number n after the empty block went out.
-  pub validate-entered : (left : ℕ) → then ≡ Validate left → Validating (s .stand .phase) ⊎ Closes (s .plan) (s .stand .phase) response
+  pub validate-entered : (left : ℕ) → then ≡ Validate left → Validating (s .state .phase) ⊎ Closes (s .plan) (s .state .phase) response
   validate-entered left =
       response-walk s file response out
-      (λ x. x .answer .state .stand .phase ≡ Validate left → Validating (s .stand .phase) ⊎ Closes (s .plan) (s .stand .phase) response)
-      (λ h. inl (validating (s .stand .phase) left h))
-      (λ h. inl (validating (s .stand .phase) left h))
-      (λ h. inl (validating (s .stand .phase) left h))
-      (λ r _ _ e h. to-validate response r e (s .plan) (s .stand .phase) (enters r (Validate left) h))
+      (λ x. x .answer .session .state .phase ≡ Validate left → Validating (s .state .phase) ⊎ Closes (s .plan) (s .state .phase) response)
+      (λ h. inl (validating (s .state .phase) left h))
+      (λ h. inl (validating (s .state .phase) left h))
+      (λ h. inl (validating (s .state .phase) left h))
+      (λ r _ _ e h. to-validate response r e (s .plan) (s .state .phase) (enters r (Validate left) h))
 
-pub failed-phase : (x : Step) (before : ℕ) (E : Type 0) → (order (x .stand .phase) ≡ before) ⊎ ((x ≡ failed Silence) × E) → (order (x .stand .phase) ≡ before) ⊎ (x .stand .phase ≡ Failed Silence)
+pub failed-phase : (x : Step) (before : ℕ) (E : Type 0) → (order (x .state .phase) ≡ before) ⊎ ((x ≡ failed Silence) × E) → (order (x .state .phase) ≡ before) ⊎ (x .state .phase ≡ Failed Silence)
 failed-phase x before E (inl e) = inl e
-failed-phase x before E (inr e) = inr (ap (λ (y : Step). y .stand .phase) (e .0))
+failed-phase x before E (inr e) = inr (ap (λ (y : Step). y .state .phase) (e .0))
 
 -- Time leads to no phase but Failed.
 pub time-lasts : (s : Indoor) (file : List ℕ) (elapsed : ℕ) (out : List ℕ)
-    → (order (timeOf s file elapsed out .answer .state .stand .phase) ≡ order (s .stand .phase))
-    ⊎ (timeOf s file elapsed out .answer .state .stand .phase ≡ Failed Silence)
+    → (order (indoorTimeOf s file elapsed out .answer .session .state .phase) ≡ order (s .state .phase))
+    ⊎ (indoorTimeOf s file elapsed out .answer .session .state .phase ≡ Failed Silence)
 time-lasts s file elapsed out =
     time-walk s file elapsed out
-    (λ x. (order (x .answer .state .stand .phase) ≡ order (s .stand .phase)) ⊎ (x .answer .state .stand .phase ≡ Failed Silence))
+    (λ x. (order (x .answer .session .state .phase) ≡ order (s .state .phase)) ⊎ (x .answer .session .state .phase ≡ Failed Silence))
     (inl refl) (inl refl)
-    (λ _ _. failed-phase (passOf (s .plan) (s .stand) elapsed) (order (s .stand .phase)) (Expires (s .plan) (s .stand) elapsed) (pass-ticks (s .plan) (s .stand) elapsed .lasts))
+    (λ _ _. failed-phase (indoorTickOf (s .plan) (s .state) elapsed) (order (s .state .phase)) (Expires (s .plan) (s .state) elapsed) (pass-ticks (s .plan) (s .state) elapsed .lasts))
 
 order-done : (phase : Phase) → order phase ≡ 4 → phase ≡ Done
 order-done Identify e = absurd (omega arith)
@@ -122,5 +122,5 @@ lasts-done before next (inl e) h = order-done before (sym e ∙ ap order h)
 lasts-done before next (inr e) h = let four = ap order (sym h ∙ e) in absurd (omega arith)
 
 -- So Done is never entered by time.
-pub time-done : (s : Indoor) (file : List ℕ) (elapsed : ℕ) (out : List ℕ) → timeOf s file elapsed out .answer .state .stand .phase ≡ Done → s .stand .phase ≡ Done
-time-done s file elapsed out = lasts-done (s .stand .phase) _ (time-lasts s file elapsed out)
+pub time-done : (s : Indoor) (file : List ℕ) (elapsed : ℕ) (out : List ℕ) → indoorTimeOf s file elapsed out .answer .session .state .phase ≡ Done → s .state .phase ≡ Done
+time-done s file elapsed out = lasts-done (s .state .phase) _ (time-lasts s file elapsed out)

@@ -16,7 +16,7 @@ use Rattle.wire.specs.Codes.{longest, imageSizeMost}
 use Rattle.wire.specs.Written.{requestBytes, bareBytes}
 use Rattle.indoor_state.specs.declared.plan.Release.{Release}
 use Rattle.indoor_state.specs.declared.phase.Phase.the-variants.{Identify}
-use Rattle.indoor_rules.specs.Start.{beginOf, startedOf, startOf}
+use Rattle.indoor_rules.specs.Start.{indoorBeginOf, indoorStartedOf, indoorStartOf}
 use Rattle.indoor_state.specs.declared.session.Indoor.{Indoor}
 use Rattle.indoor_state.specs.declared.session.Started.{Started}
 use Rattle.indoor_state.specs.declared.session.Started.the-variants as Sta
@@ -26,7 +26,7 @@ pub record Fresh (release : Release) (file : List ℕ) (s : Indoor) (first : Lis
   pub lent : s .plan .length ≡ length file
   pub some : 1 ≤ length file
   pub most : length file ≤ imageSizeMost
-  pub identify : s .stand .phase ≡ Identify
+  pub identify : s .state .phase ≡ Identify
   pub written : first ≡ 0x01 ∷ 0x81 ∷ []
 
 module _ (release : Release) (file out : List ℕ) where
@@ -39,8 +39,8 @@ module _ (release : Release) (file out : List ℕ) where
   abbrev B : Left Started → Type 0
   B x = Begins (x .answer) (x .memory)
 
-  begin-fresh : (settings : Settings) → B (beginOf settings release file out)
-  unfolding beginOf requestBytes bareBytes
+  begin-fresh : (settings : Settings) → B (indoorBeginOf settings release file out)
+  unfolding indoorBeginOf requestBytes bareBytes
   begin-fresh settings =
       pick-all B (eqb (length file) 0) _ _ (λ _. tt)
       (λ a. let none = eqb-false (length file) 0 a in
@@ -49,11 +49,11 @@ module _ (release : Release) (file out : List ℕ) where
       pick-all B (ltb (length out) longest) _ _ (λ _. tt)
       (λ _. record { offered = refl; lent = refl; some = omega arith; most = omega arith; identify = refl; written = refl })))
 
-  checked-fresh : (x : Checked) → B (startedOf x release file out)
-  unfolding startedOf
+  checked-fresh : (x : Checked) → B (indoorStartedOf x release file out)
+  unfolding indoorStartedOf
   checked-fresh (Che.Made settings) = begin-fresh settings
   checked-fresh Che.Refused = tt
 
-  pub start-fresh : (limit resends : ℕ) (s : Indoor) (written : ℕ) (out′ : List ℕ) → startOf limit resends release file out ≡ left (Sta.Made s written) out′
+  pub start-fresh : (limit resends : ℕ) (s : Indoor) (written : ℕ) (out′ : List ℕ) → indoorStartOf limit resends release file out ≡ left (Sta.Made s written) out′
       → Fresh release file s (take written out′)
   start-fresh limit resends s written out′ e = rw e at (checked-fresh (settingsOf limit resends))

@@ -22,20 +22,20 @@ use Rattle.indoor_state.specs.declared.answer.Answer.{Answer}
 use Rattle.indoor_state.specs.declared.answer.Sends.{Sends}
 use Rattle.indoor_state.specs.declared.answer.Sends.the-variants.{Nothing, GetFwId, Initiate, Block, Validate, Abort}
 use Rattle.indoor_rules.proofs.Owes.{Within}
-use Rattle.indoor_rules.specs.Send.{blockBytes, sendsBytes, bytesOf}
+use Rattle.indoor_rules.specs.Send.{blockBytes, sendsBytes, indoorBytesOf}
 use Rattle.indoor_rules.specs.History.{Genuine}
 use Rattle.indoor_rules.proofs.Block.{block-most}
 
 -- A request without a block is read as what it is.
-pub whole-read : (r : Request) → BuiltRequest r → Sendable r [] → message.requestOf (requestBytes r) ≡ Par.Valid r
+pub whole-read : (r : Request) → BuiltRequest r → Sendable r [] → message.parsedRequestOf (requestBytes r) ≡ Par.Valid r
 whole-read r built can = rw (append-nil (requestBytes r)) at (request-back r [] built can)
 
 module _ (versions : Versions) (file : List ℕ) where
-  read-as : (m : List ℕ) (p : Parsed) → message.requestOf m ≡ p → Genuine versions file m p → Genuine versions file m (message.requestOf m)
+  read-as : (m : List ℕ) (p : Parsed) → message.parsedRequestOf m ≡ p → Genuine versions file m p → Genuine versions file m (message.parsedRequestOf m)
   read-as m p e h = rw e h
 
   -- DATA is read as the number and the size of its block.
-  pub block-read : (number : ℕ) → number < 65536 → message.requestOf (blockBytes file number) ≡ Par.Valid (Req.Data number (length (blockAt file number)))
+  pub block-read : (number : ℕ) → number < 65536 → message.parsedRequestOf (blockBytes file number) ≡ Par.Valid (Req.Data number (length (blockAt file number)))
   unfolding blockBytes
   block-read number low = request-back (Req.Data number (length (blockAt file number))) (blockAt file number) tt (low, refl, block-most file number)
 
@@ -43,17 +43,17 @@ module _ (versions : Versions) (file : List ℕ) where
   unfolding blockBytes requestBytes headBytes
   block-carried number = refl
 
-  block-genuine : (number : ℕ) → length file ≤ imageSizeMost → number ≤ blocksOf (length file) → Genuine versions file (blockBytes file number) (message.requestOf (blockBytes file number))
+  block-genuine : (number : ℕ) → length file ≤ imageSizeMost → number ≤ blocksOf (length file) → Genuine versions file (blockBytes file number) (message.parsedRequestOf (blockBytes file number))
   block-genuine number most h =
       let low = least (length file) 4096 (omega arith) in
       read-as (blockBytes file number) (Par.Valid (Req.Data number (length (blockAt file number)))) (block-read number (omega arith)) (h, block-carried number)
 
   whole-genuine : (r : Request) → BuiltRequest r → Sendable r [] → Genuine versions file (requestBytes r) (Par.Valid r)
-      → Genuine versions file (requestBytes r) (message.requestOf (requestBytes r))
+      → Genuine versions file (requestBytes r) (message.parsedRequestOf (requestBytes r))
   whole-genuine r built can h = read-as (requestBytes r) (Par.Valid r) (whole-read r built can) h
 
   sends-genuine : (plan : Plan) (sends : Sends) → Words versions → plan .length ≡ length file → length file ≤ imageSizeMost → Within plan sends → (length (sendsBytes versions file sends) ≡ 0 → ⊥)
-      → Genuine versions file (sendsBytes versions file sends) (message.requestOf (sendsBytes versions file sends))
+      → Genuine versions file (sendsBytes versions file sends) (message.parsedRequestOf (sendsBytes versions file sends))
   unfolding sendsBytes
   sends-genuine plan Nothing words lent most h some = absurd (some refl)
   sends-genuine plan GetFwId words lent most h some = whole-genuine Req.GetFwId tt refl tt
@@ -65,7 +65,7 @@ module _ (versions : Versions) (file : List ℕ) where
 -- What goes out with an answer, where anything does, is genuine.
 pub bytes-genuine : (plan : Plan) (file : List ℕ) (answer : Answer) → Words (plan .release .versions) → plan .length ≡ length file → length file ≤ imageSizeMost
     → Within plan (sendsOf answer)
-    → (length (bytesOf plan file answer) ≡ 0 → ⊥)
-    → Genuine (plan .release .versions) file (bytesOf plan file answer) (message.requestOf (bytesOf plan file answer))
+    → (length (indoorBytesOf plan file answer) ≡ 0 → ⊥)
+    → Genuine (plan .release .versions) file (indoorBytesOf plan file answer) (message.parsedRequestOf (indoorBytesOf plan file answer))
 bytes-genuine plan file answer words lent most within some =
     sends-genuine (plan .release .versions) file plan (sendsOf answer) words lent most within some

@@ -18,9 +18,9 @@ use Rattle.wire.specs.Fields.{Words}
 use Rattle.wire.specs.Written.{requestBytes, headBytes}
 use Rattle.wire.specs.declared.response.Response.{Response}
 use Rattle.indoor_state.specs.Answer.{sendsOf}
-use Rattle.indoor_rules.specs.Step.{last}
-use Rattle.indoor_rules.specs.Decide.{decideOf}
-use Rattle.indoor_rules.specs.Pass.{passOf}
+use Rattle.indoor_rules.specs.Step.{emptyNumber}
+use Rattle.indoor_rules.specs.Decide.{indoorDecideOf}
+use Rattle.indoor_rules.specs.Tick.{indoorTickOf}
 use Rattle.indoor_state.specs.declared.plan.Plan.{Plan}
 use Rattle.indoor_state.specs.declared.plan.Release.{Release}
 use Rattle.indoor_state.specs.declared.phase.Reason.the-variants.{Silence}
@@ -30,10 +30,10 @@ use Rattle.indoor_state.specs.declared.answer.Answer.the-variants.{Sending}
 use Rattle.indoor_state.specs.declared.step.Step.{Step}
 use Rattle.indoor_rules.proofs.Owes.{ToValidate, ToDone, Enters, Fit, Within, Emptied, Empties, decide-row}
 use Rattle.indoor_rules.proofs.Ticks.{Expires, order, pass-ticks}
-use Rattle.indoor_rules.specs.Send.{blockBytes, sendsBytes, bytesOf}
-use Rattle.indoor_rules.specs.Session.{doneOf}
-use Rattle.indoor_rules.specs.Response.{responseOf}
-use Rattle.indoor_rules.specs.Time.{timeOf}
+use Rattle.indoor_rules.specs.Send.{blockBytes, sendsBytes, indoorBytesOf}
+use Rattle.indoor_rules.specs.Session.{indoorDone}
+use Rattle.indoor_rules.specs.Response.{indoorResponseOf}
+use Rattle.indoor_rules.specs.Time.{indoorTimeOf}
 use Rattle.indoor_rules.specs.History.{sentAfter, AllGenuine, emptyBlock}
 use Rattle.indoor_state.specs.declared.session.Indoor.{Indoor}
 use Rattle.indoor_rules.proofs.Walk.{response-walk, time-walk}
@@ -54,9 +54,9 @@ pub record Holds (file : List ℕ) (release : Release) (s : Indoor) (sent : List
   pub lent : s .plan .length ≡ length file
   pub some : 1 ≤ length file
   pub most : length file ≤ imageSizeMost
-  pub fit : Fit (s .plan) (s .stand .phase)
+  pub fit : Fit (s .plan) (s .state .phase)
   pub genuine : AllGenuine (s .plan .release .versions) file sent
-  pub emptied : EmptySent file (s .stand .phase) sent
+  pub emptied : EmptySent file (s .state .phase) sent
 
 head-sent : (n : ℕ) (sent : List (List ℕ)) → List·Memᴰ (headBytes n) (pick (eqb (length (headBytes n)) 0) sent (headBytes n ∷ sent))
 unfolding headBytes pick
@@ -65,30 +65,30 @@ head-sent n sent = List·Memᴰ·head refl
 -- What a step that was done adds to what was written.
 module _ (plan : Plan) (x : Step) (file out : List ℕ) (sent : List (List ℕ)) where
   abbrev bytes : List ℕ
-  bytes = bytesOf plan file (x .answer)
+  bytes = indoorBytesOf plan file (x .answer)
 
-  sent-done : sentAfter (doneOf plan x file out) sent ≡ pick (eqb (length bytes) 0) sent (bytes ∷ sent)
+  sent-done : sentAfter (indoorDone plan x file out) sent ≡ pick (eqb (length bytes) 0) sent (bytes ∷ sent)
   sent-done = rw (take-append-seam bytes (drop (length bytes) out))
 
-  done-walk : (P : List (List ℕ) → Type 0) → P sent → ((length bytes ≡ 0 → ⊥) → P (bytes ∷ sent)) → P (sentAfter (doneOf plan x file out) sent)
+  done-walk : (P : List (List ℕ) → Type 0) → P sent → ((length bytes ≡ 0 → ⊥) → P (bytes ∷ sent)) → P (sentAfter (indoorDone plan x file out) sent)
   done-walk P same more = rw sent-done (pick-all P (eqb (length bytes) 0) sent (bytes ∷ sent) (λ _. same) (λ f. more (eqb-false (length bytes) 0 f)))
 
   -- What was written stays written.
-  kept-sent : (m : List ℕ) → List·Memᴰ m sent → List·Memᴰ m (sentAfter (doneOf plan x file out) sent)
+  kept-sent : (m : List ℕ) → List·Memᴰ m sent → List·Memᴰ m (sentAfter (indoorDone plan x file out) sent)
   kept-sent m h = done-walk (List·Memᴰ m) h (λ _. List·Memᴰ·tail h)
 
   done-genuine : Words (plan .release .versions) → plan .length ≡ length file → length file ≤ imageSizeMost → Within plan (sendsOf (x .answer))
       → AllGenuine (plan .release .versions) file sent
-      → AllGenuine (plan .release .versions) file (sentAfter (doneOf plan x file out) sent)
+      → AllGenuine (plan .release .versions) file (sentAfter (indoorDone plan x file out) sent)
   done-genuine words lent most within all =
       done-walk (AllGenuine (plan .release .versions) file) all (λ some. (bytes-genuine plan file (x .answer) words lent most within some, all))
 
-  empty-bytes : plan .length ≡ length file → x .answer ≡ Sending (last plan) → bytes ≡ emptyBlock file
+  empty-bytes : plan .length ≡ length file → x .answer ≡ Sending (emptyNumber plan) → bytes ≡ emptyBlock file
   unfolding sendsBytes blockBytes requestBytes
   empty-bytes lent e = rw (e, lent, block-behind file (blocksOf (length file)) (omega arith), append-nil (headBytes (blocksOf (length file))))
 
   -- The call that sends the empty block has it among what was written.
-  empty-sent : plan .length ≡ length file → x .answer ≡ Sending (last plan) → List·Memᴰ (emptyBlock file) (sentAfter (doneOf plan x file out) sent)
+  empty-sent : plan .length ≡ length file → x .answer ≡ Sending (emptyNumber plan) → List·Memᴰ (emptyBlock file) (sentAfter (indoorDone plan x file out) sent)
   empty-sent lent e =
       let same : bytes ≡ emptyBlock file = empty-bytes lent e in
       rw (sent-done, same) (head-sent (blocksOf (length file)) sent)
@@ -96,7 +96,7 @@ module _ (plan : Plan) (x : Step) (file out : List ℕ) (sent : List (List ℕ))
 -- What was known of the empty block is still known after a step that says what its phases owe.
 module _ (plan : Plan) (x : Step) (file out : List ℕ) (sent : List (List ℕ)) (lent : plan .length ≡ length file) where
   abbrev then : List (List ℕ)
-  then = sentAfter (doneOf plan x file out) sent
+  then = sentAfter (indoorDone plan x file out) sent
 
   still-emptied : (before : Phase) → EmptySent file before sent → Emptied plan before (x .answer) → List·Memᴰ (emptyBlock file) then
   still-emptied Identify known e = empty-sent plan x file out sent lent e
@@ -176,10 +176,10 @@ module _ (plan : Plan) (x : Step) (file out : List ℕ) (sent : List (List ℕ))
 
 module _ (file : List ℕ) (release : Release) (words : Words (release .versions)) (s : Indoor) (sent : List (List ℕ)) (h : Holds file release s sent) where
   done-holds : (x : Step) (out : List ℕ)
-      → Fit (s .plan) (x .stand .phase)
+      → Fit (s .plan) (x .state .phase)
       → Within (s .plan) (sendsOf (x .answer))
-      → EmptySent file (x .stand .phase) (sentAfter (doneOf (s .plan) x file out) sent)
-      → Holds file release (doneOf (s .plan) x file out .answer .state) (sentAfter (doneOf (s .plan) x file out) sent)
+      → EmptySent file (x .state .phase) (sentAfter (indoorDone (s .plan) x file out) sent)
+      → Holds file release (indoorDone (s .plan) x file out .answer .session) (sentAfter (indoorDone (s .plan) x file out) sent)
   done-holds x out fit within emptied = record {
     offered = h .offered;
     lent = h .lent;
@@ -191,27 +191,27 @@ module _ (file : List ℕ) (release : Release) (words : Words (release .versions
   }
 
   pub heard-holds : (lent response out : List ℕ) → (length lent ≡ length file → lent ≡ file)
-      → Holds file release (responseOf s lent response out .answer .state) (sentAfter (responseOf s lent response out) sent)
+      → Holds file release (indoorResponseOf s lent response out .answer .session) (sentAfter (indoorResponseOf s lent response out) sent)
   unfolding pick
   heard-holds lent response out same =
-      response-walk s lent response out (λ y. Holds file release (y .answer .state) (sentAfter y sent)) h h h
+      response-walk s lent response out (λ y. Holds file release (y .answer .session) (sentAfter y sent)) h h h
       (λ r e _ _.
-      let row = decide-row (s .plan) (s .stand) r in
-      let x = decideOf (s .plan) (s .stand) r in
+      let row = decide-row (s .plan) (s .state) r in
+      let x = indoorDecideOf (s .plan) (s .state) r in
       rw (same (e ∙ h .lent))
       (done-holds x out (row .fit (h .fit)) (row .within)
-      (heard-emptied (s .plan) x file out sent (h .lent) r (s .stand .phase) (x .stand .phase) (h .emptied) (row .enters) (row .empties))))
+      (heard-emptied (s .plan) x file out sent (h .lent) r (s .state .phase) (x .state .phase) (h .emptied) (row .enters) (row .empties))))
 
   pub ticked-holds : (lent : List ℕ) (elapsed : ℕ) (out : List ℕ) → (length lent ≡ length file → lent ≡ file)
-      → Holds file release (timeOf s lent elapsed out .answer .state) (sentAfter (timeOf s lent elapsed out) sent)
+      → Holds file release (indoorTimeOf s lent elapsed out .answer .session) (sentAfter (indoorTimeOf s lent elapsed out) sent)
   unfolding pick
   ticked-holds lent elapsed out same =
-      time-walk s lent elapsed out (λ y. Holds file release (y .answer .state) (sentAfter y sent)) h h
+      time-walk s lent elapsed out (λ y. Holds file release (y .answer .session) (sentAfter y sent)) h h
       (λ e _.
-      let row = pass-ticks (s .plan) (s .stand) elapsed in
-      let x = passOf (s .plan) (s .stand) elapsed in
+      let row = pass-ticks (s .plan) (s .state) elapsed in
+      let x = indoorTickOf (s .plan) (s .state) elapsed in
       rw (same (e ∙ h .lent))
       (done-holds x out (row .fit (h .fit)) (row .within (h .fit))
-      (ticked-emptied (s .plan) x file out sent (h .lent) (s .stand .phase) (x .stand .phase) (h .emptied)
-      (failed-phase x (order (s .stand .phase)) (Expires (s .plan) (s .stand) elapsed) (row .lasts))
+      (ticked-emptied (s .plan) x file out sent (h .lent) (s .state .phase) (x .state .phase) (h .emptied)
+      (failed-phase x (order (s .state .phase)) (Expires (s .plan) (s .state) elapsed) (row .lasts))
       (row .empties))))

@@ -9,25 +9,25 @@ use lib.Dec.{eqb}
 use Rattle.basis.specs.Pick.{When, when-met}
 use Rattle.basis.specs.Left.{Left}
 use Rattle.wire.specs.declared.response.Response.{Response}
-use Rattle.indoor_state.specs.Answer.{numberOf, sendsOf}
-use Rattle.indoor_state.specs.Step.{step}
-use Rattle.indoor_rules.specs.Decide.{decideOf}
-use Rattle.indoor_rules.specs.Pass.{passOf}
+use Rattle.indoor_state.specs.Answer.{indoorNumberOf, sendsOf}
+use Rattle.indoor_state.specs.Step.{indoorStep}
+use Rattle.indoor_rules.specs.Decide.{indoorDecideOf}
+use Rattle.indoor_rules.specs.Tick.{indoorTickOf}
 use Rattle.indoor_state.specs.declared.phase.Reason.{Reason}
 use Rattle.indoor_state.specs.declared.phase.Reason.the-variants as Why
 use Rattle.indoor_state.specs.declared.phase.Phase.{Phase}
 use Rattle.indoor_state.specs.declared.phase.Phase.the-variants.{Done, Failed}
-use Rattle.indoor_state.specs.declared.phase.Stand.{Stand}
+use Rattle.indoor_state.specs.declared.phase.State.{State}
 use Rattle.indoor_state.specs.declared.answer.Answer.{Answer}
 use Rattle.indoor_state.specs.declared.answer.Answer.the-variants as Ans
 use Rattle.indoor_state.specs.declared.answer.Sends.the-variants.{Nothing}
 use Rattle.indoor_state.specs.declared.step.Step.{Step}
 use Rattle.indoor_rules.proofs.Owes.{hears, Row, Stays, decide-row}
 use Rattle.indoor_rules.proofs.Ticks.{Ticks, Rests, pass-ticks}
-use Rattle.indoor_rules.specs.Session.{doneOf}
+use Rattle.indoor_rules.specs.Session.{indoorDone}
 use Rattle.indoor_rules.specs.Send.{sendsBytes}
-use Rattle.indoor_rules.specs.Response.{responseOf}
-use Rattle.indoor_rules.specs.Time.{timeOf}
+use Rattle.indoor_rules.specs.Response.{indoorResponseOf}
+use Rattle.indoor_rules.specs.Time.{indoorTimeOf}
 use Rattle.indoor_state.specs.declared.session.Indoor.{Indoor}
 use Rattle.indoor_state.specs.declared.session.Outcome.{Outcome}
 use Rattle.indoor_rules.proofs.Walk.{response-walk, time-walk}
@@ -38,9 +38,9 @@ keepsAll n = eqb n 20 || eqb n 21 || eqb n 27 || eqb n 28
 
 -- The session and the buffer are as they were, and nothing was written.
 abbrev pub Kept : Indoor → List ℕ → Left Outcome → Type 0
-Kept s out x = (x .answer .state ≡ s) × (x .memory ≡ out) × (x .answer .written ≡ 0)
+Kept s out x = (x .answer .session ≡ s) × (x .memory ≡ out) × (x .answer .written ≡ 0)
 
-only-unexpected : (a : Answer) → hears (numberOf a) ≡ true → keepsAll (numberOf a) ≡ true → a ≡ Ans.Unexpected
+only-unexpected : (a : Answer) → hears (indoorNumberOf a) ≡ true → keepsAll (indoorNumberOf a) ≡ true → a ≡ Ans.Unexpected
 only-unexpected Ans.Identifying h k = absurd (true≢false (sym k))
 only-unexpected Ans.Initiating h k = absurd (true≢false (sym k))
 only-unexpected (Ans.Sending number) h k = absurd (true≢false (sym k))
@@ -59,82 +59,82 @@ only-unexpected (Ans.Failed Why.TooLarge) h k = absurd (true≢false (sym k))
 only-unexpected (Ans.Failed Why.WrongNumber) h k = absurd (true≢false (sym k))
 only-unexpected (Ans.Failed Why.NotValid) h k = absurd (true≢false (sym k))
 
-stays-at : (before phase : Phase) (stand : Stand) (x : Step) → before ≡ phase → Stays before stand x → Stays phase stand x
-stays-at before phase stand x e h = rw e at h
+stays-at : (before phase : Phase) (state : State) (x : Step) → before ≡ phase → Stays before state x → Stays phase state x
+stays-at before phase state x e h = rw e at h
 
-rests-at : (before phase : Phase) (stand : Stand) (x : Step) → before ≡ phase → Rests before stand x → Rests phase stand x
-rests-at before phase stand x e h = rw e at h
+rests-at : (before phase : Phase) (state : State) (x : Step) → before ≡ phase → Rests before state x → Rests phase state x
+rests-at before phase state x e h = rw e at h
 
 module _ (s : Indoor) (file out : List ℕ) where
   -- A step that changes nothing, with an answer that sends nothing.
-  rested : (x : Step) (answer : Answer) → sendsOf answer ≡ Nothing → x ≡ step (s .stand) answer → Kept s out (doneOf (s .plan) x file out)
+  rested : (x : Step) (answer : Answer) → sendsOf answer ≡ Nothing → x ≡ indoorStep (s .state) answer → Kept s out (indoorDone (s .plan) x file out)
   unfolding sendsBytes
   rested x answer n e = (rw e, rw (e, n), rw (e, n))
 
-  passed : (x : Step) → When (eqb (numberOf (x .answer)) 21) (x .stand ≡ s .stand) → hears (numberOf (x .answer)) ≡ true → keepsAll (numberOf (x .answer)) ≡ true
-      → x ≡ step (s .stand) Ans.Unexpected
+  passed : (x : Step) → When (eqb (indoorNumberOf (x .answer)) 21) (x .state ≡ s .state) → hears (indoorNumberOf (x .answer)) ≡ true → keepsAll (indoorNumberOf (x .answer)) ≡ true
+      → x ≡ indoorStep (s .state) Ans.Unexpected
   passed x w h k =
       let e : x .answer ≡ Ans.Unexpected = only-unexpected (x .answer) h k in
-      let same : x .stand ≡ s .stand = when-met (eqb (numberOf (x .answer)) 21) w (rw e) in
-      let all : step (x .stand) (x .answer) ≡ step (s .stand) Ans.Unexpected = rw (e, same) in
+      let same : x .state ≡ s .state = when-met (eqb (indoorNumberOf (x .answer)) 21) w (rw e) in
+      let all : indoorStep (x .state) (x .answer) ≡ indoorStep (s .state) Ans.Unexpected = rw (e, same) in
       all
 
 module _ (s : Indoor) (file response out : List ℕ) where
   abbrev pub after : Left Outcome
-  after = responseOf s file response out
+  after = indoorResponseOf s file response out
 
-  row : (r : Response) → Row (s .plan) (s .stand) r (decideOf (s .plan) (s .stand) r)
-  row r = decide-row (s .plan) (s .stand) r
+  row : (r : Response) → Row (s .plan) (s .state) r (indoorDecideOf (s .plan) (s .state) r)
+  row r = decide-row (s .plan) (s .state) r
 
   -- Answers 20, 21, 27 and 28 keep the state and the buffer whole.
-  pub refused-keeps : keepsAll (numberOf (after .answer .answer)) ≡ true → Kept s out after
+  pub refused-keeps : keepsAll (indoorNumberOf (after .answer .answer)) ≡ true → Kept s out after
   refused-keeps =
-      response-walk s file response out (λ x. keepsAll (numberOf (x .answer .answer)) ≡ true → Kept s out x)
+      response-walk s file response out (λ x. keepsAll (indoorNumberOf (x .answer .answer)) ≡ true → Kept s out x)
       (λ _. (refl, refl, refl)) (λ _. (refl, refl, refl)) (λ _. (refl, refl, refl))
       (λ r _ _ _ k.
-      let x = decideOf (s .plan) (s .stand) r in
+      let x = indoorDecideOf (s .plan) (s .state) r in
       rested s file out x Ans.Unexpected refl (passed s file out x (row r .passes) (row r .number) k))
 
   -- What the session was started with is the session's to its end.
-  pub plan-stays : after .answer .state .plan ≡ s .plan
-  plan-stays = response-walk s file response out (λ x. x .answer .state .plan ≡ s .plan) refl refl refl (λ _ _ _ _. refl)
+  pub plan-stays : after .answer .session .plan ≡ s .plan
+  plan-stays = response-walk s file response out (λ x. x .answer .session .plan ≡ s .plan) refl refl refl (λ _ _ _ _. refl)
 
   -- Done and Failed are never left: a response there changes nothing and writes nothing.
-  pub done-stays : s .stand .phase ≡ Done → Kept s out after
+  pub done-stays : s .state .phase ≡ Done → Kept s out after
   done-stays e =
       response-walk s file response out (Kept s out) (refl, refl, refl) (refl, refl, refl) (refl, refl, refl)
-      (λ r _ _ _. let x = decideOf (s .plan) (s .stand) r in rested s file out x Ans.Unexpected refl (stays-at (s .stand .phase) Done (s .stand) x e (row r .stays)))
+      (λ r _ _ _. let x = indoorDecideOf (s .plan) (s .state) r in rested s file out x Ans.Unexpected refl (stays-at (s .state .phase) Done (s .state) x e (row r .stays)))
 
-  pub failed-stays : (reason : Reason) → s .stand .phase ≡ Failed reason → Kept s out after
+  pub failed-stays : (reason : Reason) → s .state .phase ≡ Failed reason → Kept s out after
   failed-stays reason e =
       response-walk s file response out (Kept s out) (refl, refl, refl) (refl, refl, refl) (refl, refl, refl)
-      (λ r _ _ _. let x = decideOf (s .plan) (s .stand) r in rested s file out x Ans.Unexpected refl (stays-at (s .stand .phase) (Failed reason) (s .stand) x e (row r .stays)))
+      (λ r _ _ _. let x = indoorDecideOf (s .plan) (s .state) r in rested s file out x Ans.Unexpected refl (stays-at (s .state .phase) (Failed reason) (s .state) x e (row r .stays)))
 
   -- An accepted response sets silence and resends to zero.
-  pub accepted-resets : numberOf (after .answer .answer) ≡ 0 → (after .answer .state .stand .silence ≡ 0) × (after .answer .state .stand .resends ≡ 0)
+  pub accepted-resets : indoorNumberOf (after .answer .answer) ≡ 0 → (after .answer .session .state .silence ≡ 0) × (after .answer .session .state .resends ≡ 0)
   accepted-resets =
       response-walk s file response out
-      (λ x. numberOf (x .answer .answer) ≡ 0 → (x .answer .state .stand .silence ≡ 0) × (x .answer .state .stand .resends ≡ 0))
+      (λ x. indoorNumberOf (x .answer .answer) ≡ 0 → (x .answer .session .state .silence ≡ 0) × (x .answer .session .state .resends ≡ 0))
       (λ e. absurd (omega arith)) (λ e. absurd (omega arith)) (λ e. absurd (omega arith))
-      (λ r _ _ _ e. when-met (eqb (numberOf (decideOf (s .plan) (s .stand) r .answer)) 0) (row r .taken) (eq-eqb (numberOf (decideOf (s .plan) (s .stand) r .answer)) 0 e))
+      (λ r _ _ _ e. when-met (eqb (indoorNumberOf (indoorDecideOf (s .plan) (s .state) r .answer)) 0) (row r .taken) (eq-eqb (indoorNumberOf (indoorDecideOf (s .plan) (s .state) r .answer)) 0 e))
 
 module _ (s : Indoor) (file : List ℕ) (elapsed : ℕ) (out : List ℕ) where
   abbrev pub ticked : Left Outcome
-  ticked = timeOf s file elapsed out
+  ticked = indoorTimeOf s file elapsed out
 
-  tick : Ticks (s .plan) (s .stand) elapsed (passOf (s .plan) (s .stand) elapsed)
-  tick = pass-ticks (s .plan) (s .stand) elapsed
+  tick : Ticks (s .plan) (s .state) elapsed (indoorTickOf (s .plan) (s .state) elapsed)
+  tick = pass-ticks (s .plan) (s .state) elapsed
 
-  pub time-plan-stays : ticked .answer .state .plan ≡ s .plan
-  time-plan-stays = time-walk s file elapsed out (λ x. x .answer .state .plan ≡ s .plan) refl refl (λ _ _. refl)
+  pub time-plan-stays : ticked .answer .session .plan ≡ s .plan
+  time-plan-stays = time-walk s file elapsed out (λ x. x .answer .session .plan ≡ s .plan) refl refl (λ _ _. refl)
 
   -- Time does nothing in Done and Failed.
-  pub time-done-stays : s .stand .phase ≡ Done → Kept s out ticked
+  pub time-done-stays : s .state .phase ≡ Done → Kept s out ticked
   time-done-stays e =
       time-walk s file elapsed out (Kept s out) (refl, refl, refl) (refl, refl, refl)
-      (λ _ _. rested s file out (passOf (s .plan) (s .stand) elapsed) Ans.Passed refl (rests-at (s .stand .phase) Done (s .stand) (passOf (s .plan) (s .stand) elapsed) e (tick .rests)))
+      (λ _ _. rested s file out (indoorTickOf (s .plan) (s .state) elapsed) Ans.Passed refl (rests-at (s .state .phase) Done (s .state) (indoorTickOf (s .plan) (s .state) elapsed) e (tick .rests)))
 
-  pub time-failed-stays : (reason : Reason) → s .stand .phase ≡ Failed reason → Kept s out ticked
+  pub time-failed-stays : (reason : Reason) → s .state .phase ≡ Failed reason → Kept s out ticked
   time-failed-stays reason e =
       time-walk s file elapsed out (Kept s out) (refl, refl, refl) (refl, refl, refl)
-      (λ _ _. rested s file out (passOf (s .plan) (s .stand) elapsed) Ans.Passed refl (rests-at (s .stand .phase) (Failed reason) (s .stand) (passOf (s .plan) (s .stand) elapsed) e (tick .rests)))
+      (λ _ _. rested s file out (indoorTickOf (s .plan) (s .state) elapsed) Ans.Passed refl (rests-at (s .state .phase) (Failed reason) (s .state) (indoorTickOf (s .plan) (s .state) elapsed) e (tick .rests)))

@@ -10,10 +10,10 @@ use Rattle.image.specs.Blocks.{blocksOf}
 use Rattle.wire.specs.declared.response.Identity.{Identity}
 use Rattle.wire.specs.declared.response.Response.{Response}
 use Rattle.wire.specs.declared.response.Response.the-variants as Res
-use Rattle.indoor_state.specs.Phase.{progress, stands}
-use Rattle.indoor_state.specs.Step.{step}
+use Rattle.indoor_state.specs.Phase.{indoorProgress, indoorState}
+use Rattle.indoor_state.specs.Step.{indoorStep}
 use Rattle.indoor_rules.specs.Step.{emptiedBy}
-use Rattle.indoor_rules.specs.Decide.{okOf, whereOk, comparedOf, readyOf, offeredOf, endedOf, closedOf, askedOf, numberedOf, judgedOf, verdictOf, identifyOf, initiateOf, transferOf, validateOf, decidedOf, decideOf}
+use Rattle.indoor_rules.specs.Decide.{okOf, whereOk, comparedOf, readyOf, offeredOf, indoorCloseNumberOf, indoorCloseOf, blockAskedOf, indoorDataOf, indoorSuccessOf, indoorValidatedOf, indoorIdentifyOf, indoorInitiateOf, indoorTransferOf, indoorValidateOf, indoorDecideIn, indoorDecideOf}
 use Rattle.indoor_state.specs.declared.plan.Plan.{Plan}
 use Rattle.indoor_state.specs.declared.phase.Reason.{Reason}
 use Rattle.indoor_state.specs.declared.phase.Reason.the-variants.{Refused, NotNewer, TooLarge, WrongNumber, NotValid}
@@ -26,14 +26,14 @@ use Rattle.indoor_rules.proofs.Compared.{Newer, newer-yes, newer-no}
 
 -- Accepted: silence and resends are zero. Failed: nothing is left but the reason.
 abbrev pub accepted : Phase → Answer → Step
-accepted phase answer = step (stands phase 0 0) answer
+accepted phase answer = indoorStep (indoorState phase 0 0) answer
 
 abbrev pub failed : Reason → Step
-failed reason = step (stands (Failed reason) 0 0) (Ans.Failed reason)
+failed reason = indoorStep (indoorState (Failed reason) 0 0) (Ans.Failed reason)
 
 module _ (plan : Plan) (silence resends : ℕ) where
   abbrev then : Phase → Response → Step
-  then phase response = decideOf plan (stands phase silence resends) response
+  then phase response = indoorDecideOf plan (indoorState phase silence resends) response
 
   abbrev pub n : ℕ
   n = blocksOf (plan .length)
@@ -42,99 +42,99 @@ module _ (plan : Plan) (silence resends : ℕ) where
   module _ (reported : Identity) where
     -- 41 whatever is reported
     pub identify-41 : (status : ℕ) → (status ≡ 0 → ⊥) → then Identify (Res.GetFwId status reported) ≡ failed Refused
-    unfolding decidedOf identifyOf whereOk okOf pick
+    unfolding indoorDecideIn indoorIdentifyOf whereOk okOf pick
     identify-41 status h = rw (ne-eqb status 0 h)
 
     pub identify-42 : (Newer (plan .release) reported → ⊥) → then Identify (Res.GetFwId 0 reported) ≡ failed NotNewer
-    unfolding decidedOf identifyOf comparedOf whereOk okOf pick
+    unfolding indoorDecideIn indoorIdentifyOf comparedOf whereOk okOf pick
     identify-42 h = rw (newer-no (plan .release) reported h)
 
     pub identified : Newer (plan .release) reported → then Identify (Res.GetFwId 0 reported) ≡ accepted (Initiate 0) Ans.Initiating
-    unfolding decidedOf identifyOf comparedOf whereOk okOf pick
+    unfolding indoorDecideIn indoorIdentifyOf comparedOf whereOk okOf pick
     identified h = rw (newer-yes (plan .release) reported h)
 
   -- INITIATE in Initiate, in a wait or not
   module _ (left size : ℕ) where
     -- 41 whatever the wait and the size are
     pub initiate-41-status : (status wait : ℕ) → (status ≡ 0 → ⊥) → then (Initiate left) (Res.Initiate status wait size) ≡ failed Refused
-    unfolding decidedOf initiateOf whereOk okOf pick
+    unfolding indoorDecideIn indoorInitiateOf whereOk okOf pick
     initiate-41-status status wait h = rw (ne-eqb status 0 h)
 
     pub initiate-41-wait : then (Initiate left) (Res.Initiate 0 255 size) ≡ failed Refused
-    unfolding decidedOf initiateOf offeredOf whereOk okOf pick
+    unfolding indoorDecideIn indoorInitiateOf offeredOf whereOk okOf pick
     initiate-41-wait = refl
 
     -- The size of a waiting answer is not looked at. WaitTime counts 10 ms.
     pub initiate-waits : (wait : ℕ) → 0 < wait → wait ≤ 254 → then (Initiate left) (Res.Initiate 0 wait size) ≡ accepted (Initiate (10 * wait)) Ans.Waiting
-    unfolding decidedOf initiateOf offeredOf whereOk okOf pick
+    unfolding indoorDecideIn indoorInitiateOf offeredOf whereOk okOf pick
     initiate-waits wait some most = rw (ne-eqb wait 255 (λ e. omega arith), ne-eqb wait 0 (λ e. omega arith))
 
     pub initiate-43 : size < plan .length → then (Initiate left) (Res.Initiate 0 0 size) ≡ failed TooLarge
-    unfolding decidedOf initiateOf offeredOf readyOf whereOk okOf pick
+    unfolding indoorDecideIn indoorInitiateOf offeredOf readyOf whereOk okOf pick
     initiate-43 h = rw (lt-ltb size (plan .length) h)
 
     -- A ready INITIATE answer brings block 0.
-    pub initiated : plan .length ≤ size → 0 < n → then (Initiate left) (Res.Initiate 0 0 size) ≡ accepted (Transfer (progress 0 0 false)) (Ans.Sending 0)
-    unfolding decidedOf initiateOf offeredOf readyOf whereOk okOf emptiedBy pick
+    pub initiated : plan .length ≤ size → 0 < n → then (Initiate left) (Res.Initiate 0 0 size) ≡ accepted (Transfer (indoorProgress 0 0 false)) (Ans.Sending 0)
+    unfolding indoorDecideIn indoorInitiateOf offeredOf readyOf whereOk okOf emptiedBy pick
     initiated h some = rw (le-ltb size (plan .length) h, ne-eqb 0 n (λ e. omega arith))
 
   -- DATA in Transfer, in a wait or not
   module _ (asked left : ℕ) (emptied : Bool) (number : ℕ) where
     abbrev told : ℕ → ℕ → Step
-    told status wait = then (Transfer (progress asked left emptied)) (Res.Data status wait number)
+    told status wait = then (Transfer (indoorProgress asked left emptied)) (Res.Data status wait number)
 
     -- 41 whatever the wait and the number are
     pub transfer-41 : (status wait : ℕ) → (status ≡ 0 → ⊥) → told status wait ≡ failed Refused
-    unfolding decidedOf transferOf whereOk okOf pick
+    unfolding indoorDecideIn indoorTransferOf whereOk okOf pick
     transfer-41 status wait h = rw (ne-eqb status 0 h)
 
     -- WaitTime 255 is the close only if the empty block has been sent and the number is n, else 44.
     pub closed : emptied ≡ true → number ≡ n → told 0 255 ≡ accepted (Validate 0) Ans.Validating
-    unfolding decidedOf transferOf numberedOf closedOf endedOf whereOk okOf pick
+    unfolding indoorDecideIn indoorTransferOf indoorDataOf indoorCloseOf indoorCloseNumberOf whereOk okOf pick
     closed e h = rw (e, eq-eqb number n h)
 
     pub close-44-early : emptied ≡ false → told 0 255 ≡ failed WrongNumber
-    unfolding decidedOf transferOf numberedOf closedOf whereOk okOf pick
+    unfolding indoorDecideIn indoorTransferOf indoorDataOf indoorCloseOf whereOk okOf pick
     close-44-early e = rw e
 
     pub close-44-number : emptied ≡ true → (number ≡ n → ⊥) → told 0 255 ≡ failed WrongNumber
-    unfolding decidedOf transferOf numberedOf closedOf endedOf whereOk okOf pick
+    unfolding indoorDecideIn indoorTransferOf indoorDataOf indoorCloseOf indoorCloseNumberOf whereOk okOf pick
     close-44-number e h = rw (e, ne-eqb number n h)
 
     pub asked-44 : (wait : ℕ) → wait ≤ 254 → n < number → told 0 wait ≡ failed WrongNumber
-    unfolding decidedOf transferOf numberedOf askedOf whereOk okOf pick
+    unfolding indoorDecideIn indoorTransferOf indoorDataOf blockAskedOf whereOk okOf pick
     asked-44 wait most h = rw (ne-eqb wait 255 (λ e. omega arith), lt-ltb n number h)
 
     -- Block j goes out at once ..
-    pub asked-sends : number ≤ n → told 0 0 ≡ accepted (Transfer (progress number 0 (emptiedBy plan number emptied))) (Ans.Sending number)
-    unfolding decidedOf transferOf numberedOf askedOf whereOk okOf pick
+    pub asked-sends : number ≤ n → told 0 0 ≡ accepted (Transfer (indoorProgress number 0 (emptiedBy plan number emptied))) (Ans.Sending number)
+    unfolding indoorDecideIn indoorTransferOf indoorDataOf blockAskedOf whereOk okOf pick
     asked-sends h = rw (le-ltb n number h)
 
     -- .. or after the wait. WaitTime counts 1 ms.
-    pub asked-waits : (wait : ℕ) → 0 < wait → wait ≤ 254 → number ≤ n → told 0 wait ≡ accepted (Transfer (progress number wait emptied)) Ans.Waiting
-    unfolding decidedOf transferOf numberedOf askedOf whereOk okOf pick
+    pub asked-waits : (wait : ℕ) → 0 < wait → wait ≤ 254 → number ≤ n → told 0 wait ≡ accepted (Transfer (indoorProgress number wait emptied)) Ans.Waiting
+    unfolding indoorDecideIn indoorTransferOf indoorDataOf blockAskedOf whereOk okOf pick
     asked-waits wait some most h = rw (ne-eqb wait 255 (λ e. omega arith), le-ltb n number h, ne-eqb wait 0 (λ e. omega arith))
 
   -- VALIDATE in Validate, in a wait or not
   module _ (left : ℕ) (success : Bool) where
     -- 41 whatever the wait and the success bit are
     pub validate-41-status : (status wait : ℕ) → (status ≡ 0 → ⊥) → then (Validate left) (Res.Validate status wait success) ≡ failed Refused
-    unfolding decidedOf validateOf whereOk okOf pick
+    unfolding indoorDecideIn indoorValidateOf whereOk okOf pick
     validate-41-status status wait h = rw (ne-eqb status 0 h)
 
     pub validate-41-wait : then (Validate left) (Res.Validate 0 255 success) ≡ failed Refused
-    unfolding decidedOf validateOf verdictOf whereOk okOf pick
+    unfolding indoorDecideIn indoorValidateOf indoorValidatedOf whereOk okOf pick
     validate-41-wait = refl
 
     -- WaitTime counts 1 ms, and the success bit of a waiting answer is not looked at.
     pub validate-waits : (wait : ℕ) → 0 < wait → wait ≤ 254 → then (Validate left) (Res.Validate 0 wait success) ≡ accepted (Validate wait) Ans.Waiting
-    unfolding decidedOf validateOf verdictOf whereOk okOf pick
+    unfolding indoorDecideIn indoorValidateOf indoorValidatedOf whereOk okOf pick
     validate-waits wait some most = rw (ne-eqb wait 255 (λ e. omega arith), ne-eqb wait 0 (λ e. omega arith))
 
   pub validate-45 : (left : ℕ) → then (Validate left) (Res.Validate 0 0 false) ≡ failed NotValid
-  unfolding decidedOf validateOf verdictOf judgedOf whereOk okOf pick
+  unfolding indoorDecideIn indoorValidateOf indoorValidatedOf indoorSuccessOf whereOk okOf pick
   validate-45 left = refl
 
   pub validated : (left : ℕ) → then (Validate left) (Res.Validate 0 0 true) ≡ accepted Done Ans.Finished
-  unfolding decidedOf validateOf verdictOf judgedOf whereOk okOf pick
+  unfolding indoorDecideIn indoorValidateOf indoorValidatedOf indoorSuccessOf whereOk okOf pick
   validated left = refl

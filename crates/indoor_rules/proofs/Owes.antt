@@ -10,18 +10,18 @@ use Rattle.basis.specs.Pick.{pick-all, When}
 use Rattle.wire.specs.declared.response.Identity.{Identity}
 use Rattle.wire.specs.declared.response.Response.{Response}
 use Rattle.wire.specs.declared.response.Response.the-variants as Res
-use Rattle.indoor_state.specs.Phase.{stands}
-use Rattle.indoor_state.specs.Answer.{numberOf, sendsOf}
-use Rattle.indoor_state.specs.Step.{step}
-use Rattle.indoor_rules.specs.Step.{last, emptiedBy}
+use Rattle.indoor_state.specs.Phase.{indoorState}
+use Rattle.indoor_state.specs.Answer.{indoorNumberOf, sendsOf}
+use Rattle.indoor_state.specs.Step.{indoorStep}
+use Rattle.indoor_rules.specs.Step.{emptyNumber, emptiedBy}
 use Rattle.indoor_rules.proofs.Accepted.{emptied-only, emptied-stays, emptied-last}
 use Rattle.indoor_rules.specs.Newer.{newerOf}
-use Rattle.indoor_rules.specs.Decide.{sends, okOf, whereOk, comparedOf, readyOf, offeredOf, endedOf, closedOf, askedOf, numberedOf, judgedOf, verdictOf, identifyOf, initiateOf, transferOf, validateOf, decidedOf, decideOf}
+use Rattle.indoor_rules.specs.Decide.{sendsBlock, okOf, whereOk, comparedOf, readyOf, offeredOf, indoorCloseNumberOf, indoorCloseOf, blockAskedOf, indoorDataOf, indoorSuccessOf, indoorValidatedOf, indoorIdentifyOf, indoorInitiateOf, indoorTransferOf, indoorValidateOf, indoorDecideIn, indoorDecideOf}
 use Rattle.indoor_state.specs.declared.plan.Plan.{Plan}
 use Rattle.indoor_state.specs.declared.phase.Progress.{Progress}
 use Rattle.indoor_state.specs.declared.phase.Phase.{Phase}
 use Rattle.indoor_state.specs.declared.phase.Phase.the-variants.{Identify, Initiate, Transfer, Validate, Done, Failed}
-use Rattle.indoor_state.specs.declared.phase.Stand.{Stand}
+use Rattle.indoor_state.specs.declared.phase.State.{State}
 use Rattle.indoor_state.specs.declared.answer.Answer.{Answer}
 use Rattle.indoor_state.specs.declared.answer.Answer.the-variants as Ans
 use Rattle.indoor_state.specs.declared.answer.Sends.{Sends}
@@ -33,7 +33,7 @@ abbrev pub hears : ℕ → Bool
 hears n = eqb n 0 || eqb n 21 || eqb n 41 || eqb n 42 || eqb n 43 || eqb n 44 || eqb n 45
 
 -- 40 to 45: Failed with that reason, and nothing else is left.
-abbrev pub Ends : Answer → Stand → Type 0
+abbrev pub Ends : Answer → State → Type 0
 Ends Ans.Identifying next = Unit
 Ends Ans.Initiating next = Unit
 Ends (Ans.Sending number) next = Unit
@@ -45,22 +45,22 @@ Ends Ans.Malformed next = Unit
 Ends Ans.Unexpected next = Unit
 Ends Ans.BufferShort next = Unit
 Ends Ans.FileLength next = Unit
-Ends (Ans.Failed reason) next = next ≡ stands (Failed reason) 0 0
+Ends (Ans.Failed reason) next = next ≡ indoorState (Failed reason) 0 0
 
 -- Done and Failed stay.
-abbrev pub Stays : Phase → Stand → Step → Type 0
-Stays Identify stand s = Unit
-Stays (Initiate left) stand s = Unit
-Stays (Transfer p) stand s = Unit
-Stays (Validate left) stand s = Unit
-Stays Done stand s = s ≡ step stand Ans.Unexpected
-Stays (Failed reason) stand s = s ≡ step stand Ans.Unexpected
+abbrev pub Stays : Phase → State → Step → Type 0
+Stays Identify state s = Unit
+Stays (Initiate left) state s = Unit
+Stays (Transfer p) state s = Unit
+Stays (Validate left) state s = Unit
+Stays Done state s = s ≡ indoorStep state Ans.Unexpected
+Stays (Failed reason) state s = s ≡ indoorStep state Ans.Unexpected
 
 -- Into Validate only from Transfer, by WaitTime 255 with the number n after the empty block went out.
 abbrev pub ToValidate : Plan → Phase → Response → Type 0
 ToValidate plan Identify r = ⊥
 ToValidate plan (Initiate left) r = ⊥
-ToValidate plan (Transfer p) r = (p .emptied ≡ true) × (r ≡ Res.Data 0x00 255 (last plan))
+ToValidate plan (Transfer p) r = (p .emptied ≡ true) × (r ≡ Res.Data 0x00 255 (emptyNumber plan))
 ToValidate plan (Validate left) r = Unit
 ToValidate plan Done r = ⊥
 ToValidate plan (Failed reason) r = ⊥
@@ -113,7 +113,7 @@ Enters plan before r (Failed reason) = Unit
 abbrev pub Fit : Plan → Phase → Type 0
 Fit plan Identify = Unit
 Fit plan (Initiate left) = Unit
-Fit plan (Transfer p) = p .asked ≤ last plan
+Fit plan (Transfer p) = p .asked ≤ emptyNumber plan
 Fit plan (Validate left) = Unit
 Fit plan Done = Unit
 Fit plan (Failed reason) = Unit
@@ -123,18 +123,18 @@ abbrev pub Within : Plan → Sends → Type 0
 Within plan Out.Nothing = Unit
 Within plan Out.GetFwId = Unit
 Within plan Out.Initiate = Unit
-Within plan (Out.Block number) = number ≤ last plan
+Within plan (Out.Block number) = number ≤ emptyNumber plan
 Within plan Out.Validate = Unit
 Within plan Out.Abort = Unit
 
 -- The empty block had been sent, or goes out with this answer.
 abbrev pub Emptied : Plan → Phase → Answer → Type 0
-Emptied plan Identify answer = answer ≡ Ans.Sending (last plan)
-Emptied plan (Initiate left) answer = answer ≡ Ans.Sending (last plan)
-Emptied plan (Transfer p) answer = (p .emptied ≡ true) ⊎ (answer ≡ Ans.Sending (last plan))
-Emptied plan (Validate left) answer = answer ≡ Ans.Sending (last plan)
-Emptied plan Done answer = answer ≡ Ans.Sending (last plan)
-Emptied plan (Failed reason) answer = answer ≡ Ans.Sending (last plan)
+Emptied plan Identify answer = answer ≡ Ans.Sending (emptyNumber plan)
+Emptied plan (Initiate left) answer = answer ≡ Ans.Sending (emptyNumber plan)
+Emptied plan (Transfer p) answer = (p .emptied ≡ true) ⊎ (answer ≡ Ans.Sending (emptyNumber plan))
+Emptied plan (Validate left) answer = answer ≡ Ans.Sending (emptyNumber plan)
+Emptied plan Done answer = answer ≡ Ans.Sending (emptyNumber plan)
+Emptied plan (Failed reason) answer = answer ≡ Ans.Sending (emptyNumber plan)
 
 abbrev pub Empties : Plan → Phase → Answer → Phase → Type 0
 Empties plan before answer Identify = Unit
@@ -162,7 +162,7 @@ Still (Failed reason) next = Unit
 abbrev pub Marked : Plan → ℕ → Phase → Type 0
 Marked plan number Identify = ⊥
 Marked plan number (Initiate left) = ⊥
-Marked plan number (Transfer p) = number ≡ last plan → p .emptied ≡ true
+Marked plan number (Transfer p) = number ≡ emptyNumber plan → p .emptied ≡ true
 Marked plan number (Validate left) = ⊥
 Marked plan number Done = ⊥
 Marked plan number (Failed reason) = ⊥
@@ -175,36 +175,36 @@ Marks plan (Out.Block number) next = Marked plan number next
 Marks plan Out.Validate next = Unit
 Marks plan Out.Abort next = Unit
 
-by-last : (plan : Plan) (number : ℕ) → (false ≡ true) ⊎ (number ≡ last plan) → Ans.Sending number ≡ Ans.Sending (last plan)
+by-last : (plan : Plan) (number : ℕ) → (false ≡ true) ⊎ (number ≡ emptyNumber plan) → Ans.Sending number ≡ Ans.Sending (emptyNumber plan)
 by-last plan number (inl e) = absurd (true≢false (sym e))
 by-last plan number (inr h) = ap Ans.Sending h
 
-by-either : (plan : Plan) (number : ℕ) (emptied : Bool) → (emptied ≡ true) ⊎ (number ≡ last plan) → (emptied ≡ true) ⊎ (Ans.Sending number ≡ Ans.Sending (last plan))
+by-either : (plan : Plan) (number : ℕ) (emptied : Bool) → (emptied ≡ true) ⊎ (number ≡ emptyNumber plan) → (emptied ≡ true) ⊎ (Ans.Sending number ≡ Ans.Sending (emptyNumber plan))
 by-either plan number emptied (inl e) = inl e
 by-either plan number emptied (inr h) = inr (ap Ans.Sending h)
 
-first-empties : (plan : Plan) → emptiedBy plan 0 false ≡ true → Ans.Sending 0 ≡ Ans.Sending (last plan)
+first-empties : (plan : Plan) → emptiedBy plan 0 false ≡ true → Ans.Sending 0 ≡ Ans.Sending (emptyNumber plan)
 first-empties plan e = by-last plan 0 (emptied-only plan 0 false e)
 
-pub later-empties : (plan : Plan) (number : ℕ) (emptied : Bool) → emptiedBy plan number emptied ≡ true → (emptied ≡ true) ⊎ (Ans.Sending number ≡ Ans.Sending (last plan))
+pub later-empties : (plan : Plan) (number : ℕ) (emptied : Bool) → emptiedBy plan number emptied ≡ true → (emptied ≡ true) ⊎ (Ans.Sending number ≡ Ans.Sending (emptyNumber plan))
 later-empties plan number emptied e = by-either plan number emptied (emptied-only plan number emptied e)
 
-pub record Row (plan : Plan) (stand : Stand) (r : Response) (s : Step) : Type 0 where
-  pub number : hears (numberOf (s .answer)) ≡ true
-  pub passes : When (eqb (numberOf (s .answer)) 21) (s .stand ≡ stand)
-  pub taken : When (eqb (numberOf (s .answer)) 0) ((s .stand .silence ≡ 0) × (s .stand .resends ≡ 0))
-  pub ends : Ends (s .answer) (s .stand)
-  pub stays : Stays (stand .phase) stand s
-  pub enters : Enters plan (stand .phase) r (s .stand .phase)
-  pub fit : Fit plan (stand .phase) → Fit plan (s .stand .phase)
+pub record Row (plan : Plan) (state : State) (r : Response) (s : Step) : Type 0 where
+  pub number : hears (indoorNumberOf (s .answer)) ≡ true
+  pub passes : When (eqb (indoorNumberOf (s .answer)) 21) (s .state ≡ state)
+  pub taken : When (eqb (indoorNumberOf (s .answer)) 0) ((s .state .silence ≡ 0) × (s .state .resends ≡ 0))
+  pub ends : Ends (s .answer) (s .state)
+  pub stays : Stays (state .phase) state s
+  pub enters : Enters plan (state .phase) r (s .state .phase)
+  pub fit : Fit plan (state .phase) → Fit plan (s .state .phase)
   pub within : Within plan (sendsOf (s .answer))
-  pub empties : Empties plan (stand .phase) (s .answer) (s .stand .phase)
-  pub still : Still (stand .phase) (s .stand .phase)
-  pub marks : Marks plan (sendsOf (s .answer)) (s .stand .phase)
+  pub empties : Empties plan (state .phase) (s .answer) (s .state .phase)
+  pub still : Still (state .phase) (s .state .phase)
+  pub marks : Marks plan (sendsOf (s .answer)) (s .state .phase)
 
 module _ (plan : Plan) (silence resends : ℕ) where
   abbrev P : Phase → Response → Step → Type 0
-  P before r s = Row plan (stands before silence resends) r s
+  P before r s = Row plan (indoorState before silence resends) r s
 
   identified-row : (status : ℕ) (reported : Identity) → P Identify (Res.GetFwId status reported) (whereOk status (comparedOf plan reported))
   unfolding whereOk okOf comparedOf
@@ -213,7 +213,7 @@ module _ (plan : Plan) (silence resends : ℕ) where
   ready-row : (left status wait size : ℕ) → status ≡ 0 → wait ≡ 0 → P (Initiate left) (Res.Initiate status wait size) (readyOf plan size)
   unfolding readyOf
   ready-row left status wait size ok none =
-      let low : 0 ≤ last plan = omega arith in
+      let low : 0 ≤ emptyNumber plan = omega arith in
       let empties = first-empties plan in
       let marks = emptied-last plan 0 false in
       pick-all (P (Initiate left) (Res.Initiate status wait size)) (ltb size (plan .length)) _ _ (λ _. search)
@@ -224,7 +224,7 @@ module _ (plan : Plan) (silence resends : ℕ) where
   initiated-row left status wait size =
       search (pick-all (P (Initiate left) (Res.Initiate status wait size)), ready-row, eqb-true) depth 8
 
-  sends-row : (p : Progress) (r : Response) (number : ℕ) → number ≤ last plan → P (Transfer p) r (sends plan number (p .emptied))
+  sends-row : (p : Progress) (r : Response) (number : ℕ) → number ≤ emptyNumber plan → P (Transfer p) r (sendsBlock plan number (p .emptied))
   sends-row p r number h =
       let empties = later-empties plan number (p .emptied) in
       let still = emptied-stays plan number (p .emptied) in
@@ -232,46 +232,46 @@ module _ (plan : Plan) (silence resends : ℕ) where
       search
 
   ended-row : (p : Progress) (status wait number : ℕ) → status ≡ 0 → wait ≡ 255 → p .emptied ≡ true
-      → P (Transfer p) (Res.Data status wait number) (endedOf plan number)
-  unfolding endedOf
+      → P (Transfer p) (Res.Data status wait number) (indoorCloseNumberOf plan number)
+  unfolding indoorCloseNumberOf
   ended-row p status wait number ok unable e =
-      pick-all (P (Transfer p) (Res.Data status wait number)) (eqb number (last plan)) _ _
-      (λ t. let told : Res.Data status wait number ≡ Res.Data 0x00 255 (last plan) = rw (ok, unable, eqb-true number (last plan) t) in search)
+      pick-all (P (Transfer p) (Res.Data status wait number)) (eqb number (emptyNumber plan)) _ _
+      (λ t. let told : Res.Data status wait number ≡ Res.Data 0x00 255 (emptyNumber plan) = rw (ok, unable, eqb-true number (emptyNumber plan) t) in search)
       (λ _. search)
 
   closed-row : (p : Progress) (status wait number : ℕ) → status ≡ 0 → wait ≡ 255
-      → P (Transfer p) (Res.Data status wait number) (closedOf plan (p .emptied) number)
-  unfolding closedOf
+      → P (Transfer p) (Res.Data status wait number) (indoorCloseOf plan (p .emptied) number)
+  unfolding indoorCloseOf
   closed-row p status wait number ok unable =
       pick-all (P (Transfer p) (Res.Data status wait number)) (p .emptied) _ _ (ended-row p status wait number ok unable) (λ _. search)
 
-  asked-row : (p : Progress) (r : Response) (wait number : ℕ) → P (Transfer p) r (askedOf plan (p .emptied) wait number)
-  unfolding askedOf
+  asked-row : (p : Progress) (r : Response) (wait number : ℕ) → P (Transfer p) r (blockAskedOf plan (p .emptied) wait number)
+  unfolding blockAskedOf
   asked-row p r wait number =
       let Q : Step → Type 0 = P (Transfer p) r in
-      pick-all Q (ltb (last plan) number) _ _ (λ _. search)
-      (λ t. let h = ltb-false (last plan) number t in
+      pick-all Q (ltb (emptyNumber plan) number) _ _ (λ _. search)
+      (λ t. let h = ltb-false (emptyNumber plan) number t in
       pick-all Q (eqb wait 0) _ _ (λ _. sends-row p r number h) (λ _. search inl))
 
-  receipt-row : (p : Progress) (status wait number : ℕ) → P (Transfer p) (Res.Data status wait number) (whereOk status (numberedOf plan (p .emptied) wait number))
-  unfolding whereOk okOf numberedOf
+  receipt-row : (p : Progress) (status wait number : ℕ) → P (Transfer p) (Res.Data status wait number) (whereOk status (indoorDataOf plan (p .emptied) wait number))
+  unfolding whereOk okOf indoorDataOf
   receipt-row p status wait number =
       search (pick-all (P (Transfer p) (Res.Data status wait number)), closed-row, asked-row, eqb-true) depth 8
 
-  judged-row : (left status wait : ℕ) (success : Bool) → status ≡ 0 → wait ≡ 0 → P (Validate left) (Res.Validate status wait success) (judgedOf success)
-  unfolding judgedOf
+  judged-row : (left status wait : ℕ) (success : Bool) → status ≡ 0 → wait ≡ 0 → P (Validate left) (Res.Validate status wait success) (indoorSuccessOf success)
+  unfolding indoorSuccessOf
   judged-row left status wait success ok none =
       pick-all (P (Validate left) (Res.Validate status wait success)) success _ _
       (λ e. let told : Res.Validate status wait success ≡ Res.Validate 0x00 0 true = rw (ok, none, e) in search)
       (λ _. search)
 
-  validated-row : (left status wait : ℕ) (success : Bool) → P (Validate left) (Res.Validate status wait success) (whereOk status (verdictOf wait success))
-  unfolding whereOk okOf verdictOf
+  validated-row : (left status wait : ℕ) (success : Bool) → P (Validate left) (Res.Validate status wait success) (whereOk status (indoorValidatedOf wait success))
+  unfolding whereOk okOf indoorValidatedOf
   validated-row left status wait success =
       search (pick-all (P (Validate left) (Res.Validate status wait success)), judged-row, eqb-true) depth 8
 
-  decided-row : (before : Phase) (r : Response) → P before r (decidedOf plan (stands before silence resends) before r)
-  unfolding decidedOf identifyOf initiateOf transferOf validateOf
+  decided-row : (before : Phase) (r : Response) → P before r (indoorDecideIn plan (indoorState before silence resends) before r)
+  unfolding indoorDecideIn indoorIdentifyOf indoorInitiateOf indoorTransferOf indoorValidateOf
   decided-row Identify (Res.GetFwId status reported) = identified-row status reported
   decided-row Identify (Res.Initiate status wait size) = search
   decided-row Identify (Res.Data status wait number) = search
@@ -295,5 +295,5 @@ module _ (plan : Plan) (silence resends : ℕ) where
   decided-row Done r = search
   decided-row (Failed reason) r = search
 
-pub decide-row : (plan : Plan) (stand : Stand) (r : Response) → Row plan stand r (decideOf plan stand r)
-decide-row plan stand r = decided-row plan (stand .silence) (stand .resends) (stand .phase) r
+pub decide-row : (plan : Plan) (state : State) (r : Response) → Row plan state r (indoorDecideOf plan state r)
+decide-row plan state r = decided-row plan (state .silence) (state .resends) (state .phase) r

@@ -18,7 +18,7 @@ use Rattle.indoor_state.specs.declared.answer.Answer.the-variants.{Identifying}
 use Rattle.indoor_rules.specs.Send.{sendsBytes}
 use Rattle.indoor_rules.specs.History.{Reached, starts, hears, passes, Genuine, AllGenuine, emptyBlock}
 use Rattle.indoor_state.specs.declared.session.Indoor.{Indoor}
-use Rattle.indoor_rules.specs.Step.{last}
+use Rattle.indoor_rules.specs.Step.{emptyNumber}
 use Rattle.indoor_rules.proofs.Owes.{Fit}
 use Rattle.indoor_rules.proofs.Fresh.{Fresh, start-fresh}
 use Rattle.indoor_rules.proofs.Genuine.{bytes-genuine}
@@ -34,7 +34,7 @@ fresh-holds file release s first words f = record {
   most = f .most;
   fit = subst (Fit (s .plan)) (sym (f .identify)) tt;
   genuine = (
-    subst (λ (m : List ℕ). Genuine (s .plan .release .versions) file m (message.requestOf m)) (sym (f .written))
+    subst (λ (m : List ℕ). Genuine (s .plan .release .versions) file m (message.parsedRequestOf m)) (sym (f .written))
         (bytes-genuine (s .plan) file Identifying (rw (f .offered) words) (f .lent) (f .most) tt (λ e. omega arith)),
     tt,
   );
@@ -49,7 +49,7 @@ reach-holds file release s sent words (hears {s = t} {sent = before} h lent resp
 reach-holds file release s sent words (passes {s = t} {sent = before} h lent elapsed out same) =
     ticked-holds file release words t before (reach-holds file release t before words h) lent elapsed out same
 
-genuine-each : (versions : Versions) (file : List ℕ) (sent : List (List ℕ)) (m : List ℕ) → AllGenuine versions file sent → List·Memᴰ m sent → Genuine versions file m (message.requestOf m)
+genuine-each : (versions : Versions) (file : List ℕ) (sent : List (List ℕ)) (m : List ℕ) → AllGenuine versions file sent → List·Memᴰ m sent → Genuine versions file m (message.parsedRequestOf m)
 genuine-each versions file (x ∷ sent) m all (List·Memᴰ·head e) = rw e (all .0)
 genuine-each versions file (x ∷ sent) m all (List·Memᴰ·tail h) = genuine-each versions file sent m (all .1) h
 
@@ -65,19 +65,19 @@ module _ (file : List ℕ) (release : Release) (s : Indoor) (sent : List (List �
   pub all-genuine : AllGenuine (release .versions) file sent
   all-genuine = let h = reach-holds file release s sent words reached in rw (h .offered) at (h .genuine)
 
-  pub each-genuine : (m : List ℕ) → List·Memᴰ m sent → Genuine (release .versions) file m (message.requestOf m)
+  pub each-genuine : (m : List ℕ) → List·Memᴰ m sent → Genuine (release .versions) file m (message.parsedRequestOf m)
   each-genuine m = genuine-each (release .versions) file sent m all-genuine
 
   -- There is no Validate and no Done before the empty block has gone out.
-  pub validate-emptied : (left : ℕ) → s .stand .phase ≡ Validate left → List·Memᴰ (emptyBlock file) sent
-  validate-emptied left e = emptied-at file (s .stand .phase) (Validate left) sent e (reach-holds file release s sent words reached .emptied)
+  pub validate-emptied : (left : ℕ) → s .state .phase ≡ Validate left → List·Memᴰ (emptyBlock file) sent
+  validate-emptied left e = emptied-at file (s .state .phase) (Validate left) sent e (reach-holds file release s sent words reached .emptied)
 
-  pub done-emptied : s .stand .phase ≡ Done → List·Memᴰ (emptyBlock file) sent
-  done-emptied e = emptied-at file (s .stand .phase) Done sent e (reach-holds file release s sent words reached .emptied)
+  pub done-emptied : s .state .phase ≡ Done → List·Memᴰ (emptyBlock file) sent
+  done-emptied e = emptied-at file (s .state .phase) Done sent e (reach-holds file release s sent words reached .emptied)
 
   -- The file is 1 to 1,048,575 bytes, and the block last asked for is one of its n blocks or the empty one.
   pub length-within : (1 ≤ length file) × (length file ≤ 1048575) × (s .plan .length ≡ length file)
   length-within = let h = reach-holds file release s sent words reached in (h .some, h .most, h .lent)
 
-  pub asked-within : (p : Progress) → s .stand .phase ≡ Transfer p → p .asked ≤ last (s .plan)
-  asked-within p e = fit-at (s .plan) (s .stand .phase) (Transfer p) e (reach-holds file release s sent words reached .fit)
+  pub asked-within : (p : Progress) → s .state .phase ≡ Transfer p → p .asked ≤ emptyNumber (s .plan)
+  asked-within p e = fit-at (s .plan) (s .state .phase) (Transfer p) e (reach-holds file release s sent words reached .fit)

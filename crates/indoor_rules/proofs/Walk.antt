@@ -12,46 +12,46 @@ use Rattle.wire.specs.Response as message
 use Rattle.wire.specs.declared.response.Response.{Response}
 use Rattle.wire.specs.declared.response.Parsed.{Parsed}
 use Rattle.wire.specs.declared.response.Parsed.the-variants as Par
-use Rattle.indoor_rules.specs.Decide.{decideOf}
-use Rattle.indoor_rules.specs.Pass.{passOf}
+use Rattle.indoor_rules.specs.Decide.{indoorDecideOf}
+use Rattle.indoor_rules.specs.Tick.{indoorTickOf}
 use Rattle.indoor_state.specs.declared.answer.Answer.the-variants.{Malformed, BufferShort, FileLength}
-use Rattle.indoor_rules.specs.Session.{kept, doneOf}
-use Rattle.indoor_rules.specs.Response.{readOf, responseOf}
-use Rattle.indoor_rules.specs.Time.{timeOf}
+use Rattle.indoor_rules.specs.Session.{indoorKept, indoorDone}
+use Rattle.indoor_rules.specs.Response.{responseReadOf, indoorResponseOf}
+use Rattle.indoor_rules.specs.Time.{indoorTimeOf}
 use Rattle.indoor_state.specs.declared.session.Indoor.{Indoor}
 use Rattle.indoor_state.specs.declared.session.Outcome.{Outcome}
 
 module _ (s : Indoor) (file response out : List ℕ) where
   -- What a well-formed response does.
   abbrev pub heard : Response → Left Outcome
-  heard r = doneOf (s .plan) (decideOf (s .plan) (s .stand) r) file out
+  heard r = indoorDone (s .plan) (indoorDecideOf (s .plan) (s .state) r) file out
 
-  read-walk : (P : Left Outcome → Type 0) (m : Parsed) → P (kept s Malformed out) → ((r : Response) → m ≡ Par.Valid r → P (heard r)) → P (readOf s m file out)
-  unfolding readOf
+  read-walk : (P : Left Outcome → Type 0) (m : Parsed) → P (indoorKept s Malformed out) → ((r : Response) → m ≡ Par.Valid r → P (heard r)) → P (responseReadOf s m file out)
+  unfolding responseReadOf
   read-walk P Par.Malformed bad good = bad
   read-walk P (Par.Valid r) bad good = good r refl
 
   pub response-walk : (P : Left Outcome → Type 0)
-      → P (kept s FileLength out)
-      → P (kept s BufferShort out)
-      → P (kept s Malformed out)
-      → ((r : Response) → length file ≡ s .plan .length → longest ≤ length out → message.responseOf response ≡ Par.Valid r → P (heard r))
-      → P (responseOf s file response out)
-  unfolding responseOf
+      → P (indoorKept s FileLength out)
+      → P (indoorKept s BufferShort out)
+      → P (indoorKept s Malformed out)
+      → ((r : Response) → length file ≡ s .plan .length → longest ≤ length out → message.parsedResponseOf response ≡ Par.Valid r → P (heard r))
+      → P (indoorResponseOf s file response out)
+  unfolding indoorResponseOf
   response-walk P length-bad short bad good =
       pick-all P (eqb (length file) (s .plan .length)) _ _
       (λ a. pick-all P (ltb (length out) longest) _ _ (λ _. short)
-      (λ b. read-walk P (message.responseOf response) bad
+      (λ b. read-walk P (message.parsedResponseOf response) bad
       (λ r e. good r (eqb-true (length file) (s .plan .length) a) (ltb-false (length out) longest b) e)))
       (λ _. length-bad)
 
 module _ (s : Indoor) (file : List ℕ) (elapsed : ℕ) (out : List ℕ) where
   pub time-walk : (P : Left Outcome → Type 0)
-      → P (kept s FileLength out)
-      → P (kept s BufferShort out)
-      → (length file ≡ s .plan .length → longest ≤ length out → P (doneOf (s .plan) (passOf (s .plan) (s .stand) elapsed) file out))
-      → P (timeOf s file elapsed out)
-  unfolding timeOf
+      → P (indoorKept s FileLength out)
+      → P (indoorKept s BufferShort out)
+      → (length file ≡ s .plan .length → longest ≤ length out → P (indoorDone (s .plan) (indoorTickOf (s .plan) (s .state) elapsed) file out))
+      → P (indoorTimeOf s file elapsed out)
+  unfolding indoorTimeOf
   time-walk P length-bad short passed =
       pick-all P (eqb (length file) (s .plan .length)) _ _
       (λ a. pick-all P (ltb (length out) longest) _ _ (λ _. short)

@@ -6,22 +6,22 @@ use native.Mathlib.Omega.{arith}
 use lib.ListN.{length, take, drop, length-append, length-drop}
 use lib.Seq.{take-append-seam, drop-append-seam}
 use Rattle.basis.specs.Left.{Left}
-use Rattle.lent.specs.Led.{led}
+use Rattle.lent.specs.Led.{writtenInto}
 use Rattle.image.specs.Blocks.{blockAt}
 use Rattle.wire.proofs.Fits.{request-fits}
 use Rattle.wire.specs.Codes.{longest}
 use Rattle.wire.specs.declared.request.Versions.{Versions}
 use Rattle.wire.specs.declared.request.Request.the-variants as Req
 use Rattle.indoor_state.specs.Answer.{sendsOf}
-use Rattle.indoor_rules.specs.Decide.{decideOf}
-use Rattle.indoor_rules.specs.Pass.{passOf}
+use Rattle.indoor_rules.specs.Decide.{indoorDecideOf}
+use Rattle.indoor_rules.specs.Tick.{indoorTickOf}
 use Rattle.indoor_state.specs.declared.plan.Plan.{Plan}
 use Rattle.indoor_state.specs.declared.answer.Answer.{Answer}
 use Rattle.indoor_state.specs.declared.answer.Sends.{Sends}
 use Rattle.indoor_state.specs.declared.answer.Sends.the-variants.{Nothing, GetFwId, Initiate, Block, Validate, Abort}
-use Rattle.indoor_rules.specs.Send.{blockBytes, sendsBytes, bytesOf}
-use Rattle.indoor_rules.specs.Response.{responseOf}
-use Rattle.indoor_rules.specs.Time.{timeOf}
+use Rattle.indoor_rules.specs.Send.{blockBytes, sendsBytes, indoorBytesOf}
+use Rattle.indoor_rules.specs.Response.{indoorResponseOf}
+use Rattle.indoor_rules.specs.Time.{indoorTimeOf}
 use Rattle.indoor_state.specs.declared.session.Indoor.{Indoor}
 use Rattle.indoor_state.specs.declared.session.Outcome.{Outcome}
 use Rattle.indoor_rules.proofs.Block.{block-most, head-four}
@@ -45,18 +45,18 @@ module _ (versions : Versions) (file : List ℕ) where
   sends-fit Abort = let fits = request-fits Req.Abort in omega arith
 
 -- A message is at most 260 bytes (01, Sizes and numbers).
-pub bytes-most : (plan : Plan) (file : List ℕ) (answer : Answer) → length (bytesOf plan file answer) ≤ 260
+pub bytes-most : (plan : Plan) (file : List ℕ) (answer : Answer) → length (indoorBytesOf plan file answer) ≤ 260
 bytes-most plan file answer = sends-fit (plan .release .versions) file (sendsOf answer)
 
-led-length : (plan : Plan) (file : List ℕ) (answer : Answer) (out : List ℕ) → longest ≤ length out → length (led (bytesOf plan file answer) out) ≡ length out
+led-length : (plan : Plan) (file : List ℕ) (answer : Answer) (out : List ℕ) → longest ≤ length out → length (writtenInto (indoorBytesOf plan file answer) out) ≡ length out
 led-length plan file answer out room =
     let fits = bytes-most plan file answer in
     simp (length-append, length-drop) (omega arith)
 
 -- The buffer begins with the answer's one request, or with none; behind it all is as it was.
 pub record Leads (plan : Plan) (file out : List ℕ) (x : Left Outcome) : Type 0 where
-  pub first : x .memory ≡ led (bytesOf plan file (x .answer .answer)) out
-  pub written : x .answer .written ≡ length (bytesOf plan file (x .answer .answer))
+  pub first : x .memory ≡ writtenInto (indoorBytesOf plan file (x .answer .answer)) out
+  pub written : x .answer .written ≡ length (indoorBytesOf plan file (x .answer .answer))
 
 module _ (plan : Plan) (file out : List ℕ) (x : Left Outcome) (l : Leads plan file out x) where
   pub written-most : x .answer .written ≤ 260
@@ -65,14 +65,14 @@ module _ (plan : Plan) (file out : List ℕ) (x : Left Outcome) (l : Leads plan 
       let n = l .written in
       omega arith
 
-  pub first-bytes : take (x .answer .written) (x .memory) ≡ bytesOf plan file (x .answer .answer)
-  first-bytes = rw (l .written, l .first) (take-append-seam (bytesOf plan file (x .answer .answer)) (drop (length (bytesOf plan file (x .answer .answer))) out))
+  pub first-bytes : take (x .answer .written) (x .memory) ≡ indoorBytesOf plan file (x .answer .answer)
+  first-bytes = rw (l .written, l .first) (take-append-seam (indoorBytesOf plan file (x .answer .answer)) (drop (length (indoorBytesOf plan file (x .answer .answer))) out))
 
   pub rest-kept : drop (x .answer .written) (x .memory) ≡ drop (x .answer .written) out
-  rest-kept = rw (l .written, l .first) (drop-append-seam (bytesOf plan file (x .answer .answer)) (drop (length (bytesOf plan file (x .answer .answer))) out))
+  rest-kept = rw (l .written, l .first) (drop-append-seam (indoorBytesOf plan file (x .answer .answer)) (drop (length (indoorBytesOf plan file (x .answer .answer))) out))
 
 module _ (s : Indoor) (file response out : List ℕ) where
-  pub response-leads : Leads (s .plan) file out (responseOf s file response out)
+  pub response-leads : Leads (s .plan) file out (indoorResponseOf s file response out)
   unfolding sendsBytes
   response-leads =
       response-walk s file response out (Leads (s .plan) file out)
@@ -82,13 +82,13 @@ module _ (s : Indoor) (file response out : List ℕ) where
       (λ _ _ _ _. record { first = refl; written = refl })
 
   -- The buffer is neither longer nor shorter afterwards.
-  pub response-length : length (responseOf s file response out .memory) ≡ length out
+  pub response-length : length (indoorResponseOf s file response out .memory) ≡ length out
   response-length =
       response-walk s file response out (λ x. length (x .memory) ≡ length out) refl refl refl
-      (λ r _ room _. led-length (s .plan) file (decideOf (s .plan) (s .stand) r .answer) out room)
+      (λ r _ room _. led-length (s .plan) file (indoorDecideOf (s .plan) (s .state) r .answer) out room)
 
 module _ (s : Indoor) (file : List ℕ) (elapsed : ℕ) (out : List ℕ) where
-  pub time-leads : Leads (s .plan) file out (timeOf s file elapsed out)
+  pub time-leads : Leads (s .plan) file out (indoorTimeOf s file elapsed out)
   unfolding sendsBytes
   time-leads =
       time-walk s file elapsed out (Leads (s .plan) file out)
@@ -96,7 +96,7 @@ module _ (s : Indoor) (file : List ℕ) (elapsed : ℕ) (out : List ℕ) where
       (record { first = refl; written = refl })
       (λ _ _. record { first = refl; written = refl })
 
-  pub time-length : length (timeOf s file elapsed out .memory) ≡ length out
+  pub time-length : length (indoorTimeOf s file elapsed out .memory) ≡ length out
   time-length =
       time-walk s file elapsed out (λ x. length (x .memory) ≡ length out) refl refl
-      (λ _ room. led-length (s .plan) file (passOf (s .plan) (s .stand) elapsed .answer) out room)
+      (λ _ room. led-length (s .plan) file (indoorTickOf (s .plan) (s .state) elapsed .answer) out room)

@@ -10,25 +10,25 @@ use Rattle.wire.specs.declared.status.Status.the-variants.{Ok}
 use Rattle.wire.specs.declared.response.Identity.{Identity}
 use Rattle.wire.specs.declared.response.Response.{Response}
 use Rattle.wire.specs.declared.response.Response.the-variants as Res
-use Rattle.indoor_state.specs.Phase.{progress}
-use Rattle.indoor_state.specs.Step.{step}
-use Rattle.indoor_rules.specs.Step.{goes, fails, last, sent}
+use Rattle.indoor_state.specs.Phase.{indoorProgress}
+use Rattle.indoor_state.specs.Step.{indoorStep}
+use Rattle.indoor_rules.specs.Step.{goes, fails, emptyNumber, blockSent}
 use Rattle.indoor_rules.specs.Newer.{newerOf}
 use Rattle.indoor_state.specs.declared.plan.Plan.{Plan}
 use Rattle.indoor_state.specs.declared.phase.Reason.the-variants.{Refused, NotNewer, TooLarge, WrongNumber, NotValid}
 use Rattle.indoor_state.specs.declared.phase.Progress.{Progress}
 use Rattle.indoor_state.specs.declared.phase.Phase.{Phase}
 use Rattle.indoor_state.specs.declared.phase.Phase.the-variants.{Identify, Initiate, Transfer, Validate, Done, Failed}
-use Rattle.indoor_state.specs.declared.phase.Stand.{Stand}
+use Rattle.indoor_state.specs.declared.phase.State.{State}
 use Rattle.indoor_state.specs.declared.answer.Answer.the-variants as Ans
 use Rattle.indoor_state.specs.declared.step.Step.{Step}
 
 -- A response of another type than the one due is passed over.
-abbrev pub passesOver : Stand → Step
-passesOver stand = step stand Ans.Unexpected
+abbrev pub passedOver : State → Step
+passedOver state = indoorStep state Ans.Unexpected
 
-abbrev pub sends : Plan → ℕ → Bool → Step
-sends plan number emptied = goes (sent plan number emptied) (Ans.Sending number)
+abbrev pub sendsBlock : Plan → ℕ → Bool → Step
+sendsBlock plan number emptied = goes (blockSent plan number emptied) (Ans.Sending number)
 
 -- 001 T5-29
 unfoldable pub okOf : ℕ → Bool
@@ -44,7 +44,7 @@ comparedOf plan reported = pick (newerOf (plan .release) reported) (goes (Initia
 
 -- A ready INITIATE answer brings block 0, or 43 where the file is larger than its MaxImageSize.
 unfoldable pub readyOf : Plan → ℕ → Step
-readyOf plan size = pick (ltb size (plan .length)) (fails TooLarge) (sends plan 0 false)
+readyOf plan size = pick (ltb size (plan .length)) (fails TooLarge) (sendsBlock plan 0 false)
 
 -- WaitTime counts 10 ms in an INITIATE response. 255 is 41, any other but 0 means wait, then send again.
 unfoldable pub offeredOf : Plan → ℕ → ℕ → Step
@@ -54,70 +54,70 @@ offeredOf plan wait size =
     (goes (Initiate (10 * wait)) Ans.Waiting))
 
 -- WaitTime 255 is the close only if the empty block has been sent and the number is n, else 44.
-unfoldable pub endedOf : Plan → ℕ → Step
-endedOf plan number = pick (eqb number (last plan)) (goes (Validate 0) Ans.Validating) (fails WrongNumber)
+unfoldable pub indoorCloseNumberOf : Plan → ℕ → Step
+indoorCloseNumberOf plan number = pick (eqb number (emptyNumber plan)) (goes (Validate 0) Ans.Validating) (fails WrongNumber)
 
-unfoldable pub closedOf : Plan → Bool → ℕ → Step
-closedOf plan emptied number = pick emptied (endedOf plan number) (fails WrongNumber)
+unfoldable pub indoorCloseOf : Plan → Bool → ℕ → Step
+indoorCloseOf plan emptied number = pick emptied (indoorCloseNumberOf plan number) (fails WrongNumber)
 
 -- Asked for j: 44 above n; else block j goes out, after the wait where there is one. A DATA response's WaitTime counts 1 ms.
-unfoldable pub askedOf : Plan → Bool → ℕ → ℕ → Step
-askedOf plan emptied wait number =
-    pick (ltb (last plan) number) (fails WrongNumber)
-    (pick (eqb wait 0) (sends plan number emptied)
-    (goes (Transfer (progress number wait emptied)) Ans.Waiting))
+unfoldable pub blockAskedOf : Plan → Bool → ℕ → ℕ → Step
+blockAskedOf plan emptied wait number =
+    pick (ltb (emptyNumber plan) number) (fails WrongNumber)
+    (pick (eqb wait 0) (sendsBlock plan number emptied)
+    (goes (Transfer (indoorProgress number wait emptied)) Ans.Waiting))
 
-unfoldable pub numberedOf : Plan → Bool → ℕ → ℕ → Step
-numberedOf plan emptied wait number = pick (eqb wait unable) (closedOf plan emptied number) (askedOf plan emptied wait number)
+unfoldable pub indoorDataOf : Plan → Bool → ℕ → ℕ → Step
+indoorDataOf plan emptied wait number = pick (eqb wait unable) (indoorCloseOf plan emptied number) (blockAskedOf plan emptied wait number)
 
 -- 45 with the success bit clear
-unfoldable pub judgedOf : Bool → Step
-judgedOf success = pick success (goes Done Ans.Finished) (fails NotValid)
+unfoldable pub indoorSuccessOf : Bool → Step
+indoorSuccessOf success = pick success (goes Done Ans.Finished) (fails NotValid)
 
 -- WaitTime counts 1 ms in a VALIDATE response (001 T5-24).
-unfoldable pub verdictOf : ℕ → Bool → Step
-verdictOf wait success =
+unfoldable pub indoorValidatedOf : ℕ → Bool → Step
+indoorValidatedOf wait success =
     pick (eqb wait unable) (fails Refused)
-    (pick (eqb wait 0) (judgedOf success)
+    (pick (eqb wait 0) (indoorSuccessOf success)
     (goes (Validate wait) Ans.Waiting))
 
 -- In each phase the response of one type is due.
-unfoldable pub identifyOf : Plan → Stand → Response → Step
-identifyOf plan stand (Res.GetFwId status reported) = whereOk status (comparedOf plan reported)
-identifyOf plan stand (Res.Initiate status wait size) = passesOver stand
-identifyOf plan stand (Res.Data status wait number) = passesOver stand
-identifyOf plan stand (Res.Validate status wait success) = passesOver stand
-identifyOf plan stand Res.NotBuilt = passesOver stand
+unfoldable pub indoorIdentifyOf : Plan → State → Response → Step
+indoorIdentifyOf plan state (Res.GetFwId status reported) = whereOk status (comparedOf plan reported)
+indoorIdentifyOf plan state (Res.Initiate status wait size) = passedOver state
+indoorIdentifyOf plan state (Res.Data status wait number) = passedOver state
+indoorIdentifyOf plan state (Res.Validate status wait success) = passedOver state
+indoorIdentifyOf plan state Res.NotBuilt = passedOver state
 
-unfoldable pub initiateOf : Plan → Stand → Response → Step
-initiateOf plan stand (Res.GetFwId status reported) = passesOver stand
-initiateOf plan stand (Res.Initiate status wait size) = whereOk status (offeredOf plan wait size)
-initiateOf plan stand (Res.Data status wait number) = passesOver stand
-initiateOf plan stand (Res.Validate status wait success) = passesOver stand
-initiateOf plan stand Res.NotBuilt = passesOver stand
+unfoldable pub indoorInitiateOf : Plan → State → Response → Step
+indoorInitiateOf plan state (Res.GetFwId status reported) = passedOver state
+indoorInitiateOf plan state (Res.Initiate status wait size) = whereOk status (offeredOf plan wait size)
+indoorInitiateOf plan state (Res.Data status wait number) = passedOver state
+indoorInitiateOf plan state (Res.Validate status wait success) = passedOver state
+indoorInitiateOf plan state Res.NotBuilt = passedOver state
 
-unfoldable pub transferOf : Plan → Stand → Progress → Response → Step
-transferOf plan stand p (Res.GetFwId status reported) = passesOver stand
-transferOf plan stand p (Res.Initiate status wait size) = passesOver stand
-transferOf plan stand p (Res.Data status wait number) = whereOk status (numberedOf plan (p .emptied) wait number)
-transferOf plan stand p (Res.Validate status wait success) = passesOver stand
-transferOf plan stand p Res.NotBuilt = passesOver stand
+unfoldable pub indoorTransferOf : Plan → State → Progress → Response → Step
+indoorTransferOf plan state p (Res.GetFwId status reported) = passedOver state
+indoorTransferOf plan state p (Res.Initiate status wait size) = passedOver state
+indoorTransferOf plan state p (Res.Data status wait number) = whereOk status (indoorDataOf plan (p .emptied) wait number)
+indoorTransferOf plan state p (Res.Validate status wait success) = passedOver state
+indoorTransferOf plan state p Res.NotBuilt = passedOver state
 
-unfoldable pub validateOf : Stand → Response → Step
-validateOf stand (Res.GetFwId status reported) = passesOver stand
-validateOf stand (Res.Initiate status wait size) = passesOver stand
-validateOf stand (Res.Data status wait number) = passesOver stand
-validateOf stand (Res.Validate status wait success) = whereOk status (verdictOf wait success)
-validateOf stand Res.NotBuilt = passesOver stand
+unfoldable pub indoorValidateOf : State → Response → Step
+indoorValidateOf state (Res.GetFwId status reported) = passedOver state
+indoorValidateOf state (Res.Initiate status wait size) = passedOver state
+indoorValidateOf state (Res.Data status wait number) = passedOver state
+indoorValidateOf state (Res.Validate status wait success) = whereOk status (indoorValidatedOf wait success)
+indoorValidateOf state Res.NotBuilt = passedOver state
 
 -- A later response of the due type is judged afresh and ends a wait. Done and Failed stay.
-unfoldable pub decidedOf : Plan → Stand → Phase → Response → Step
-decidedOf plan stand Identify response = identifyOf plan stand response
-decidedOf plan stand (Initiate wait) response = initiateOf plan stand response
-decidedOf plan stand (Transfer p) response = transferOf plan stand p response
-decidedOf plan stand (Validate wait) response = validateOf stand response
-decidedOf plan stand Done response = passesOver stand
-decidedOf plan stand (Failed reason) response = passesOver stand
+unfoldable pub indoorDecideIn : Plan → State → Phase → Response → Step
+indoorDecideIn plan state Identify response = indoorIdentifyOf plan state response
+indoorDecideIn plan state (Initiate wait) response = indoorInitiateOf plan state response
+indoorDecideIn plan state (Transfer p) response = indoorTransferOf plan state p response
+indoorDecideIn plan state (Validate wait) response = indoorValidateOf state response
+indoorDecideIn plan state Done response = passedOver state
+indoorDecideIn plan state (Failed reason) response = passedOver state
 
-abbrev pub decideOf : Plan → Stand → Response → Step
-decideOf plan stand response = decidedOf plan stand (stand .phase) response
+abbrev pub indoorDecideOf : Plan → State → Response → Step
+indoorDecideOf plan state response = indoorDecideIn plan state (state .phase) response

@@ -15,9 +15,9 @@ use Rattle.wire.specs.declared.request.Request.the-variants as Req
 use Rattle.wire.specs.declared.request.Parsed.{Parsed}
 use Rattle.wire.specs.declared.request.Parsed.the-variants as Par
 use Rattle.indoor_state.specs.declared.plan.Release.{Release}
-use Rattle.indoor_rules.specs.Start.{startOf}
-use Rattle.indoor_rules.specs.Response.{responseOf}
-use Rattle.indoor_rules.specs.Time.{timeOf}
+use Rattle.indoor_rules.specs.Start.{indoorStartOf}
+use Rattle.indoor_rules.specs.Response.{indoorResponseOf}
+use Rattle.indoor_rules.specs.Time.{indoorTimeOf}
 use Rattle.indoor_state.specs.declared.session.Indoor.{Indoor}
 use Rattle.indoor_state.specs.declared.session.Outcome.{Outcome}
 use Rattle.indoor_state.specs.declared.session.Started.the-variants.{Made}
@@ -29,14 +29,14 @@ sentAfter x sent = withSent (x .answer .written) (x .memory) sent
 module _ (file : List ℕ) where
   pub data Reached : Release → Indoor → List (List ℕ) → Type 0 where
     starts : (limit resends : ℕ) (release : Release) (out : List ℕ) (s : Indoor) (written : ℕ) (out′ : List ℕ)
-        → startOf limit resends release file out ≡ left (Made s written) out′
+        → indoorStartOf limit resends release file out ≡ left (Made s written) out′
         → Reached release s (take written out′ ∷ [])
     hears : {release : Release} {s : Indoor} {sent : List (List ℕ)} → Reached release s sent → (lent response out : List ℕ)
         → (length lent ≡ length file → lent ≡ file)
-        → Reached release (responseOf s lent response out .answer .state) (sentAfter (responseOf s lent response out) sent)
+        → Reached release (indoorResponseOf s lent response out .answer .session) (sentAfter (indoorResponseOf s lent response out) sent)
     passes : {release : Release} {s : Indoor} {sent : List (List ℕ)} → Reached release s sent → (lent : List ℕ) (elapsed : ℕ) (out : List ℕ)
         → (length lent ≡ length file → lent ≡ file)
-        → Reached release (timeOf s lent elapsed out .answer .state) (sentAfter (timeOf s lent elapsed out) sent)
+        → Reached release (indoorTimeOf s lent elapsed out .answer .session) (sentAfter (indoorTimeOf s lent elapsed out) sent)
 
 -- GET_FW_ID, INITIATE with the file's versions, a DATA whose number j ≤ n carries exactly block j of the file, VALIDATE or ABORT, as a reader
 -- finds it in the bytes.
@@ -51,7 +51,7 @@ Genuine versions file m Par.Malformed = ⊥
 
 abbrev pub AllGenuine : Versions → List ℕ → List (List ℕ) → Type 0
 AllGenuine versions file [] = Unit
-AllGenuine versions file (m ∷ sent) = Genuine versions file m (message.requestOf m) × AllGenuine versions file sent
+AllGenuine versions file (m ∷ sent) = Genuine versions file m (message.parsedRequestOf m) × AllGenuine versions file sent
 
 -- The empty block: 01 83 and the number n.
 abbrev pub emptyBlock : List ℕ → List ℕ

@@ -1,7 +1,7 @@
 pub mod Newer
 pub mod Step
 pub mod Decide
-pub mod Pass
+pub mod Tick
 pub mod Send
 pub mod Session
 pub mod Start

@@ -9,21 +9,21 @@ use Rattle.wire.specs.Codes.{longest}
 use Rattle.wire.specs.Response as message
 use Rattle.wire.specs.declared.response.Parsed.{Parsed}
 use Rattle.wire.specs.declared.response.Parsed.the-variants as Par
-use Rattle.indoor_rules.specs.Decide.{decideOf}
+use Rattle.indoor_rules.specs.Decide.{indoorDecideOf}
 use Rattle.indoor_state.specs.declared.answer.Answer.the-variants.{Malformed, BufferShort, FileLength}
-use Rattle.indoor_rules.specs.Session.{kept, doneOf}
+use Rattle.indoor_rules.specs.Session.{indoorKept, indoorDone}
 use Rattle.indoor_state.specs.declared.session.Indoor.{Indoor}
 use Rattle.indoor_state.specs.declared.session.Outcome.{Outcome}
 
 -- 20, and then what the response asks for
-unfoldable pub readOf : Indoor → Parsed → List ℕ → List ℕ → Left Outcome
-readOf s Par.Malformed file out = kept s Malformed out
-readOf s (Par.Valid valid) file out = doneOf (s .plan) (decideOf (s .plan) (s .stand) valid) file out
+unfoldable pub responseReadOf : Indoor → Parsed → List ℕ → List ℕ → Left Outcome
+responseReadOf s Par.Malformed file out = indoorKept s Malformed out
+responseReadOf s (Par.Valid valid) file out = indoorDone (s .plan) (indoorDecideOf (s .plan) (s .state) valid) file out
 
 -- 28, 27, 20, and then what the response asks for
-unfoldable pub responseOf : Indoor → List ℕ → List ℕ → List ℕ → Left Outcome
-responseOf s file response out =
+unfoldable pub indoorResponseOf : Indoor → List ℕ → List ℕ → List ℕ → Left Outcome
+indoorResponseOf s file response out =
     pick (eqb (length file) (s .plan .length))
-    (pick (ltb (length out) longest) (kept s BufferShort out)
-    (readOf s (message.responseOf response) file out))
-    (kept s FileLength out)
+    (pick (ltb (length out) longest) (indoorKept s BufferShort out)
+    (responseReadOf s (message.parsedResponseOf response) file out))
+    (indoorKept s FileLength out)

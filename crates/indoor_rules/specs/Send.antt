@@ -24,5 +24,5 @@ sendsBytes versions file (Block number) = blockBytes file number
 sendsBytes versions file Validate = requestBytes Req.Validate
 sendsBytes versions file Abort = requestBytes Req.Abort
 
-abbrev pub bytesOf : Plan → List ℕ → Answer → List ℕ
-bytesOf plan file answer = sendsBytes (plan .release .versions) file (sendsOf answer)
+abbrev pub indoorBytesOf : Plan → List ℕ → Answer → List ℕ
+indoorBytesOf plan file answer = sendsBytes (plan .release .versions) file (sendsOf answer)

@@ -5,7 +5,7 @@ use lib.Dec.{ltb, eqb}
 use lib.ListN.{length}
 use Rattle.basis.specs.Pick.{pick}
 use Rattle.basis.specs.Left.{Left, left}
-use Rattle.lent.specs.Led.{led}
+use Rattle.lent.specs.Led.{writtenInto}
 use Rattle.silence.specs.Settings.{settingsOf}
 use Rattle.silence.specs.declared.Settings as silence
 use Rattle.silence.specs.declared.Checked.{Checked}
@@ -13,7 +13,7 @@ use Rattle.silence.specs.declared.Checked.the-variants as Che
 use Rattle.wire.specs.Codes.{longest, imageSizeMost}
 use Rattle.wire.specs.Written.{requestBytes}
 use Rattle.wire.specs.declared.request.Request.the-variants as Req
-use Rattle.indoor_state.specs.Phase.{stands}
+use Rattle.indoor_state.specs.Phase.{indoorState}
 use Rattle.indoor_state.specs.declared.plan.Release.{Release}
 use Rattle.indoor_state.specs.declared.plan.Plan.{Plan}
 use Rattle.indoor_state.specs.declared.phase.Phase.the-variants.{Identify}
@@ -25,22 +25,22 @@ abbrev pub plans : silence.Settings → Release → ℕ → Plan
 plans settings release length = record { settings = settings; release = release; length = length }
 
 -- The start writes GET_FW_ID.
-abbrev pub begunOf : Plan → List ℕ → Left Started
-begunOf plan out =
-    left (Made (indoor plan (stands Identify 0 0)) (length (requestBytes Req.GetFwId))) (led (requestBytes Req.GetFwId) out)
+abbrev pub indoorBegun : Plan → List ℕ → Left Started
+indoorBegun plan out =
+    left (Made (indoor plan (indoorState Identify 0 0)) (length (requestBytes Req.GetFwId))) (writtenInto (requestBytes Req.GetFwId) out)
 
 -- 46, 27
-unfoldable pub beginOf : silence.Settings → Release → List ℕ → List ℕ → Left Started
-beginOf settings release file out =
+unfoldable pub indoorBeginOf : silence.Settings → Release → List ℕ → List ℕ → Left Started
+indoorBeginOf settings release file out =
     pick (eqb (length file) 0) (left FileSize out)
     (pick (ltb imageSizeMost (length file)) (left FileSize out)
     (pick (ltb (length out) longest) (left BufferShort out)
-    (begunOf (plans settings release (length file)) out)))
+    (indoorBegun (plans settings release (length file)) out)))
 
-unfoldable pub startedOf : Checked → Release → List ℕ → List ℕ → Left Started
-startedOf (Che.Made settings) release file out = beginOf settings release file out
-startedOf Che.Refused release file out = left Settings out
+unfoldable pub indoorStartedOf : Checked → Release → List ℕ → List ℕ → Left Started
+indoorStartedOf (Che.Made settings) release file out = indoorBeginOf settings release file out
+indoorStartedOf Che.Refused release file out = left Settings out
 
 -- 29, and then 46, 27
-abbrev pub startOf : ℕ → ℕ → Release → List ℕ → List ℕ → Left Started
-startOf limit resends release file out = startedOf (settingsOf limit resends) release file out
+abbrev pub indoorStartOf : ℕ → ℕ → Release → List ℕ → List ℕ → Left Started
+indoorStartOf limit resends release file out = indoorStartedOf (settingsOf limit resends) release file out

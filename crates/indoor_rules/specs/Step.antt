@@ -5,8 +5,8 @@ use mathlib.Core.Bool.{Bool, true}
 use lib.Dec.{eqb}
 use Rattle.basis.specs.Pick.{pick}
 use Rattle.image.specs.Blocks.{blocksOf}
-use Rattle.indoor_state.specs.Phase.{progress, stands}
-use Rattle.indoor_state.specs.Step.{step}
+use Rattle.indoor_state.specs.Phase.{indoorProgress, indoorState}
+use Rattle.indoor_state.specs.Step.{indoorStep}
 use Rattle.indoor_state.specs.declared.plan.Plan.{Plan}
 use Rattle.indoor_state.specs.declared.phase.Reason.{Reason}
 use Rattle.indoor_state.specs.declared.phase.Phase.{Phase}
@@ -17,20 +17,20 @@ use Rattle.indoor_state.specs.declared.step.Step.{Step}
 
 -- An accepted response sets silence and resends to zero; so does whatever ends the session.
 abbrev pub goes : Phase → Answer → Step
-goes phase answer = step (stands phase 0 0) answer
+goes phase answer = indoorStep (indoorState phase 0 0) answer
 
 -- Failed keeps nothing but its reason.
 abbrev pub fails : Reason → Step
 fails reason = goes (Failed reason) (Ans.Failed reason)
 
 -- n: the blocks of the file, and the number of the empty one.
-abbrev pub last : Plan → ℕ
-last plan = blocksOf (plan .length)
+abbrev pub emptyNumber : Plan → ℕ
+emptyNumber plan = blocksOf (plan .length)
 
 -- The empty block has been sent from the first time that block n goes out.
 unfoldable pub emptiedBy : Plan → ℕ → Bool → Bool
-emptiedBy plan number emptied = pick emptied true (eqb number (last plan))
+emptiedBy plan number emptied = pick emptied true (eqb number (emptyNumber plan))
 
 -- Where the indoor end stands once a block has gone out.
-abbrev pub sent : Plan → ℕ → Bool → Phase
-sent plan number emptied = Transfer (progress number 0 (emptiedBy plan number emptied))
+abbrev pub blockSent : Plan → ℕ → Bool → Phase
+blockSent plan number emptied = Transfer (indoorProgress number 0 (emptiedBy plan number emptied))

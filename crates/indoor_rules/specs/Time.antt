@@ -6,16 +6,16 @@ use lib.ListN.{length}
 use Rattle.basis.specs.Pick.{pick}
 use Rattle.basis.specs.Left.{Left}
 use Rattle.wire.specs.Codes.{longest}
-use Rattle.indoor_rules.specs.Pass.{passOf}
+use Rattle.indoor_rules.specs.Tick.{indoorTickOf}
 use Rattle.indoor_state.specs.declared.answer.Answer.the-variants.{BufferShort, FileLength}
-use Rattle.indoor_rules.specs.Session.{kept, doneOf}
+use Rattle.indoor_rules.specs.Session.{indoorKept, indoorDone}
 use Rattle.indoor_state.specs.declared.session.Indoor.{Indoor}
 use Rattle.indoor_state.specs.declared.session.Outcome.{Outcome}
 
 -- 28, 27, and then what time does
-unfoldable pub timeOf : Indoor → List ℕ → ℕ → List ℕ → Left Outcome
-timeOf s file elapsed out =
+unfoldable pub indoorTimeOf : Indoor → List ℕ → ℕ → List ℕ → Left Outcome
+indoorTimeOf s file elapsed out =
     pick (eqb (length file) (s .plan .length))
-    (pick (ltb (length out) longest) (kept s BufferShort out)
-    (doneOf (s .plan) (passOf (s .plan) (s .stand) elapsed) file out))
-    (kept s FileLength out)
+    (pick (ltb (length out) longest) (indoorKept s BufferShort out)
+    (indoorDone (s .plan) (indoorTickOf (s .plan) (s .state) elapsed) file out))
+    (indoorKept s FileLength out)

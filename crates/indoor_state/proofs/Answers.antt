@@ -2,7 +2,7 @@
 use Prim.Native.Nat.{ℕ}
 use mathlib.Core.Path.{_≡_, refl}
 use mathlib.Core.List.{[], _∷_, map}
-use Rattle.indoor_state.specs.Answer.{numberOf, sendsOf}
+use Rattle.indoor_state.specs.Answer.{indoorNumberOf, sendsOf}
 use Rattle.indoor_state.specs.Session as start
 use Rattle.indoor_state.specs.declared.phase.Reason.the-variants.{Silence, Refused, NotNewer, TooLarge, WrongNumber, NotValid}
 use Rattle.indoor_state.specs.declared.answer.Answer.{Answer}
@@ -13,7 +13,7 @@ use Rattle.indoor_state.specs.declared.session.Indoor.{Indoor}
 use Rattle.indoor_state.specs.declared.session.Started.the-variants as Started
 
 abbrev row : Answer → ℕ × Sends
-row a = (numberOf a, sendsOf a)
+row a = (indoorNumberOf a, sendsOf a)
 
 -- 0: taken
 pub taken-rows : (number : ℕ) →
@@ -33,5 +33,5 @@ failed-rows = refl
 
 -- 29, 46, 27 of a start
 pub started-rows : (s : Indoor) (written : ℕ) →
-    map start.numberOf (Started.Made s written ∷ Started.Settings ∷ Started.FileSize ∷ Started.BufferShort ∷ []) ≡ 0 ∷ 29 ∷ 46 ∷ 27 ∷ []
+    map start.indoorStartNumberOf (Started.Made s written ∷ Started.Settings ∷ Started.FileSize ∷ Started.BufferShort ∷ []) ≡ 0 ∷ 29 ∷ 46 ∷ 27 ∷ []
 started-rows s written = refl

@@ -8,19 +8,19 @@ use Rattle.indoor_state.specs.declared.answer.Answer.the-variants.{Ident
 use Rattle.indoor_state.specs.declared.answer.Sends.{Sends}
 use Rattle.indoor_state.specs.declared.answer.Sends.the-variants.{Nothing, GetFwId, Initiate, Block, Validate, Abort}
 
-abbrev pub numberOf : Answer → ℕ
-numberOf Identifying = 0
-numberOf Initiating = 0
-numberOf (Sending number) = 0
-numberOf Validating = 0
-numberOf Waiting = 0
-numberOf Finished = 0
-numberOf Passed = 0
-numberOf Malformed = 20
-numberOf Unexpected = 21
-numberOf BufferShort = 27
-numberOf FileLength = 28
-numberOf (Failed reason) = reasonNumber reason
+abbrev pub indoorNumberOf : Answer → ℕ
+indoorNumberOf Identifying = 0
+indoorNumberOf Initiating = 0
+indoorNumberOf (Sending number) = 0
+indoorNumberOf Validating = 0
+indoorNumberOf Waiting = 0
+indoorNumberOf Finished = 0
+indoorNumberOf Passed = 0
+indoorNumberOf Malformed = 20
+indoorNumberOf Unexpected = 21
+indoorNumberOf BufferShort = 27
+indoorNumberOf FileLength = 28
+indoorNumberOf (Failed reason) = reasonNumber reason
 
 -- ABORT is sent once at 40, 43 and 44.
 abbrev pub abortsOf : Reason → Sends

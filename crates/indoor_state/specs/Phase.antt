@@ -5,7 +5,7 @@ use Rattle.indoor_state.specs.declared.phase.Reason.{Reason}
 use Rattle.indoor_state.specs.declared.phase.Reason.the-variants.{Silence, Refused, NotNewer, TooLarge, WrongNumber, NotValid}
 use Rattle.indoor_state.specs.declared.phase.Progress.{Progress}
 use Rattle.indoor_state.specs.declared.phase.Phase.{Phase}
-use Rattle.indoor_state.specs.declared.phase.Stand.{Stand}
+use Rattle.indoor_state.specs.declared.phase.State.{State}
 
 -- 01, Numbers we answer
 abbrev pub reasonNumber : Reason → ℕ
@@ -16,8 +16,8 @@ reasonNumber TooLarge = 43
 reasonNumber WrongNumber = 44
 reasonNumber NotValid = 45
 
-abbrev pub progress : ℕ → ℕ → Bool → Progress
-progress asked wait emptied = record { asked = asked; wait = wait; emptied = emptied }
+abbrev pub indoorProgress : ℕ → ℕ → Bool → Progress
+indoorProgress asked wait emptied = record { asked = asked; wait = wait; emptied = emptied }
 
-abbrev pub stands : Phase → ℕ → ℕ → Stand
-stands phase silence resends = record { phase = phase; silence = silence; resends = resends }
+abbrev pub indoorState : Phase → ℕ → ℕ → State
+indoorState phase silence resends = record { phase = phase; silence = silence; resends = resends }

@@ -3,8 +3,8 @@ use Prim.Native.Nat.{ℕ}
 use Rattle.indoor_state.specs.declared.session.Started.{Started}
 use Rattle.indoor_state.specs.declared.session.Started.the-variants.{Made, Settings, FileSize, BufferShort}
 
-abbrev pub numberOf : Started → ℕ
-numberOf (Made state written) = 0
-numberOf Settings = 29
-numberOf FileSize = 46
-numberOf BufferShort = 27
+abbrev pub indoorStartNumberOf : Started → ℕ
+indoorStartNumberOf (Made session written) = 0
+indoorStartNumberOf Settings = 29
+indoorStartNumberOf FileSize = 46
+indoorStartNumberOf BufferShort = 27

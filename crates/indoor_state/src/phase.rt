@@ -27,7 +27,7 @@ pub enum Phase {
 }
 
 // What a call may change: `silence` is in milliseconds, and `resends` counts those made.
-pub struct Stand {
+pub struct State {
     pub phase: Phase,
     pub silence: u16,
     pub resends: u8,

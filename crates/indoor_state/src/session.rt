@@ -1,16 +1,16 @@
 // A session of the indoor end: what it was started with, where it stands, and what a call returns of it.
 use crate::answer::Answer;
-use crate::phase::Stand;
+use crate::phase::State;
 use crate::plan::Plan;
 
 pub struct Indoor {
     pub plan: Plan,
-    pub stand: Stand,
+    pub state: State,
 }
 
 // `written` is how many bytes of the output buffer the first request took.
 pub enum Started {
-    Made { state: Indoor, written: usize },
+    Made { session: Indoor, written: usize },
     Settings,
     FileSize,
     BufferShort,
@@ -18,7 +18,7 @@ pub enum Started {
 
 // What a response and a time call answer: the session as it then stands, and how many bytes of the output buffer were written.
 pub struct Outcome {
-    pub state: Indoor,
+    pub session: Indoor,
     pub answer: Answer,
     pub written: usize,
 }

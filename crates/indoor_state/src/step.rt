@@ -1,8 +1,8 @@
 // What is decided on a response, and when time passes.
 use crate::answer::Answer;
-use crate::phase::Stand;
+use crate::phase::State;
 
 pub struct Step {
-    pub stand: Stand,
+    pub state: State,
     pub answer: Answer,
 }

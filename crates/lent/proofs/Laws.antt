@@ -11,7 +11,7 @@ use lib.Seq.{take-at, drop-at, length-take-le, drop-drop, take-append-seam, drop
 use Rattle.basis.specs.Pick.{tests, pick-all}
 use Rattle.basis.specs.Left.{Left, left}
 use Rattle.lent.specs.Put.{pasted, putOf}
-use Rattle.lent.specs.Led.{led}
+use Rattle.lent.specs.Led.{writtenInto}
 use Rattle.lent.specs.declared.Placed.{Placed}
 use Rattle.lent.specs.declared.Placed.the-variants.{Stored, NoRoom}
 
@@ -24,7 +24,7 @@ unfolding putOf
 put-passes d at s h = simp tests
 
 -- Put at the very start, a message leads the buffer.
-pub put-leads : (s d : List ℕ) → length s ≤ length d → putOf d 0 s ≡ left Stored (led s d)
+pub put-leads : (s d : List ℕ) → length s ≤ length d → putOf d 0 s ≡ left Stored (writtenInto s d)
 put-leads s d h = put-fits d 0 s (simp zero-add h) ∙ simp zero-add
 
 -- Up to the part's end lie what was before the place and the part, and behind it all is as it was.
@@ -51,10 +51,10 @@ put-length d at s =
     (λ _. refl)
 
 -- A head and then a block behind it lead the buffer as one message.
-pub led-two : (h b d : List ℕ) → length h + length b ≤ length d → putOf (led h d) (length h) b ≡ left Stored (led (h ++ b) d)
+pub led-two : (h b d : List ℕ) → length h + length b ≤ length d → putOf (writtenInto h d) (length h) b ≡ left Stored (writtenInto (h ++ b) d)
 led-two h b d k =
-    let l : length (led h d) ≡ length d = simp (length-append, length-drop) (omega arith) in
-    let front : take (length h) (led h d) ≡ h = take-append-seam h (drop (length h) d) in
-    let rest : drop (length h + length b) (led h d) ≡ drop (length (h ++ b)) d =
+    let l : length (writtenInto h d) ≡ length d = simp (length-append, length-drop) (omega arith) in
+    let front : take (length h) (writtenInto h d) ≡ h = take-append-seam h (drop (length h) d) in
+    let rest : drop (length h + length b) (writtenInto h d) ≡ drop (length (h ++ b)) d =
     drop-append-add h (drop (length h) d) (length b) ∙ simp (drop-drop, length-append) in
-    put-fits (led h d) (length h) b (omega arith) ∙ rw (front, rest)
+    put-fits (writtenInto h d) (length h) b (omega arith) ∙ rw (front, rest)

@@ -4,9 +4,9 @@ use mathlib.Core.List.{List, _++_}
 use lib.ListN.{length, drop}
 use Rattle.basis.specs.Left.{Left, left}
 
-abbrev pub led : List ℕ → List ℕ → List ℕ
-led s d = s ++ drop (length s) d
+abbrev pub writtenInto : List ℕ → List ℕ → List ℕ
+writtenInto s d = s ++ drop (length s) d
 
 -- How many bytes were written, and the buffer that they lead.
-abbrev pub leads : List ℕ → List ℕ → Left ℕ
-leads bytes out = left (length bytes) (led bytes out)
+abbrev pub returnsWritten : List ℕ → List ℕ → Left ℕ
+returnsWritten bytes out = left (length bytes) (writtenInto bytes out)

@@ -20,8 +20,8 @@ use Rattle.receiver_state.specs.declared.phase.Phase.{Phase as ReceiverPhase}
 use Rattle.receiver_state.specs.declared.phase.Phase.the-variants.{Idle, Transfer, Await, Good}
 use Rattle.receiver_state.proofs.Truth.{IsGood}
 use Rattle.receiver_state.specs.declared.verdict.Verdict.{Verdict}
-use Rattle.receiver_rules.specs.Request.{requestOf}
-use Rattle.receiver_rules.specs.Time.{timeOf as receiverTimeOf}
+use Rattle.receiver_rules.specs.Request.{receiverRequestOf}
+use Rattle.receiver_rules.specs.Time.{receiverTimeOf}
 use Rattle.receiver_rules.specs.History as taking
 use Rattle.receiver_rules.proofs.Answers.{answers-28}
 use Rattle.receiver_rules.proofs.Laws.{settings-stay}
@@ -32,15 +32,15 @@ use Rattle.receiver_rules.proofs.OfFile.{Carries, Closed, OfFile, request-of-fi
 use Rattle.receiver_rules.proofs.Truthful.{Succeeds, Truthful, request-truthful, request-stays-good, time-truthful, time-stays-good}
 use Rattle.indoor_state.specs.declared.plan.Release.{Release}
 use Rattle.indoor_state.specs.declared.phase.Phase.the-variants.{Done}
-use Rattle.indoor_rules.specs.Response.{responseOf}
-use Rattle.indoor_rules.specs.Time.{timeOf as indoorTimeOf}
+use Rattle.indoor_rules.specs.Response.{indoorResponseOf}
+use Rattle.indoor_rules.specs.Time.{indoorTimeOf}
 use Rattle.indoor_rules.specs.History as sending
 use Rattle.indoor_state.specs.declared.session.Outcome.{Outcome as IndoorOutcome}
 use Rattle.indoor_rules.proofs.Entering as entering
 use Rattle.indoor_rules.proofs.Ticks.{order}
 use Rattle.indoor_rules.proofs.Fresh as indoorFresh
 use Rattle.indoor_rules.proofs.Reached.{each-genuine}
-use Rattle.line.specs.Line.{World, Other, Lent, asked, passed, told, Wide, Fresh, Reached, begins, toReceiver, toIndoor, atReceiver, atIndoor, Holds, MarkedGood}
+use Rattle.line.specs.Line.{World, Other, Lent, afterRequest, afterReceiverTime, afterIndoorCall, Wide, Fresh, Reached, begins, toReceiver, toIndoor, atReceiver, atIndoor, Holds, MarkedGood}
 use Rattle.line.proofs.Sent.{none-sent, sent-or-new}
 
 module _ (file memory : List ℕ) (release : Release) (identity : Identity) where
@@ -53,7 +53,7 @@ module _ (file memory : List ℕ) (release : Release) (identity : Identity) wher
     pub behind : drop (length file) (w .image) ≡ drop (length file) memory
     pub sent : sending.Reached file release (w .indoor) (w .requests)
     pub truthful : (m : List ℕ) → List·Memᴰ m (w .responses) → Truthful (w .receiver .phase) m
-    pub done : w .indoor .stand .phase ≡ Done → IsGood (w .receiver .phase)
+    pub done : w .indoor .state .phase ≡ Done → IsGood (w .receiver .phase)
 
   -- A request that the indoor end sent carries the file's block of its number.
   genuine-data : (m : List ℕ) (p : Parsed) (number size : ℕ) → p ≡ Valid (Req.Data number size) → sending.Genuine (release .versions) file m p → drop 4 m ≡ blockAt file number
@@ -61,7 +61,7 @@ module _ (file memory : List ℕ) (release : Release) (identity : Identity) wher
 
   carries : Wide release identity → (w : World) → Safe w → (request : List ℕ) → List·Memᴰ request (w .requests) → Carries file request
   carries wide w s request h number size e =
-      genuine-data request (message.requestOf request) number size e (each-genuine file release (w .indoor) (w .requests) (wide .offered) (s .sent) request h)
+      genuine-data request (message.parsedRequestOf request) number size e (each-genuine file release (w .indoor) (w .requests) (wide .offered) (s .sent) request h)
 
   old-or-new : (before next : ReceiverPhase) (responses : List (List ℕ)) (written : ℕ) (out : List ℕ) → (IsGood before → IsGood next) → Truthful next (take written out)
       → ((m : List ℕ) → List·Memᴰ m responses → Truthful before m)
@@ -77,11 +77,11 @@ module _ (file memory : List ℕ) (release : Release) (identity : Identity) wher
 
   module _ (wide : Wide release identity) (w : World) (s : Safe w) where
     asked-safe : (request : List ℕ) → List·Memᴰ request (w .requests) → (readiness : ℕ) (verdict : Verdict) (out : List ℕ)
-        → Safe (asked w (w .image) (inl refl) (requestOf (w .receiver) (w .image) request readiness verdict out))
+        → Safe (afterRequest w (w .image) (inl refl) (receiverRequestOf (w .receiver) (w .image) request readiness verdict out))
     asked-safe request h readiness verdict out =
         let r = w .receiver in
         let same = carries wide w s request h in
-        let x = requestOf r (w .image) request readiness verdict out in
+        let x = receiverRequestOf r (w .image) request readiness verdict out in
         record {
           taken = taking.takenAfter r request (x .outcome) (s .taken);
           accepted = request-of-file file r (w .image) (s .taken) (s .accepted) request readiness verdict out same;
@@ -90,38 +90,38 @@ module _ (file memory : List ℕ) (release : Release) (identity : Identity) wher
           size = image-length r (w .image) request readiness verdict out ∙ s .size;
           behind = behind-kept file r (w .image) request readiness verdict out same ∙ s .behind;
           sent = s .sent;
-          truthful = told-on (r .phase) (x .outcome .state .phase) (w .responses) (x .outcome .written) (x .out)
+          truthful = told-on (r .phase) (x .outcome .session .phase) (w .responses) (x .outcome .written) (x .out)
               (request-stays-good r (w .image) request readiness verdict out) (request-truthful r (w .image) request readiness verdict out) (s .truthful);
           done = λ e. request-stays-good r (w .image) request readiness verdict out (s .done e);
         }
 
-    passed-safe : (elapsed : ℕ) (out : List ℕ) → Safe (passed w (receiverTimeOf (w .receiver) elapsed out))
+    passed-safe : (elapsed : ℕ) (out : List ℕ) → Safe (afterReceiverTime w (receiverTimeOf (w .receiver) elapsed out))
     passed-safe elapsed out =
         let r = w .receiver in
         let x = receiverTimeOf r elapsed out in
         record {
-          taken = taking.forgets (x .answer .state .phase) (s .taken);
+          taken = taking.forgets (x .answer .session .phase) (s .taken);
           accepted = time-of-file file r (w .image) (s .taken) (s .accepted) elapsed out;
           who = time-settings r elapsed out .1 ∙ s .who;
           capacity = time-settings r elapsed out .2 ∙ s .capacity;
           size = s .size;
           behind = s .behind;
           sent = s .sent;
-          truthful = told-on (r .phase) (x .answer .state .phase) (w .responses) (x .answer .written) (x .memory) (time-stays-good r elapsed out) (time-truthful r elapsed out) (s .truthful);
+          truthful = told-on (r .phase) (x .answer .session .phase) (w .responses) (x .answer .written) (x .memory) (time-stays-good r elapsed out) (time-truthful r elapsed out) (s .truthful);
           done = λ e. time-stays-good r elapsed out (s .done e);
         }
 
     -- A call that is lent another memory is refused, and nothing changes (28).
     refused-safe : (request lent : List ℕ) (other : Other (w .image) lent) (readiness : ℕ) (verdict : Verdict) (out : List ℕ)
-        → Safe (asked w lent (inr other) (requestOf (w .receiver) lent request readiness verdict out))
+        → Safe (afterRequest w lent (inr other) (receiverRequestOf (w .receiver) lent request readiness verdict out))
     unfolding pick
     refused-safe request lent other readiness verdict out =
         rw (answers-28 (w .receiver) lent request readiness verdict out (λ e. other (e ∙ s .capacity ∙ sym (s .size)))) s
 
     request-safe : (request : List ℕ) → List·Memᴰ request (w .requests) → (lent : List ℕ) (which : Lent (w .image) lent) (readiness : ℕ) (verdict : Verdict) (out : List ℕ)
-        → Safe (asked w lent which (requestOf (w .receiver) lent request readiness verdict out))
+        → Safe (afterRequest w lent which (receiverRequestOf (w .receiver) lent request readiness verdict out))
     request-safe request h lent (inl same) readiness verdict out =
-        subst (λ (x : List ℕ). Safe (asked w (w .image) (inl refl) (requestOf (w .receiver) x request readiness verdict out))) (sym same)
+        subst (λ (x : List ℕ). Safe (afterRequest w (w .image) (inl refl) (receiverRequestOf (w .receiver) x request readiness verdict out))) (sym same)
         (asked-safe request h readiness verdict out)
     request-safe request h lent (inr other) readiness verdict out = refused-safe request lent other readiness verdict out
 
@@ -130,14 +130,14 @@ module _ (file memory : List ℕ) (release : Release) (identity : Identity) wher
     lent-same lent (inr other) e = absurd (other e)
 
     -- Done is believed only on a success that is true.
-    believed : (response : List ℕ) → List·Memᴰ response (w .responses) → (w .indoor .stand .phase ≡ Done) ⊎ entering.Succeeds (w .indoor .stand .phase) response → IsGood (w .receiver .phase)
+    believed : (response : List ℕ) → List·Memᴰ response (w .responses) → (w .indoor .state .phase ≡ Done) ⊎ entering.Succeeds (w .indoor .state .phase) response → IsGood (w .receiver .phase)
     believed response h (inl e) = s .done e
     believed response h (inr t) = s .truthful response h (subst Succeeds (sym (t .told)) refl)
 
     -- A call of the indoor end changes it alone, and what it sent.
-    told-safe : (x : Left IndoorOutcome) → sending.Reached file release (x .answer .state) (withSent (x .answer .written) (x .memory) (w .requests))
-        → (x .answer .state .stand .phase ≡ Done → IsGood (w .receiver .phase))
-        → Safe (told w x)
+    told-safe : (x : Left IndoorOutcome) → sending.Reached file release (x .answer .session) (withSent (x .answer .written) (x .memory) (w .requests))
+        → (x .answer .session .state .phase ≡ Done → IsGood (w .receiver .phase))
+        → Safe (afterIndoorCall w x)
     told-safe x sent done = record {
       taken = s .taken;
       accepted = s .accepted;
@@ -150,13 +150,13 @@ module _ (file memory : List ℕ) (release : Release) (identity : Identity) wher
       done = done;
     }
 
-    response-safe : (response : List ℕ) → List·Memᴰ response (w .responses) → (lent : List ℕ) → Lent file lent → (out : List ℕ) → Safe (told w (responseOf (w .indoor) lent response out))
+    response-safe : (response : List ℕ) → List·Memᴰ response (w .responses) → (lent : List ℕ) → Lent file lent → (out : List ℕ) → Safe (afterIndoorCall w (indoorResponseOf (w .indoor) lent response out))
     response-safe response h lent which out =
-        told-safe (responseOf (w .indoor) lent response out)
+        told-safe (indoorResponseOf (w .indoor) lent response out)
         (sending.hears (s .sent) lent response out (lent-same lent which))
         (λ e. believed response h (entering.done-entered (w .indoor) lent response out e))
 
-    time-safe : (lent : List ℕ) → Lent file lent → (elapsed : ℕ) (out : List ℕ) → Safe (told w (indoorTimeOf (w .indoor) lent elapsed out))
+    time-safe : (lent : List ℕ) → Lent file lent → (elapsed : ℕ) (out : List ℕ) → Safe (afterIndoorCall w (indoorTimeOf (w .indoor) lent elapsed out))
     time-safe lent which elapsed out =
         told-safe (indoorTimeOf (w .indoor) lent elapsed out)
         (sending.passes (s .sent) lent elapsed out (lent-same lent which))
@@ -203,5 +203,5 @@ module _ (file memory : List ℕ) (release : Release) (identity : Identity) wher
     marked (Await a) e g = absurd g
     marked (Good a) e g = record { accepted = a; good = e; holds = never-wrong a e }
 
-    pub done-is-good : w .indoor .stand .phase ≡ Done → MarkedGood file memory release identity w
+    pub done-is-good : w .indoor .state .phase ≡ Done → MarkedGood file memory release identity w
     done-is-good e = marked (w .receiver .phase) refl (reached-safe wide h .done e)

@@ -7,9 +7,9 @@ use native.Mathlib.Omega.{arith}
 use lib.ListN.{replicate, length-replicate}
 use Rattle.wire.specs.declared.response.Identity.{Identity}
 use Rattle.receiver_state.specs.declared.verdict.Verdict.the-variants as Ver
-use Rattle.receiver_rules.specs.Request.{requestOf}
+use Rattle.receiver_rules.specs.Request.{receiverRequestOf}
 use Rattle.indoor_state.specs.declared.plan.Release.{Release}
-use Rattle.indoor_rules.specs.Response.{responseOf}
+use Rattle.indoor_rules.specs.Response.{indoorResponseOf}
 use Rattle.line.specs.Line.{Line, AtRest, Reached, toReceiver, toIndoor, Next, up, down, Clean, delivers}
 use Rattle.line.specs.Line as l
 use Rattle.line.proofs.Sent.{none-sent, going-sent}
@@ -31,7 +31,7 @@ module _ (file memory : List ℕ) (release : Release) (identity : Identity) wher
   clean-going (l.begins limit resends limit′ resends′ w f) = record { reached = l.begins limit resends limit′ resends′ w f; up = λ m h. h; down = λ m h. absurd (none-sent m [] refl h) }
   clean-going (delivers {l = x} c _ (up request later e out room)) =
       let g = clean-going c in
-      let call = requestOf (x .world .receiver) (x .world .image) request 0 Ver.Good out in
+      let call = receiverRequestOf (x .world .receiver) (x .world .image) request 0 Ver.Good out in
       record {
         reached = toReceiver (g .reached) request (g .up request (first-of (x .up) later request e)) (x .world .image) (inl refl) 0 Ver.Good out;
         up = λ m h. g .up m (later-of (x .up) later request m e h);
@@ -39,7 +39,7 @@ module _ (file memory : List ℕ) (release : Release) (identity : Identity) wher
       }
   clean-going (delivers {l = x} c _ (down response later e out room)) =
       let g = clean-going c in
-      let call = responseOf (x .world .indoor) file response out in
+      let call = indoorResponseOf (x .world .indoor) file response out in
       record {
         reached = toIndoor (g .reached) response (g .down response (first-of (x .down) later response e)) file (inl refl) out;
         up = going-sent (call .answer .written) (call .memory) (x .up) (x .world .requests) (g .up);

@@ -20,7 +20,7 @@ use Rattle.wire.specs.declared.response.Response.the-variants as Res
 use Rattle.wire.specs.declared.response.Parsed.the-variants as Told
 use Rattle.wire.specs.declared.response.Identity.{Identity}
 use Rattle.wire.proofs.RoundTrip.{response-back}
-use Rattle.receiver_state.specs.Phase.{accepts, nothing}
+use Rattle.receiver_state.specs.Phase.{accepts, nothingAccepted}
 use Rattle.receiver_state.specs.Answer.{replyOf}
 use Rattle.receiver_state.specs.Answer as replies
 use Rattle.receiver_state.specs.declared.answer.Answer.{Answer}
@@ -29,7 +29,7 @@ use Rattle.receiver_state.specs.declared.phase.Accepted.{Accepted}
 use Rattle.receiver_state.specs.declared.phase.Progress.{Progress}
 use Rattle.receiver_state.specs.declared.phase.Phase as receiver
 use Rattle.receiver_state.specs.declared.phase.Phase.the-variants.{Idle, Transfer, Await, Good}
-use Rattle.receiver_rules.specs.Decide.{to, progress}
+use Rattle.receiver_rules.specs.Decide.{goesTo, receiverProgress}
 use Rattle.receiver_state.specs.declared.verdict.Verdict.the-variants as Ver
 use Rattle.receiver_state.specs.declared.step.Store.the-variants as Sto
 use Rattle.receiver_state.specs.declared.step.Step.{Step}
@@ -38,7 +38,7 @@ use Rattle.receiver_rules.proofs.DataOrders as orders
 use Rattle.receiver_rules.specs.Respond.{replyBytes}
 use Rattle.receiver_rules.proofs.Fresh as receiverFresh
 use Rattle.receiver_rules.proofs.Reached.{reached-capacity}
-use Rattle.indoor_state.specs.Phase.{progress as sent}
+use Rattle.indoor_state.specs.Phase.{indoorProgress as sent}
 use Rattle.indoor_rules.specs.Step.{emptiedBy}
 use Rattle.indoor_rules.proofs.Accepted.{emptied-last}
 use Rattle.indoor_state.specs.declared.plan.Release.{Release}
@@ -50,9 +50,9 @@ use Rattle.indoor_state.specs.declared.answer.Answer as indoorAnswer
 use Rattle.indoor_state.specs.declared.answer.Answer.the-variants as Ans
 use Rattle.indoor_rules.specs.Newer.{newerOf}
 use Rattle.indoor_rules.proofs.Compared.{Newer, newer-only, newer-yes}
-use Rattle.indoor_rules.proofs.Orders as told
+use Rattle.indoor_rules.proofs.Orders as responses
 use Rattle.indoor_rules.specs.Send.{blockBytes, sendsBytes}
-use Rattle.indoor_rules.specs.Response.{responseOf}
+use Rattle.indoor_rules.specs.Response.{indoorResponseOf}
 use Rattle.indoor_state.specs.declared.session.Indoor.{Indoor}
 use Rattle.indoor_rules.proofs.Fresh as indoorFresh
 use Rattle.indoor_rules.proofs.Genuine.{whole-read, block-read}
@@ -108,9 +108,9 @@ module _ (file memory : List ℕ) (release : Release) (identity : Identity) wher
     identified : k ≡ 1 → x .world .image ≡ memory → At x Idle In.Identify [] (says Identified ∷ []) 1 → Course k x
     notNewer : k ≡ 2 → newerOf release identity ≡ false → x .world .image ≡ memory → At x Idle (In.Failed Why.NotNewer) [] [] 1 → Course k x
     initiating : k ≡ 2 → newerOf release identity ≡ true → x .world .image ≡ memory → At x Idle (In.Initiate 0) (asks Ans.Initiating ∷ []) [] 2 → Course k x
-    offered : k ≡ 3 → newerOf release identity ≡ true → x .world .image ≡ memory → At x (Transfer (progress nothing false)) (In.Initiate 0) [] (says (Offered 0) ∷ []) 2 → Course k x
+    offered : k ≡ 3 → newerOf release identity ≡ true → x .world .image ≡ memory → At x (Transfer (receiverProgress nothingAccepted false)) (In.Initiate 0) [] (says (Offered 0) ∷ []) 2 → Course k x
     tooLarge : k ≡ 4 → newerOf release identity ≡ true → length memory < length file → x .world .image ≡ memory
-        → At x (Transfer (progress nothing false)) (In.Failed Why.TooLarge) (asks (Ans.Failed Why.TooLarge) ∷ []) [] 3 → Course k x
+        → At x (Transfer (receiverProgress nothingAccepted false)) (In.Failed Why.TooLarge) (asks (Ans.Failed Why.TooLarge) ∷ []) [] 3 → Course k x
     aborted : k ≡ 5 → newerOf release identity ≡ true → length memory < length file → x .world .image ≡ memory → At x Idle (In.Failed Why.TooLarge) [] [] 3 → Course k x
     block : (j : ℕ) (p : Progress) (q : sending.Progress) → k ≡ 4 + 2 * j → Fits
         → j ≤ n → p .accepted .blocks ≡ j → (j < n → p .short ≡ false) → (j ≡ n → q .emptied ≡ true)
@@ -153,8 +153,8 @@ module _ (file memory : List ℕ) (release : Release) (identity : Identity) wher
           let long = block-length file j in
           let few = few in
           let some : size ≡ 0 → ⊥ = λ z. omega arith in
-          let then : Step = record { phase = Transfer (progress (accepts (j + 1) (256 * j + size)) (ltb size 256)); answer = Asking 0 (j + 1); store = Sto.At j } in
-          receipt j (progress (accepts (j + 1) (256 * j + size)) (ltb size 256)) q (omega arith) fit low refl (λ more. le-ltb size 256 (omega arith))
+          let then : Step = record { phase = Transfer (receiverProgress (accepts (j + 1) (256 * j + size)) (ltb size 256)); answer = Asking 0 (j + 1); store = Sto.At j } in
+          receipt j (receiverProgress (accepts (j + 1) (256 * j + size)) (ltb size 256)) q (omega arith) fit low refl (λ more. le-ltb size 256 (omega arith))
           (heard file memory release identity x s out room (asks (Ans.Sending j)) (Transfer p) (In.Transfer q) (Req.Data j size) then (3 + j) at
           (block-read (release .versions) file j (omega arith))
           (orders.takes p j size (length memory) 0 Ver.Good (sym due) some whole (omega arith) (omega arith)) request later e)
@@ -168,7 +168,7 @@ module _ (file memory : List ℕ) (release : Release) (identity : Identity) wher
           let some = some in
           let none : length (blockAt file j) ≡ 0 = ap length (block-behind file j (omega arith)) in
           let blocks : p .accepted .blocks ≡ n = due ∙ last in
-          let then : Step = to (Await (p .accepted)) (Closed (p .accepted .blocks)) in
+          let then : Step = goesTo (Await (p .accepted)) (Closed (p .accepted .blocks)) in
           let at′ = heard file memory release identity x s out room (asks (Ans.Sending j)) (Transfer p) (In.Transfer q) (Req.Data j (length (blockAt file j))) then (3 + j) at
           (block-read (release .versions) file j (omega arith))
           (orders.closes p j (length (blockAt file j)) (length memory) 0 Ver.Good (sym due) none (λ z. omega arith)) request later e in
@@ -184,36 +184,36 @@ module _ (file memory : List ℕ) (release : Release) (identity : Identity) wher
       moves-up : Course k x → Course (suc k) next
       unfolding sendsBytes requestBytes replyBytes replyOf replies.identified replies.initiated replies.validated responseBytes identifiedBytes initiatedBytes validatedBytes pick
       moves-up (asking c lies at) =
-          identified (omega arith) (heard-lies file memory release identity x s out room (asks Ans.Identifying) Idle Req.GetFwId (to Idle Identified) (at .receiver) (at .rising) (whole-read Req.GetFwId tt refl)
+          identified (omega arith) (heard-lies file memory release identity x s out room (asks Ans.Identifying) Idle Req.GetFwId (goesTo Idle Identified) (at .receiver) (at .rising) (whole-read Req.GetFwId tt refl)
           (rows.identified-everywhere (length memory) Idle 0 Ver.Good) refl lies request later e)
-          (heard file memory release identity x s out room (asks Ans.Identifying) Idle In.Identify Req.GetFwId (to Idle Identified) 1 at (whole-read Req.GetFwId tt refl)
+          (heard file memory release identity x s out room (asks Ans.Identifying) Idle In.Identify Req.GetFwId (goesTo Idle Identified) 1 at (whole-read Req.GetFwId tt refl)
           (rows.identified-everywhere (length memory) Idle 0 Ver.Good) request later e)
       moves-up (identified c lies at) = absurd (no-message (x .up) later request (at .rising) e)
       moves-up (notNewer c new lies at) = absurd (no-message (x .up) later request (at .rising) e)
       moves-up (initiating c new lies at) =
           offered (omega arith) new
-          (heard-lies file memory release identity x s out room (asks Ans.Initiating) Idle (Req.Initiate (release .versions)) (to (Transfer (progress nothing false)) (Offered 0)) (at .receiver) (at .rising)
+          (heard-lies file memory release identity x s out room (asks Ans.Initiating) Idle (Req.Initiate (release .versions)) (goesTo (Transfer (receiverProgress nothingAccepted false)) (Offered 0)) (at .receiver) (at .rising)
           (whole-read (Req.Initiate (release .versions)) tt (refl, wide .offered))
           (rows.idle-ready (length memory) (release .versions) Ver.Good) refl lies request later e)
-          (heard file memory release identity x s out room (asks Ans.Initiating) Idle (In.Initiate 0) (Req.Initiate (release .versions)) (to (Transfer (progress nothing false)) (Offered 0)) 2 at
+          (heard file memory release identity x s out room (asks Ans.Initiating) Idle (In.Initiate 0) (Req.Initiate (release .versions)) (goesTo (Transfer (receiverProgress nothingAccepted false)) (Offered 0)) 2 at
           (whole-read (Req.Initiate (release .versions)) tt (refl, wide .offered))
           (rows.idle-ready (length memory) (release .versions) Ver.Good) request later e)
       moves-up (offered c new lies at) = absurd (no-message (x .up) later request (at .rising) e)
       moves-up (tooLarge c new large lies at) =
           aborted (omega arith) new large
-          (heard-lies file memory release identity x s out room (asks (Ans.Failed Why.TooLarge)) (Transfer (progress nothing false)) Req.Abort (to Idle Aborted) (at .receiver) (at .rising)
+          (heard-lies file memory release identity x s out room (asks (Ans.Failed Why.TooLarge)) (Transfer (receiverProgress nothingAccepted false)) Req.Abort (goesTo Idle Aborted) (at .receiver) (at .rising)
           (whole-read Req.Abort tt refl)
-          (rows.transfer-aborted (length memory) 0 Ver.Good (progress nothing false)) refl lies request later e)
-          (heard file memory release identity x s out room (asks (Ans.Failed Why.TooLarge)) (Transfer (progress nothing false)) (In.Failed Why.TooLarge) Req.Abort (to Idle Aborted) 3 at
+          (rows.transfer-aborted (length memory) 0 Ver.Good (receiverProgress nothingAccepted false)) refl lies request later e)
+          (heard file memory release identity x s out room (asks (Ans.Failed Why.TooLarge)) (Transfer (receiverProgress nothingAccepted false)) (In.Failed Why.TooLarge) Req.Abort (goesTo Idle Aborted) 3 at
           (whole-read Req.Abort tt refl)
-          (rows.transfer-aborted (length memory) 0 Ver.Good (progress nothing false)) request later e)
+          (rows.transfer-aborted (length memory) 0 Ver.Good (receiverProgress nothingAccepted false)) request later e)
       moves-up (aborted c new large lies at) = absurd (no-message (x .up) later request (at .rising) e)
       moves-up (block j p q c fit low due whole emptied at) = block-either j p q c fit (low-or-last j n (ltb j n) refl low) due whole emptied at
       moves-up (receipt j p q c fit low due whole at) = absurd (no-message (x .up) later request (at .rising) e)
       moves-up (closing a q c fit emptied at) = absurd (no-message (x .up) later request (at .rising) e)
       moves-up (validating a c fit at) =
           succeeded a (omega arith) fit
-          (heard file memory release identity x s out room (asks Ans.Validating) (Await a) (In.Validate 0) Req.Validate (to (Good a) Success) (4 + n) at
+          (heard file memory release identity x s out room (asks Ans.Validating) (Await a) (In.Validate 0) Req.Validate (goesTo (Good a) Success) (4 + n) at
           (whole-read Req.Validate tt refl)
           (rows.verdict-good (length memory) 0 a) request later e)
       moves-up (succeeded a c fit at) = absurd (no-message (x .up) later request (at .rising) e)
@@ -229,18 +229,18 @@ module _ (file memory : List ℕ) (release : Release) (identity : Identity) wher
       abbrev i : Indoor
       i = x .world .indoor
 
-      identity-read : answer.responseOf (says Identified) ≡ Told.Valid (Res.GetFwId 0 (cleared identity))
+      identity-read : answer.parsedResponseOf (says Identified) ≡ Told.Valid (Res.GetFwId 0 (cleared identity))
       unfolding replyBytes replyOf replies.identified
       identity-read = response-back (Res.GetFwId 0 identity) tt (wide .vendor, wide .product, wide .reported)
 
-      offer-read : answer.responseOf (says (Offered 0)) ≡ Told.Valid (Res.Initiate 0 0 (length memory))
+      offer-read : answer.parsedResponseOf (says (Offered 0)) ≡ Told.Valid (Res.Initiate 0 0 (length memory))
       unfolding replyBytes replyOf replies.initiated
       offer-read =
           let most = reached-capacity (s .accepted .reached) in
           let capacity = s .capacity in
           response-back (Res.Initiate 0 0 (length memory)) tt (omega arith)
 
-      receipt-read : (wait number : ℕ) → number < 65536 → answer.responseOf (responseBytes (Res.Data 0 wait number)) ≡ Told.Valid (Res.Data 0 wait number)
+      receipt-read : (wait number : ℕ) → number < 65536 → answer.parsedResponseOf (responseBytes (Res.Data 0 wait number)) ≡ Told.Valid (Res.Data 0 wait number)
       receipt-read wait number h = response-back (Res.Data 0 wait number) tt h
 
       -- The file is newer or not.
@@ -249,33 +249,33 @@ module _ (file memory : List ℕ) (release : Release) (identity : Identity) wher
       compared true new c lies at =
           initiating (omega arith) new lies
           (answered file memory release identity x s out room wide (says Identified) Idle In.Identify (In.Initiate 0) (Res.GetFwId 0 (cleared identity)) Ans.Initiating 1 at identity-read
-          (told.identified (i .plan) (i .stand .silence) (i .stand .resends) (cleared identity)
+          (responses.identified (i .plan) (i .state .silence) (i .state .resends) (cleared identity)
           (subst (λ (r : Release). Newer r (cleared identity)) (sym (held .offered)) (newer-cleared release identity (newer-only release identity new)))) response later e)
       compared false old c lies at =
           notNewer (omega arith) old lies
           (answered file memory release identity x s out room wide (says Identified) Idle In.Identify (In.Failed Why.NotNewer) (Res.GetFwId 0 (cleared identity)) (Ans.Failed Why.NotNewer) 1 at identity-read
-          (told.identify-42 (i .plan) (i .stand .silence) (i .stand .resends) (cleared identity)
+          (responses.identify-42 (i .plan) (i .state .silence) (i .state .resends) (cleared identity)
           (λ h. true≢false (sym (newer-yes release identity (cleared-newer release identity (subst (λ (r : Release). Newer r (cleared identity)) (held .offered) h))) ∙ old))) response later e)
 
       -- It fits or not.
       sized : (t : Bool) → ltb (length memory) (length file) ≡ t → k ≡ 3 → newerOf release identity ≡ true → x .world .image ≡ memory
-          → At x (Transfer (progress nothing false)) (In.Initiate 0) [] (says (Offered 0) ∷ []) 2 → Course (suc k) then
+          → At x (Transfer (receiverProgress nothingAccepted false)) (In.Initiate 0) [] (says (Offered 0) ∷ []) 2 → Course (suc k) then
       unfolding sendsBytes requestBytes bareBytes blockBytes headBytes pick
       sized true large c new lies at =
           let same = held .lent in
           let more = ltb-true (length memory) (length file) large in
           tooLarge (omega arith) new (ltb-true (length memory) (length file) large) lies
-          (answered file memory release identity x s out room wide (says (Offered 0)) (Transfer (progress nothing false)) (In.Initiate 0) (In.Failed Why.TooLarge) (Res.Initiate 0 0 (length memory)) (Ans.Failed Why.TooLarge) 2 at offer-read
-          (told.initiate-43 (i .plan) (i .stand .silence) (i .stand .resends) 0 (length memory) (omega arith)) response later e)
+          (answered file memory release identity x s out room wide (says (Offered 0)) (Transfer (receiverProgress nothingAccepted false)) (In.Initiate 0) (In.Failed Why.TooLarge) (Res.Initiate 0 0 (length memory)) (Ans.Failed Why.TooLarge) 2 at offer-read
+          (responses.initiate-43 (i .plan) (i .state .silence) (i .state .resends) 0 (length memory) (omega arith)) response later e)
       sized false t c new lies at =
           let some = some in
           let same = held .lent in
           let last = last-same in
           let most = ltb-false (length memory) (length file) t in
-          block 0 (progress nothing false) (sent 0 0 false) (omega arith) (record { newer = new; room = most }) (omega arith) refl (λ _. refl) (λ none. absurd (omega arith))
-          (block-sent then (Transfer (progress nothing false)) (In.Transfer (sent 0 0 false)) 0 2
-          (answered file memory release identity x s out room wide (says (Offered 0)) (Transfer (progress nothing false)) (In.Initiate 0) (In.Transfer (sent 0 0 false)) (Res.Initiate 0 0 (length memory)) (Ans.Sending 0) 2 at offer-read
-          (told.initiated (i .plan) (i .stand .silence) (i .stand .resends) 0 (length memory) (omega arith) (omega arith)) response later e))
+          block 0 (receiverProgress nothingAccepted false) (sent 0 0 false) (omega arith) (record { newer = new; room = most }) (omega arith) refl (λ _. refl) (λ none. absurd (omega arith))
+          (block-sent then (Transfer (receiverProgress nothingAccepted false)) (In.Transfer (sent 0 0 false)) 0 2
+          (answered file memory release identity x s out room wide (says (Offered 0)) (Transfer (receiverProgress nothingAccepted false)) (In.Initiate 0) (In.Transfer (sent 0 0 false)) (Res.Initiate 0 0 (length memory)) (Ans.Sending 0) 2 at offer-read
+          (responses.initiated (i .plan) (i .state .silence) (i .state .resends) 0 (length memory) (omega arith) (omega arith)) response later e))
 
       next-block : (j : ℕ) (p : Progress) (q : sending.Progress) → k ≡ 5 + 2 * j → Fits
           → j < n → p .accepted .blocks ≡ j + 1 → (j + 1 < n → p .short ≡ false)
@@ -290,7 +290,7 @@ module _ (file memory : List ℕ) (release : Release) (identity : Identity) wher
           (block-sent then (Transfer p) (In.Transfer q′) (j + 1) (3 + j)
           (answered file memory release identity x s out room wide (says (Asking 0 (j + 1))) (Transfer p) (In.Transfer q) (In.Transfer q′) (Res.Data 0 0 (j + 1)) (Ans.Sending (j + 1)) (3 + j) at
           (receipt-read 0 (j + 1) (omega arith))
-          (told.asked-sends (i .plan) (i .stand .silence) (i .stand .resends) (q .asked) (q .wait) (q .emptied) (j + 1) (omega arith)) response later e))
+          (responses.asked-sends (i .plan) (i .state .silence) (i .state .resends) (q .asked) (q .wait) (q .emptied) (j + 1) (omega arith)) response later e))
           (omega arith))
 
       close : (a : Accepted) (q : sending.Progress) → k ≡ 5 + 2 * n → Fits → q .emptied ≡ true
@@ -302,7 +302,7 @@ module _ (file memory : List ℕ) (release : Release) (identity : Identity) wher
           (counted
           (answered file memory release identity x s out room wide (says (Closed n)) (Await a) (In.Transfer q) (In.Validate 0) (Res.Data 0 255 n) Ans.Validating (3 + n) at
           (receipt-read 255 n (omega arith))
-          (told.closed (i .plan) (i .stand .silence) (i .stand .resends) (q .asked) (q .wait) (q .emptied) n emptied (sym last-same)) response later e)
+          (responses.closed (i .plan) (i .state .silence) (i .state .resends) (q .asked) (q .wait) (q .emptied) n emptied (sym last-same)) response later e)
           (omega arith))
 
       moves-down : Course k x → Course (suc k) then
@@ -323,7 +323,7 @@ module _ (file memory : List ℕ) (release : Release) (identity : Identity) wher
           (counted
           (answered file memory release identity x s out room wide (says Success) (Good a) (In.Validate 0) In.Done (Res.Validate 0 0 true) Ans.Finished (4 + n) at
           (response-back (Res.Validate 0 0 true) tt tt)
-          (told.validated (i .plan) (i .stand .silence) (i .stand .resends) 0) response later e)
+          (responses.validated (i .plan) (i .state .silence) (i .state .resends) 0) response later e)
           (omega arith))
       moves-down (finished a c fit at) = absurd (no-message (x .down) later response (at .falling) e)
 

@@ -18,7 +18,7 @@ use Rattle.line.proofs.Course.{no-message, Course, asking, identified, 
 
 -- At rest the indoor end stands there, and so many requests were sent.
 pub record Rests (x : Line) (phase : Phase) (count : ℕ) : Type 0 where
-  pub stands : x .world .indoor .stand .phase ≡ phase
+  pub stands : x .world .indoor .state .phase ≡ phase
   pub requests : length (x .world .requests) ≡ count
 
 module _ (file memory : List ℕ) (release : Release) (identity : Identity) where

@@ -17,18 +17,18 @@ use Rattle.receiver_state.specs.declared.phase.Accepted.{Accepted}
 use Rattle.receiver_state.specs.declared.phase.Phase.the-variants.{Good}
 use Rattle.receiver_state.specs.declared.verdict.Verdict.{Verdict}
 use Rattle.receiver_state.specs.declared.verdict.Verdict.the-variants as Ver
-use Rattle.receiver_rules.specs.Session.{startOf as receiverStartOf}
-use Rattle.receiver_rules.specs.Request.{Effect, requestOf}
-use Rattle.receiver_rules.specs.Time.{timeOf as receiverTimeOf}
+use Rattle.receiver_rules.specs.Session.{receiverStartOf}
+use Rattle.receiver_rules.specs.Request.{Effect, receiverRequestOf}
+use Rattle.receiver_rules.specs.Time.{receiverTimeOf}
 use Rattle.receiver_state.specs.declared.session.Receiver.{Receiver}
 use Rattle.receiver_state.specs.declared.session.Outcome.{Outcome as ReceiverOutcome}
 use Rattle.receiver_state.specs.declared.session.Started.the-variants as ReceiverStarted
 use Rattle.indoor_state.specs.declared.plan.Release.{Release}
 use Rattle.indoor_state.specs.declared.phase.Phase.the-variants.{Done}
 use Rattle.indoor_rules.specs.Newer.{newerOf}
-use Rattle.indoor_rules.specs.Start.{startOf as indoorStartOf}
-use Rattle.indoor_rules.specs.Response.{responseOf}
-use Rattle.indoor_rules.specs.Time.{timeOf as indoorTimeOf}
+use Rattle.indoor_rules.specs.Start.{indoorStartOf}
+use Rattle.indoor_rules.specs.Response.{indoorResponseOf}
+use Rattle.indoor_rules.specs.Time.{indoorTimeOf}
 use Rattle.indoor_state.specs.declared.session.Indoor.{Indoor}
 use Rattle.indoor_state.specs.declared.session.Outcome.{Outcome as IndoorOutcome}
 use Rattle.indoor_state.specs.declared.session.Started.the-variants as IndoorStarted
@@ -55,28 +55,28 @@ ownAfter own lent lent′ (inl same) = lent′
 ownAfter own lent lent′ (inr other) = own
 
 -- The world after a request to the receiver, after time there, and after a call of the indoor end. What a call wrote was sent.
-abbrev pub asked : (w : World) (lent : List ℕ) → Lent (w .image) lent → Effect → World
-asked w lent which e = record {
-  receiver = e .outcome .state;
+abbrev pub afterRequest : (w : World) (lent : List ℕ) → Lent (w .image) lent → Effect → World
+afterRequest w lent which e = record {
+  receiver = e .outcome .session;
   indoor = w .indoor;
   image = ownAfter (w .image) lent (e .image) which;
   requests = w .requests;
   responses = withSent (e .outcome .written) (e .out) (w .responses);
 }
 
-abbrev pub passed : World → Left ReceiverOutcome → World
-passed w x = record {
-  receiver = x .answer .state;
+abbrev pub afterReceiverTime : World → Left ReceiverOutcome → World
+afterReceiverTime w x = record {
+  receiver = x .answer .session;
   indoor = w .indoor;
   image = w .image;
   requests = w .requests;
   responses = withSent (x .answer .written) (x .memory) (w .responses);
 }
 
-abbrev pub told : World → Left IndoorOutcome → World
-told w x = record {
+abbrev pub afterIndoorCall : World → Left IndoorOutcome → World
+afterIndoorCall w x = record {
   receiver = w .receiver;
-  indoor = x .answer .state;
+  indoor = x .answer .session;
   image = w .image;
   requests = withSent (x .answer .written) (x .memory) (w .requests);
   responses = w .responses;
@@ -93,10 +93,10 @@ line w up down = record { world = w; up = up; down = down }
 
 -- A message that is on its way is delivered, and what the call wrote is on its way then.
 abbrev pub carriedUp : Line → List (List ℕ) → Effect → Line
-carriedUp l later e = line (asked (l .world) (l .world .image) (inl refl) e) later (l .down ++ withSent (e .outcome .written) (e .out) [])
+carriedUp l later e = line (afterRequest (l .world) (l .world .image) (inl refl) e) later (l .down ++ withSent (e .outcome .written) (e .out) [])
 
 abbrev pub carriedDown : Line → List (List ℕ) → Left IndoorOutcome → Line
-carriedDown l later x = line (told (l .world) x) (l .up ++ withSent (x .answer .written) (x .memory) []) later
+carriedDown l later x = line (afterIndoorCall (l .world) x) (l .up ++ withSent (x .answer .written) (x .memory) []) later
 
 -- Nothing is on its way.
 pub record AtRest (l : Line) : Type 0 where
@@ -130,20 +130,20 @@ module _ (file memory : List ℕ) (release : Release) (identity : Identity) wher
     begins : (limit resends limit′ resends′ : ℕ) (w : World) → Fresh limit resends limit′ resends′ w → Reached w
     toReceiver : {w : World} → Reached w → (request : List ℕ) → List·Memᴰ request (w .requests)
         → (lent : List ℕ) (which : Lent (w .image) lent) (readiness : ℕ) (verdict : Verdict) (out : List ℕ)
-        → Reached (asked w lent which (requestOf (w .receiver) lent request readiness verdict out))
+        → Reached (afterRequest w lent which (receiverRequestOf (w .receiver) lent request readiness verdict out))
     toIndoor : {w : World} → Reached w → (response : List ℕ) → List·Memᴰ response (w .responses)
         → (lent : List ℕ) → Lent file lent → (out : List ℕ)
-        → Reached (told w (responseOf (w .indoor) lent response out))
-    atReceiver : {w : World} → Reached w → (elapsed : ℕ) (out : List ℕ) → Reached (passed w (receiverTimeOf (w .receiver) elapsed out))
+        → Reached (afterIndoorCall w (indoorResponseOf (w .indoor) lent response out))
+    atReceiver : {w : World} → Reached w → (elapsed : ℕ) (out : List ℕ) → Reached (afterReceiverTime w (receiverTimeOf (w .receiver) elapsed out))
     atIndoor : {w : World} → Reached w → (lent : List ℕ) → Lent file lent → (elapsed : ℕ) (out : List ℕ)
-        → Reached (told w (indoorTimeOf (w .indoor) lent elapsed out))
+        → Reached (afterIndoorCall w (indoorTimeOf (w .indoor) lent elapsed out))
 
   -- One delivery of a clean line: the oldest message, once, with no wait, a good verdict, and lent memory and buffers of the right size.
   pub data Next (l : Line) : Line → Type 0 where
     up : (request : List ℕ) (later : List (List ℕ)) → l .up ≡ request ∷ later → (out : List ℕ) → longest ≤ length out
-        → Next l (carriedUp l later (requestOf (l .world .receiver) (l .world .image) request 0 Ver.Good out))
+        → Next l (carriedUp l later (receiverRequestOf (l .world .receiver) (l .world .image) request 0 Ver.Good out))
     down : (response : List ℕ) (later : List (List ℕ)) → l .down ≡ response ∷ later → (out : List ℕ) → longest ≤ length out
-        → Next l (carriedDown l later (responseOf (l .world .indoor) file response out))
+        → Next l (carriedDown l later (indoorResponseOf (l .world .indoor) file response out))
 
   -- Every line that delivers each message once, in the order sent, before any time passes, after so many deliveries.
   pub data Clean : ℕ → Line → Type 0 where
@@ -167,7 +167,7 @@ module _ (file memory : List ℕ) (release : Release) (identity : Identity) wher
 
   -- The indoor end is done, and the history holds n + 4 requests.
   pub record Finished (l : Line) : Type 0 where
-    pub done : l .world .indoor .stand .phase ≡ Done
+    pub done : l .world .indoor .state .phase ≡ Done
     pub requests : length (l .world .requests) ≡ n + 4
 
   -- What is promised of the session.
@@ -175,7 +175,7 @@ module _ (file memory : List ℕ) (release : Release) (identity : Identity) wher
     -- The receiver never marks good an image that differs from the file in length or any byte.
     pub neverWrong : (w : World) → Reached w → (a : Accepted) → w .receiver .phase ≡ Good a → Holds a w
     -- When the indoor end reports done, the receiver has marked it good and still holds it.
-    pub doneIsGood : (w : World) → Reached w → w .indoor .stand .phase ≡ Done → MarkedGood w
+    pub doneIsGood : (w : World) → Reached w → w .indoor .state .phase ≡ Done → MarkedGood w
     -- A clean line is one of the lines above. It begins with every file, memory and settings within the limits.
     pub cleanReached : (k : ℕ) (l : Line) → Clean k l → Reached (l .world)
     pub cleanBegins : (limit resends limit′ resends′ : ℕ) → Within limit resends → Within limit′ resends′

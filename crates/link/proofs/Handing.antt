@@ -9,19 +9,19 @@ use Rattle.basis.specs.Pick.{pick, pick-all}
 use Rattle.mailbox_state.specs.declared.step.Clears.{Clears}
 use Rattle.mailbox_state.specs.declared.step.Clears.the-variants.{Nothing, Reset, Cancel, NoData}
 use Rattle.mailbox_state.specs.declared.step.Step.{Step}
-use Rattle.mailbox_state.specs.Answer.{numberOf}
-use Rattle.mailbox_state.specs.declared.stand.Stand.{Stand}
-use Rattle.mailbox_rules.specs.Change.{changeOf}
-use Rattle.mailbox_rules.specs.Report.{failOf}
+use Rattle.mailbox_state.specs.Answer.{mailboxNumberOf}
+use Rattle.mailbox_state.specs.declared.state.State.{State}
+use Rattle.mailbox_rules.specs.Change.{changeStepOf}
+use Rattle.mailbox_rules.specs.Report.{failureStepOf}
 use Rattle.mailbox_rules.proofs.Noted.{change-alters}
-use Rattle.mailbox_rules.specs.Mailbox.{zeros, keptOf as stays, clearedOf, settledOf}
-use Rattle.mailbox_state.specs.declared.state.Outcome.{Outcome}
+use Rattle.mailbox_rules.specs.Mailbox.{zeroMessageIn, mailboxKept as stays, clearedOf, settledOf}
+use Rattle.mailbox_state.specs.declared.mailbox.Outcome.{Outcome}
 use Rattle.mailbox_flat.specs.Flat.{unpackOf, isMailbox}
 use Rattle.mailbox_flat.specs.declared.flat.FlatMailbox.{FlatMailbox}
 use Rattle.mailbox_flat.proofs.Inverse.{pack-unpack}
-use Rattle.link.specs.Mailbox.{answers, flatOf, emptiesOf, keptOf, emptiedOf}
+use Rattle.link.specs.Mailbox.{mailboxOutcome, flatMailboxOf, emptiesOf, keptOf, emptiedOf}
 
-cleared : (message : List ℕ) (clears : Clears) → clearedOf message clears ≡ pick (emptiesOf clears) zeros message
+cleared : (message : List ℕ) (clears : Clears) → clearedOf message clears ≡ pick (emptiesOf clears) zeroMessageIn message
 unfolding clearedOf pick
 cleared message Nothing = refl
 cleared message Reset = refl
@@ -29,27 +29,27 @@ cleared message Cancel = refl
 cleared message NoData = refl
 
 module _ (f : FlatMailbox) (step : Step) where
-  pub kept-settles : emptiesOf (step .clears) ≡ false → keptOf f step ≡ flatOf (settledOf (unpackOf f) step)
+  pub kept-settles : emptiesOf (step .clears) ≡ false → keptOf f step ≡ flatMailboxOf (settledOf (unpackOf f) step)
   unfolding pick
   kept-settles e = rw (cleared (f .«message_in») (step .clears), e)
 
-  pub emptied-settles : emptiesOf (step .clears) ≡ true → emptiedOf step ≡ flatOf (settledOf (unpackOf f) step)
+  pub emptied-settles : emptiesOf (step .clears) ≡ true → emptiedOf step ≡ flatMailboxOf (settledOf (unpackOf f) step)
   unfolding pick
   emptied-settles e = rw (cleared (f .«message_in») (step .clears), e)
 
 -- A failure that is taken zeroes it, and a change never does.
-taken-empties : (stand : Stand) → numberOf (failOf stand .answer) ≡ 0 → emptiesOf (failOf stand .clears) ≡ true
-unfolding failOf
-taken-empties stand = pick-all (λ (s : Step). numberOf (s .answer) ≡ 0 → emptiesOf (s .clears) ≡ true) _ _ _ (λ y e. refl) (λ n e. absurd (omega arith))
+taken-empties : (state : State) → mailboxNumberOf (failureStepOf state .answer) ≡ 0 → emptiesOf (failureStepOf state .clears) ≡ true
+unfolding failureStepOf
+taken-empties state = pick-all (λ (s : Step). mailboxNumberOf (s .answer) ≡ 0 → emptiesOf (s .clears) ≡ true) _ _ _ (λ y e. refl) (λ n e. absurd (omega arith))
 
-pub failure-empties : (stand : Stand) (s : Step) → s ≡ failOf stand → numberOf (s .answer) ≡ 0 → emptiesOf (s .clears) ≡ true
-failure-empties stand s p e = ap (λ (t : Step). emptiesOf (t .clears)) p ∙ taken-empties stand (ap (λ (t : Step). numberOf (t .answer)) (sym p) ∙ e)
+pub failure-empties : (state : State) (s : Step) → s ≡ failureStepOf state → mailboxNumberOf (s .answer) ≡ 0 → emptiesOf (s .clears) ≡ true
+failure-empties state s p e = ap (λ (t : Step). emptiesOf (t .clears)) p ∙ taken-empties state (ap (λ (t : Step). mailboxNumberOf (t .answer)) (sym p) ∙ e)
 
-pub change-keeps : (stand : Stand) (connector reason : ℕ) → emptiesOf (changeOf stand connector reason .clears) ≡ false
-change-keeps stand connector reason = ap emptiesOf (change-alters stand connector reason .cleared)
+pub change-keeps : (state : State) (connector reason : ℕ) → emptiesOf (changeStepOf state connector reason .clears) ≡ false
+change-keeps state connector reason = ap emptiesOf (change-alters state connector reason .cleared)
 
 -- A refusal: the state as it came.
-pub refused-stays : (f : FlatMailbox) (o : Outcome) (n : ℕ) → isMailbox f ≡ true → ((numberOf (o .answer) ≡ 0 → ⊥) → o ≡ stays (unpackOf f) (o .answer))
-    → n ≡ numberOf (o .answer) → (n ≡ 0 → ⊥) → answers f n ≡ flatOf o
+pub refused-stays : (f : FlatMailbox) (o : Outcome) (n : ℕ) → isMailbox f ≡ true → ((mailboxNumberOf (o .answer) ≡ 0 → ⊥) → o ≡ stays (unpackOf f) (o .answer))
+    → n ≡ mailboxNumberOf (o .answer) → (n ≡ 0 → ⊥) → mailboxOutcome f n ≡ flatMailboxOf o
 refused-stays f o n is keeps e h =
-    ap (answers f) e ∙ ap (λ (g : FlatMailbox). answers g (numberOf (o .answer))) (sym (pack-unpack f is)) ∙ ap flatOf (sym (keeps (λ z. h (e ∙ z))))
+    ap (mailboxOutcome f) e ∙ ap (λ (g : FlatMailbox). mailboxOutcome g (mailboxNumberOf (o .answer))) (sym (pack-unpack f is)) ∙ ap flatMailboxOf (sym (keeps (λ z. h (e ∙ z))))

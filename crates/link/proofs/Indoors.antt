@@ -18,7 +18,7 @@ use Rattle.silence.specs.declared.Checked.the-variants as Che
 use Rattle.silence.proofs.Laws.{made-within, within-made}
 use Rattle.indoor_state.specs.declared.plan.Release.{Release}
 use Rattle.wire.specs.Codes.{longest, imageSizeMost}
-use Rattle.indoor_state.specs.Answer.{numberOf}
+use Rattle.indoor_state.specs.Answer.{indoorNumberOf}
 use Rattle.indoor_state.specs.Session as starting
 use Rattle.indoor_rules.specs.Start as start
 use Rattle.indoor_rules.specs.Response as inner
@@ -32,7 +32,7 @@ use Rattle.indoor_flat.specs.Flat.{packOf, unpackOf, isSession, none}
 use Rattle.indoor_flat.specs.declared.flat.FlatIndoor.{FlatIndoor}
 use Rattle.indoor_flat.proofs.Sessions.{session-whole}
 use Rattle.indoor_flat.proofs.Inverse.{unpack-pack, pack-unpack, pack-session}
-use Rattle.link.specs.Indoor.{answers, begunOf, startOf, responseOf, timeOf}
+use Rattle.link.specs.Indoor.{indoorOutcome, flatIndoorBegun, harsolvekIndoorStart, harsolvekIndoorResponse, harsolvekIndoorTime}
 use Rattle.link.specs.Handed.{HandedIndoor, starts, hears, passes}
 
 settings-same : (a b : silence.Settings) → Che.Made a ≡ Che.Made b → a ≡ b
@@ -47,11 +47,11 @@ within-own limit resends settings e =
 
 -- What a start leaves where it is taken.
 abbrev Begun : Left Started → Type 0
-Begun x = starting.numberOf (x .answer) ≡ 0 → isSession (begunOf (x .answer) (starting.numberOf (x .answer)) .state) ≡ true
+Begun x = starting.indoorStartNumberOf (x .answer) ≡ 0 → isSession (flatIndoorBegun (x .answer) (starting.indoorStartNumberOf (x .answer)) .state) ≡ true
 
 module _ (release : Release) (file out : List ℕ) where
-  begins : (settings : silence.Settings) → Within (settings .limit) (settings .resends) → Begun (start.beginOf settings release file out)
-  unfolding start.beginOf begunOf
+  begins : (settings : silence.Settings) → Within (settings .limit) (settings .resends) → Begun (start.indoorBeginOf settings release file out)
+  unfolding start.indoorBeginOf flatIndoorBegun
   begins settings within =
       pick-all Begun (eqb (length file) 0) _ _ (λ _ e. absurd (omega arith))
       (λ some. pick-all Begun (ltb imageSizeMost (length file)) _ _ (λ _ e. absurd (omega arith))
@@ -61,45 +61,45 @@ module _ (release : Release) (file out : List ℕ) where
       let few = ltb-false imageSizeMost (length file) most in
       pack-session _ within (omega (arith, not)) few)))
 
-  checked-begins : (limit resends : ℕ) (x : Checked) → silent.settingsOf limit resends ≡ x → Begun (start.startedOf x release file out)
-  unfolding start.startedOf
+  checked-begins : (limit resends : ℕ) (x : Checked) → silent.settingsOf limit resends ≡ x → Begun (start.indoorStartedOf x release file out)
+  unfolding start.indoorStartedOf
   checked-begins limit resends (Che.Made settings) e = begins settings (within-own limit resends settings e)
   checked-begins limit resends Che.Refused e = λ z. absurd (omega arith)
 
-begun-number : (x : Started) (n : ℕ) → begunOf x n .number ≡ n
-unfolding begunOf
+begun-number : (x : Started) (n : ℕ) → flatIndoorBegun x n .number ≡ n
+unfolding flatIndoorBegun
 begun-number (Made state written) n = refl
 begun-number Settings n = refl
 begun-number FileSize n = refl
 begun-number BufferShort n = refl
 
-pub start-session : (settings : silence.Settings) (release : Release) (file out : List ℕ) → startOf settings release file out .answer .number ≡ 0
-    → isSession (startOf settings release file out .answer .state) ≡ true
+pub start-session : (settings : silence.Settings) (release : Release) (file out : List ℕ) → harsolvekIndoorStart settings release file out .answer .number ≡ 0
+    → isSession (harsolvekIndoorStart settings release file out .answer .state) ≡ true
 start-session settings release file out e =
-    let x = start.startOf (settings .limit) (settings .resends) release file out .answer in
+    let x = start.indoorStartOf (settings .limit) (settings .resends) release file out .answer in
     checked-begins release file out (settings .limit) (settings .resends) (silent.settingsOf (settings .limit) (settings .resends)) refl
-    (sym (begun-number x (starting.numberOf x)) ∙ e)
+    (sym (begun-number x (starting.indoorStartNumberOf x)) ∙ e)
 
 -- A start that is taken hands out the numbers of its session; a refused one hands out none, its number, and the buffer as it was.
 module _ (settings : silence.Settings) (release : Release) (file out : List ℕ) where
   abbrev started : Left Started
-  started = start.startOf (settings .limit) (settings .resends) release file out
+  started = start.indoorStartOf (settings .limit) (settings .resends) release file out
 
   pub start-taken : (s : Indoor) (written : ℕ) (m : List ℕ) → started ≡ left (Made s written) m
-      → startOf settings release file out ≡ left (answers (packOf s) written 0) m
-  unfolding begunOf
+      → harsolvekIndoorStart settings release file out ≡ left (indoorOutcome (packOf s) written 0) m
+  unfolding flatIndoorBegun
   start-taken s written m e = rw e
 
-  pub start-29 : started ≡ left Settings out → startOf settings release file out ≡ left (answers none 0 29) out
-  unfolding begunOf
+  pub start-29 : started ≡ left Settings out → harsolvekIndoorStart settings release file out ≡ left (indoorOutcome none 0 29) out
+  unfolding flatIndoorBegun
   start-29 e = rw e
 
-  pub start-46 : started ≡ left FileSize out → startOf settings release file out ≡ left (answers none 0 46) out
-  unfolding begunOf
+  pub start-46 : started ≡ left FileSize out → harsolvekIndoorStart settings release file out ≡ left (indoorOutcome none 0 46) out
+  unfolding flatIndoorBegun
   start-46 e = rw e
 
-  pub start-27 : started ≡ left BufferShort out → startOf settings release file out ≡ left (answers none 0 27) out
-  unfolding begunOf
+  pub start-27 : started ≡ left BufferShort out → harsolvekIndoorStart settings release file out ≡ left (indoorOutcome none 0 27) out
+  unfolding flatIndoorBegun
   start-27 e = rw e
 
 -- The numbers of a session with the plan of one that is.
@@ -110,43 +110,43 @@ keeps-session f next e plan =
 
 module _ (f : FlatIndoor) (file message out : List ℕ) where
   abbrev heard : Left Outcome
-  heard = inner.responseOf (unpackOf f) file message out
+  heard = inner.indoorResponseOf (unpackOf f) file message out
 
-  pub response-through : isSession f ≡ true → responseOf f file message out
-      ≡ left (answers (packOf (heard .answer .state)) (heard .answer .written) (numberOf (heard .answer .answer))) (heard .memory)
-  unfolding responseOf
+  pub response-through : isSession f ≡ true → harsolvekIndoorResponse f file message out
+      ≡ left (indoorOutcome (packOf (heard .answer .session)) (heard .answer .written) (indoorNumberOf (heard .answer .answer))) (heard .memory)
+  unfolding harsolvekIndoorResponse
   response-through e = pick-yes _ _ _ e
 
-  pub response-29 : isSession f ≡ false → responseOf f file message out ≡ left (answers f 0 29) out
-  unfolding responseOf
+  pub response-29 : isSession f ≡ false → harsolvekIndoorResponse f file message out ≡ left (indoorOutcome f 0 29) out
+  unfolding harsolvekIndoorResponse
   response-29 e = pick-no _ _ _ e
 
-  pub response-next : isSession f ≡ true → unpackOf (responseOf f file message out .answer .state) ≡ heard .answer .state
-  response-next e = ap (λ x. unpackOf (x .answer .state)) (response-through e) ∙ unpack-pack (heard .answer .state)
+  pub response-next : isSession f ≡ true → unpackOf (harsolvekIndoorResponse f file message out .answer .state) ≡ heard .answer .session
+  response-next e = ap (λ x. unpackOf (x .answer .state)) (response-through e) ∙ unpack-pack (heard .answer .session)
 
-  pub response-session : isSession f ≡ true → isSession (responseOf f file message out .answer .state) ≡ true
+  pub response-session : isSession f ≡ true → isSession (harsolvekIndoorResponse f file message out .answer .state) ≡ true
   response-session e =
-      ap (λ x. isSession (x .answer .state)) (response-through e) ∙ keeps-session f (heard .answer .state) e (plan-stays (unpackOf f) file message out)
+      ap (λ x. isSession (x .answer .state)) (response-through e) ∙ keeps-session f (heard .answer .session) e (plan-stays (unpackOf f) file message out)
 
 module _ (f : FlatIndoor) (file : List ℕ) (elapsed : ℕ) (out : List ℕ) where
   abbrev passed : Left Outcome
-  passed = time.timeOf (unpackOf f) file elapsed out
+  passed = time.indoorTimeOf (unpackOf f) file elapsed out
 
-  pub time-through : isSession f ≡ true → timeOf f file elapsed out
-      ≡ left (answers (packOf (passed .answer .state)) (passed .answer .written) (numberOf (passed .answer .answer))) (passed .memory)
-  unfolding timeOf
+  pub time-through : isSession f ≡ true → harsolvekIndoorTime f file elapsed out
+      ≡ left (indoorOutcome (packOf (passed .answer .session)) (passed .answer .written) (indoorNumberOf (passed .answer .answer))) (passed .memory)
+  unfolding harsolvekIndoorTime
   time-through e = pick-yes _ _ _ e
 
-  pub time-29 : isSession f ≡ false → timeOf f file elapsed out ≡ left (answers f 0 29) out
-  unfolding timeOf
+  pub time-29 : isSession f ≡ false → harsolvekIndoorTime f file elapsed out ≡ left (indoorOutcome f 0 29) out
+  unfolding harsolvekIndoorTime
   time-29 e = pick-no _ _ _ e
 
-  pub time-next : isSession f ≡ true → unpackOf (timeOf f file elapsed out .answer .state) ≡ passed .answer .state
-  time-next e = ap (λ x. unpackOf (x .answer .state)) (time-through e) ∙ unpack-pack (passed .answer .state)
+  pub time-next : isSession f ≡ true → unpackOf (harsolvekIndoorTime f file elapsed out .answer .state) ≡ passed .answer .session
+  time-next e = ap (λ x. unpackOf (x .answer .state)) (time-through e) ∙ unpack-pack (passed .answer .session)
 
-  pub time-session : isSession f ≡ true → isSession (timeOf f file elapsed out .answer .state) ≡ true
+  pub time-session : isSession f ≡ true → isSession (harsolvekIndoorTime f file elapsed out .answer .state) ≡ true
   time-session e =
-      ap (λ x. isSession (x .answer .state)) (time-through e) ∙ keeps-session f (passed .answer .state) e (time-plan-stays (unpackOf f) file elapsed out)
+      ap (λ x. isSession (x .answer .state)) (time-through e) ∙ keeps-session f (passed .answer .session) e (time-plan-stays (unpackOf f) file elapsed out)
 
 -- Every state that is handed out is a session, and the conversions are each other's inverse on it.
 pub handed-session : {f : FlatIndoor} → HandedIndoor f → isSession f ≡ true

@@ -14,8 +14,8 @@ use Rattle.link.specs.Receiver.{Kept}
 
 module _ (f : FlatReceiver) (r : Receiver) (e : r ≡ unpackOf f) where
   pub request-keeps : (image message : List ℕ) (readiness : ℕ) (verdict : Verdict) (out : List ℕ)
-      → Kept f (inner.requestOf r image message readiness verdict out .outcome .state)
+      → Kept f (inner.receiverRequestOf r image message readiness verdict out .outcome .session)
   request-keeps image message readiness verdict out = rw e (settings-stay (unpackOf f) image message readiness verdict out)
 
-  pub time-keeps : (elapsed : ℕ) (out : List ℕ) → Kept f (time.timeOf r elapsed out .answer .state)
+  pub time-keeps : (elapsed : ℕ) (out : List ℕ) → Kept f (time.receiverTimeOf r elapsed out .answer .session)
   time-keeps elapsed out = rw e (time-settings (unpackOf f) elapsed out)

@@ -6,7 +6,7 @@ use mathlib.Core.Path.{_≡_, refl, sym, _∙_, ap, subst}
 use mathlib.Core.List.{List}
 use lib.ListN.{replicate}
 use Rattle.basis.specs.Pick.{pick-yes, pick-no}
-use Rattle.mailbox_state.specs.Answer.{numberOf}
+use Rattle.mailbox_state.specs.Answer.{mailboxNumberOf}
 use Rattle.mailbox_state.specs.Connectors as connectors
 use Rattle.mailbox_state.specs.declared.connectors.Connectors.{Connectors}
 use Rattle.mailbox_state.specs.declared.connectors.Counted.{Counted}
@@ -14,67 +14,67 @@ use Rattle.mailbox_state.specs.declared.connectors.Counted.the-variants.{Made, 
 use Rattle.mailbox_rules.specs.Mailbox as inner
 use Rattle.mailbox_rules.specs.Events as events
 use Rattle.mailbox_rules.specs.History as history
-use Rattle.mailbox_state.specs.declared.state.Mailbox.{Mailbox}
-use Rattle.mailbox_state.specs.declared.state.Outcome.{Outcome}
+use Rattle.mailbox_state.specs.declared.mailbox.Mailbox.{Mailbox}
+use Rattle.mailbox_state.specs.declared.mailbox.Outcome.{Outcome}
 use Rattle.mailbox_rules.proofs.Reached.{holds}
 use Rattle.mailbox_flat.specs.Flat.{packOf, unpackOf, isMailbox, none}
 use Rattle.mailbox_flat.specs.declared.flat.FlatMailbox.{FlatMailbox}
 use Rattle.mailbox_flat.proofs.Mailboxes.{counted-within, within-made}
 use Rattle.mailbox_flat.proofs.Inverse.{unpack-pack, pack-unpack, pack-mailbox}
-use Rattle.link.specs.Mailbox.{answers, madeOf, freshOf, heldOf, writeOf, successOf, failureOf, changeOf, reads, cciOf, holds as carries, messageOf}
+use Rattle.link.specs.Mailbox.{mailboxOutcome, flatMailboxMade, harsolvekMailboxFresh, heldOf, harsolvekMailboxWrite, harsolvekMailboxSuccess, harsolvekMailboxFailure, harsolvekMailboxChange, reads, harsolvekMailboxCci, holds as carries, harsolvekMailboxMessageIn}
 use Rattle.link.specs.declared.mailbox_calls.MailboxOutcome.{MailboxOutcome}
 use Rattle.link.specs.Handed.{HandedMailbox, starts, writes, succeeds, fails, changes}
 
 -- Of every event: `heldOf` is what each of the four calls is.
 module _ (f : FlatMailbox) (o : Outcome) where
-  pub held-through : isMailbox f ≡ true → heldOf f o ≡ answers (packOf (o .state)) (numberOf (o .answer))
+  pub held-through : isMailbox f ≡ true → heldOf f o ≡ mailboxOutcome (packOf (o .mailbox)) (mailboxNumberOf (o .answer))
   held-through e = pick-yes _ _ _ e
 
-  pub held-29 : isMailbox f ≡ false → heldOf f o ≡ answers f 29
+  pub held-29 : isMailbox f ≡ false → heldOf f o ≡ mailboxOutcome f 29
   held-29 e = pick-no _ _ _ e
 
-  pub held-next : isMailbox f ≡ true → unpackOf (heldOf f o .state) ≡ o .state
-  held-next e = ap (λ x. unpackOf (x .state)) (held-through e) ∙ unpack-pack (o .state)
+  pub held-next : isMailbox f ≡ true → unpackOf (heldOf f o .state) ≡ o .mailbox
+  held-next e = ap (λ x. unpackOf (x .state)) (held-through e) ∙ unpack-pack (o .mailbox)
 
 module _ (f : FlatMailbox) (is : isMailbox f ≡ true) where
   abbrev through : Outcome → MailboxOutcome
-  through o = answers (packOf (o .state)) (numberOf (o .answer))
+  through o = mailboxOutcome (packOf (o .mailbox)) (mailboxNumberOf (o .answer))
 
-  pub write-through : (control : List ℕ) → writeOf f control ≡ through (events.writeOf (unpackOf f) control)
-  write-through control = held-through f (events.writeOf (unpackOf f) control) is
+  pub write-through : (control : List ℕ) → harsolvekMailboxWrite f control ≡ through (events.mailboxWriteOf (unpackOf f) control)
+  write-through control = held-through f (events.mailboxWriteOf (unpackOf f) control) is
 
-  pub success-through : (bytes : List ℕ) → successOf f bytes ≡ through (events.successOf (unpackOf f) bytes)
-  success-through bytes = held-through f (events.successOf (unpackOf f) bytes) is
+  pub success-through : (bytes : List ℕ) → harsolvekMailboxSuccess f bytes ≡ through (events.mailboxSuccessOf (unpackOf f) bytes)
+  success-through bytes = held-through f (events.mailboxSuccessOf (unpackOf f) bytes) is
 
-  pub failure-through : failureOf f ≡ through (events.failureOf (unpackOf f))
-  failure-through = held-through f (events.failureOf (unpackOf f)) is
+  pub failure-through : harsolvekMailboxFailure f ≡ through (events.mailboxFailureOf (unpackOf f))
+  failure-through = held-through f (events.mailboxFailureOf (unpackOf f)) is
 
-  pub change-through : (connector reason : ℕ) → changeOf f connector reason ≡ through (events.changeOf (unpackOf f) connector reason)
-  change-through connector reason = held-through f (events.changeOf (unpackOf f) connector reason) is
+  pub change-through : (connector reason : ℕ) → harsolvekMailboxChange f connector reason ≡ through (events.mailboxChangeOf (unpackOf f) connector reason)
+  change-through connector reason = held-through f (events.mailboxChangeOf (unpackOf f) connector reason) is
 
 module _ (f : FlatMailbox) where
-  pub cci-through : isMailbox f ≡ true → cciOf f ≡ reads (inner.cciOf (unpackOf f)) 0
+  pub cci-through : isMailbox f ≡ true → harsolvekMailboxCci f ≡ reads (inner.mailboxCciOf (unpackOf f)) 0
   cci-through e = pick-yes _ _ _ e
 
-  pub cci-29 : isMailbox f ≡ false → cciOf f ≡ reads 0 29
+  pub cci-29 : isMailbox f ≡ false → harsolvekMailboxCci f ≡ reads 0 29
   cci-29 e = pick-no _ _ _ e
 
-  pub message-through : isMailbox f ≡ true → messageOf f ≡ carries (inner.messageOf (unpackOf f)) 0
+  pub message-through : isMailbox f ≡ true → harsolvekMailboxMessageIn f ≡ carries (inner.messageInOf (unpackOf f)) 0
   message-through e = pick-yes _ _ _ e
 
-  pub message-29 : isMailbox f ≡ false → messageOf f ≡ carries (replicate 256 0) 29
+  pub message-29 : isMailbox f ≡ false → harsolvekMailboxMessageIn f ≡ carries (replicate 256 0) 29
   message-29 e = pick-no _ _ _ e
 
 abbrev counts : ℕ → Connectors
 counts count = record { count = count }
 
 -- A count of 1 to 8 hands out the numbers of the fresh mailbox; any other hands out none, and 29.
-pub fresh-taken : (count : ℕ) → 1 ≤ count → count ≤ 8 → freshOf count ≡ answers (packOf (inner.freshOf (counts count))) 0
-unfolding madeOf
+pub fresh-taken : (count : ℕ) → 1 ≤ count → count ≤ 8 → harsolvekMailboxFresh count ≡ mailboxOutcome (packOf (inner.mailboxFreshOf (counts count))) 0
+unfolding flatMailboxMade
 fresh-taken count low high = rw (within-made count low high)
 
-pub fresh-refused : (count : ℕ) → connectors.countedOf count ≡ Refused → freshOf count ≡ answers none 29
-unfolding madeOf
+pub fresh-refused : (count : ℕ) → connectors.countedOf count ≡ Refused → harsolvekMailboxFresh count ≡ mailboxOutcome none 29
+unfolding flatMailboxMade
 fresh-refused count e = rw e
 
 module _ (count : ℕ) where
@@ -94,7 +94,7 @@ module _ (count : ℕ) where
   goes-on : (f : FlatMailbox) (e : history.Event) → 1 ≤ count → count ≤ 8 → Reaches f → Reaches (heldOf f (history.eventOf (unpackOf f) e) .state)
   goes-on f e low high r =
       let o = history.eventOf (unpackOf f) e in
-      subst (λ x. Reaches (x .state)) (sym (held-through f o (r .is))) (reaches (o .state) low high (history.goesOn e (r .reached)))
+      subst (λ x. Reaches (x .state)) (sym (held-through f o (r .is))) (reaches (o .mailbox) low high (history.goesOn e (r .reached)))
 
   count-low : {f : FlatMailbox} → HandedMailbox count f → (1 ≤ count) × (count ≤ 8)
   count-low (starts e) = counted-within count e

@@ -10,7 +10,7 @@ use Rattle.silence.specs.Within.{Within}
 use Rattle.silence.specs.declared.Settings.{Settings}
 use Rattle.wire.specs.Codes.{imageSizeMost}
 use Rattle.wire.specs.declared.response.Identity.{Identity}
-use Rattle.receiver_state.specs.Answer.{numberOf}
+use Rattle.receiver_state.specs.Answer.{receiverNumberOf}
 use Rattle.receiver_rules.specs.Session as session
 use Rattle.receiver_rules.specs.Request as inner
 use Rattle.receiver_rules.specs.Time as time
@@ -27,19 +27,19 @@ use Rattle.receiver_flat.specs.Verdict.{verdictOf}
 use Rattle.receiver_flat.specs.declared.flat.FlatReceiver.{FlatReceiver}
 use Rattle.receiver_flat.proofs.Sessions.{taken-within, session-whole}
 use Rattle.receiver_flat.proofs.Inverse.{unpack-pack, pack-unpack, pack-session}
-use Rattle.link.specs.Receiver.{answers, called, madeOf, startOf, requestOf, timeOf, sums, summedOf, sumOf}
+use Rattle.link.specs.Receiver.{receiverOutcome, called, flatReceiverMade, harsolvekReceiverStart, harsolvekReceiverRequest, harsolvekReceiverTime, sums, summedOf, harsolvekReceiverSum}
 use Rattle.link.specs.Handed.{HandedReceiver, starts, asks, passes}
 
 module _ (settings : Settings) (identity : Identity) (capacity : ℕ) where
   -- A start that is taken hands out the numbers of the fresh session.
   pub start-taken : Within (settings .limit) (settings .resends) → capacity ≤ imageSizeMost
-      → startOf settings identity capacity ≡ answers (packOf (fresh (settings .limit) (settings .resends) identity capacity)) 0 0
-  unfolding madeOf
+      → harsolvekReceiverStart settings identity capacity ≡ receiverOutcome (packOf (fresh (settings .limit) (settings .resends) identity capacity)) 0 0
+  unfolding flatReceiverMade
   start-taken within room = rw (start-made (settings .limit) (settings .resends) identity capacity within room)
 
   -- A refused start hands out no session: 29 and zeros.
-  pub start-refused : session.startOf (settings .limit) (settings .resends) identity capacity ≡ Refused → startOf settings identity capacity ≡ answers none 0 29
-  unfolding madeOf
+  pub start-refused : session.receiverStartOf (settings .limit) (settings .resends) identity capacity ≡ Refused → harsolvekReceiverStart settings identity capacity ≡ receiverOutcome none 0 29
+  unfolding flatReceiverMade
   start-refused e = rw e
 
 -- The numbers of a session with the settings and the capacity of one that is.
@@ -51,54 +51,54 @@ keeps-session f next e settings capacity =
 
 module _ (f : FlatReceiver) (image message : List ℕ) (readiness verdict later : ℕ) (out : List ℕ) where
   abbrev asked : inner.Effect
-  asked = inner.requestOf (unpackOf f) image message readiness (verdictOf verdict later) out
+  asked = inner.receiverRequestOf (unpackOf f) image message readiness (verdictOf verdict later) out
 
-  pub request-through : isSession f ≡ true → requestOf f image message readiness verdict later out
-      ≡ called (answers (packOf (asked .outcome .state)) (asked .outcome .written) (numberOf (asked .outcome .answer))) (asked .image) (asked .out)
-  unfolding requestOf
+  pub request-through : isSession f ≡ true → harsolvekReceiverRequest f image message readiness verdict later out
+      ≡ called (receiverOutcome (packOf (asked .outcome .session)) (asked .outcome .written) (receiverNumberOf (asked .outcome .answer))) (asked .image) (asked .out)
+  unfolding harsolvekReceiverRequest
   request-through e = pick-yes _ _ _ e
 
-  pub request-29 : isSession f ≡ false → requestOf f image message readiness verdict later out ≡ called (answers f 0 29) image out
-  unfolding requestOf
+  pub request-29 : isSession f ≡ false → harsolvekReceiverRequest f image message readiness verdict later out ≡ called (receiverOutcome f 0 29) image out
+  unfolding harsolvekReceiverRequest
   request-29 e = pick-no _ _ _ e
 
-  pub request-next : isSession f ≡ true → unpackOf (requestOf f image message readiness verdict later out .outcome .state) ≡ asked .outcome .state
-  request-next e = ap (λ c. unpackOf (c .outcome .state)) (request-through e) ∙ unpack-pack (asked .outcome .state)
+  pub request-next : isSession f ≡ true → unpackOf (harsolvekReceiverRequest f image message readiness verdict later out .outcome .state) ≡ asked .outcome .session
+  request-next e = ap (λ c. unpackOf (c .outcome .state)) (request-through e) ∙ unpack-pack (asked .outcome .session)
 
-  pub request-session : isSession f ≡ true → isSession (requestOf f image message readiness verdict later out .outcome .state) ≡ true
+  pub request-session : isSession f ≡ true → isSession (harsolvekReceiverRequest f image message readiness verdict later out .outcome .state) ≡ true
   request-session e =
       let stays = settings-stay (unpackOf f) image message readiness (verdictOf verdict later) out in
-      ap (λ c. isSession (c .outcome .state)) (request-through e) ∙ keeps-session f (asked .outcome .state) e (stays .0) (stays .2)
+      ap (λ c. isSession (c .outcome .state)) (request-through e) ∙ keeps-session f (asked .outcome .session) e (stays .0) (stays .2)
 
 module _ (f : FlatReceiver) (elapsed : ℕ) (out : List ℕ) where
   abbrev passed : Left Outcome
-  passed = time.timeOf (unpackOf f) elapsed out
+  passed = time.receiverTimeOf (unpackOf f) elapsed out
 
-  pub time-through : isSession f ≡ true → timeOf f elapsed out
-      ≡ left (answers (packOf (passed .answer .state)) (passed .answer .written) (numberOf (passed .answer .answer))) (passed .memory)
-  unfolding timeOf
+  pub time-through : isSession f ≡ true → harsolvekReceiverTime f elapsed out
+      ≡ left (receiverOutcome (packOf (passed .answer .session)) (passed .answer .written) (receiverNumberOf (passed .answer .answer))) (passed .memory)
+  unfolding harsolvekReceiverTime
   time-through e = pick-yes _ _ _ e
 
-  pub time-29 : isSession f ≡ false → timeOf f elapsed out ≡ left (answers f 0 29) out
-  unfolding timeOf
+  pub time-29 : isSession f ≡ false → harsolvekReceiverTime f elapsed out ≡ left (receiverOutcome f 0 29) out
+  unfolding harsolvekReceiverTime
   time-29 e = pick-no _ _ _ e
 
-  pub time-next : isSession f ≡ true → unpackOf (timeOf f elapsed out .answer .state) ≡ passed .answer .state
-  time-next e = ap (λ x. unpackOf (x .answer .state)) (time-through e) ∙ unpack-pack (passed .answer .state)
+  pub time-next : isSession f ≡ true → unpackOf (harsolvekReceiverTime f elapsed out .answer .state) ≡ passed .answer .session
+  time-next e = ap (λ x. unpackOf (x .answer .state)) (time-through e) ∙ unpack-pack (passed .answer .session)
 
-  pub time-session : isSession f ≡ true → isSession (timeOf f elapsed out .answer .state) ≡ true
+  pub time-session : isSession f ≡ true → isSession (harsolvekReceiverTime f elapsed out .answer .state) ≡ true
   time-session e =
       let stays = time-settings (unpackOf f) elapsed out in
       ap (λ x. isSession (x .answer .state)) (time-through e)
-      ∙ keeps-session f (passed .answer .state) e (stays .0) (stays .2)
+      ∙ keeps-session f (passed .answer .session) e (stays .0) (stays .2)
 
 module _ (f : FlatReceiver) (image : List ℕ) where
-  pub sum-through : isSession f ≡ true → sumOf f image ≡ summedOf (sum.sumOf (unpackOf f) image)
-  unfolding sumOf
+  pub sum-through : isSession f ≡ true → harsolvekReceiverSum f image ≡ summedOf (sum.receiverSumOf (unpackOf f) image)
+  unfolding harsolvekReceiverSum
   sum-through e = pick-yes _ _ _ e
 
-  pub sum-29 : isSession f ≡ false → sumOf f image ≡ sums 0 29
-  unfolding sumOf
+  pub sum-29 : isSession f ≡ false → harsolvekReceiverSum f image ≡ sums 0 29
+  unfolding harsolvekReceiverSum
   sum-29 e = pick-no _ _ _ e
 
 -- A sum is handed out as it is, and a refused one is 0.

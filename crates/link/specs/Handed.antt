@@ -13,21 +13,21 @@ use Rattle.link.specs.Indoor as indoor
 use Rattle.link.specs.Mailbox as mailbox
 
 pub data HandedReceiver : FlatReceiver → Type 0 where
-  starts : (settings : Settings) (identity : Identity) (capacity : ℕ) → receiver.startOf settings identity capacity .number ≡ 0
-      → HandedReceiver (receiver.startOf settings identity capacity .state)
+  starts : (settings : Settings) (identity : Identity) (capacity : ℕ) → receiver.harsolvekReceiverStart settings identity capacity .number ≡ 0
+      → HandedReceiver (receiver.harsolvekReceiverStart settings identity capacity .state)
   asks : {f : FlatReceiver} → HandedReceiver f → (image message : List ℕ) (readiness verdict later : ℕ) (out : List ℕ)
-      → HandedReceiver (receiver.requestOf f image message readiness verdict later out .outcome .state)
-  passes : {f : FlatReceiver} → HandedReceiver f → (elapsed : ℕ) (out : List ℕ) → HandedReceiver (receiver.timeOf f elapsed out .answer .state)
+      → HandedReceiver (receiver.harsolvekReceiverRequest f image message readiness verdict later out .outcome .state)
+  passes : {f : FlatReceiver} → HandedReceiver f → (elapsed : ℕ) (out : List ℕ) → HandedReceiver (receiver.harsolvekReceiverTime f elapsed out .answer .state)
 
 pub data HandedIndoor : FlatIndoor → Type 0 where
-  starts : (settings : Settings) (release : Release) (file out : List ℕ) → indoor.startOf settings release file out .answer .number ≡ 0
-      → HandedIndoor (indoor.startOf settings release file out .answer .state)
-  hears : {f : FlatIndoor} → HandedIndoor f → (file message out : List ℕ) → HandedIndoor (indoor.responseOf f file message out .answer .state)
-  passes : {f : FlatIndoor} → HandedIndoor f → (file : List ℕ) (elapsed : ℕ) (out : List ℕ) → HandedIndoor (indoor.timeOf f file elapsed out .answer .state)
+  starts : (settings : Settings) (release : Release) (file out : List ℕ) → indoor.harsolvekIndoorStart settings release file out .answer .number ≡ 0
+      → HandedIndoor (indoor.harsolvekIndoorStart settings release file out .answer .state)
+  hears : {f : FlatIndoor} → HandedIndoor f → (file message out : List ℕ) → HandedIndoor (indoor.harsolvekIndoorResponse f file message out .answer .state)
+  passes : {f : FlatIndoor} → HandedIndoor f → (file : List ℕ) (elapsed : ℕ) (out : List ℕ) → HandedIndoor (indoor.harsolvekIndoorTime f file elapsed out .answer .state)
 
 pub data HandedMailbox (count : ℕ) : FlatMailbox → Type 0 where
-  starts : mailbox.freshOf count .number ≡ 0 → HandedMailbox count (mailbox.freshOf count .state)
-  writes : {f : FlatMailbox} → HandedMailbox count f → (control : List ℕ) → HandedMailbox count (mailbox.writeOf f control .state)
-  succeeds : {f : FlatMailbox} → HandedMailbox count f → (bytes : List ℕ) → HandedMailbox count (mailbox.successOf f bytes .state)
-  fails : {f : FlatMailbox} → HandedMailbox count f → HandedMailbox count (mailbox.failureOf f .state)
-  changes : {f : FlatMailbox} → HandedMailbox count f → (connector reason : ℕ) → HandedMailbox count (mailbox.changeOf f connector reason .state)
+  starts : mailbox.harsolvekMailboxFresh count .number ≡ 0 → HandedMailbox count (mailbox.harsolvekMailboxFresh count .state)
+  writes : {f : FlatMailbox} → HandedMailbox count f → (control : List ℕ) → HandedMailbox count (mailbox.harsolvekMailboxWrite f control .state)
+  succeeds : {f : FlatMailbox} → HandedMailbox count f → (bytes : List ℕ) → HandedMailbox count (mailbox.harsolvekMailboxSuccess f bytes .state)
+  fails : {f : FlatMailbox} → HandedMailbox count f → HandedMailbox count (mailbox.harsolvekMailboxFailure f .state)
+  changes : {f : FlatMailbox} → HandedMailbox count f → (connector reason : ℕ) → HandedMailbox count (mailbox.harsolvekMailboxChange f connector reason .state)

@@ -5,7 +5,7 @@ use mathlib.Core.List.{List}
 use Rattle.basis.specs.Pick.{pick}
 use Rattle.basis.specs.Left.{Left, left}
 use Rattle.silence.specs.declared.Settings as silence
-use Rattle.indoor_state.specs.Answer.{numberOf}
+use Rattle.indoor_state.specs.Answer.{indoorNumberOf}
 use Rattle.indoor_state.specs.declared.plan.Release.{Release}
 use Rattle.indoor_state.specs.Session as starting
 use Rattle.indoor_rules.specs.Start as start
@@ -19,37 +19,37 @@ use Rattle.indoor_flat.specs.Flat.{packOf, unpackOf, isSession, none}
 use Rattle.indoor_flat.specs.declared.flat.FlatIndoor.{FlatIndoor}
 use Rattle.link.specs.declared.indoor_calls.IndoorOutcome.{IndoorOutcome}
 
-abbrev pub answers : FlatIndoor → ℕ → ℕ → IndoorOutcome
-answers state written number = record { state = state; written = written; number = number }
+abbrev pub indoorOutcome : FlatIndoor → ℕ → ℕ → IndoorOutcome
+indoorOutcome state written number = record { state = state; written = written; number = number }
 
-abbrev pub flatOf : Outcome → IndoorOutcome
-flatOf o = answers (packOf (o .state)) (o .written) (numberOf (o .answer))
+abbrev pub flatIndoorOf : Outcome → IndoorOutcome
+flatIndoorOf o = indoorOutcome (packOf (o .session)) (o .written) (indoorNumberOf (o .answer))
 
 -- 29, and nothing changes.
-abbrev pub noSession : FlatIndoor → IndoorOutcome
-noSession f = answers f 0 29
+abbrev pub noIndoor : FlatIndoor → IndoorOutcome
+noIndoor f = indoorOutcome f 0 29
 
-abbrev pub madeOf : Indoor → ℕ → ℕ → IndoorOutcome
-madeOf s written number = answers (packOf s) written number
+abbrev pub flatIndoorMade : Indoor → ℕ → ℕ → IndoorOutcome
+flatIndoorMade s written number = indoorOutcome (packOf s) written number
 
 -- A refused start hands out no session.
-unfoldable pub begunOf : Started → ℕ → IndoorOutcome
-begunOf (Made state written) number = madeOf state written number
-begunOf Settings number = answers none 0 number
-begunOf FileSize number = answers none 0 number
-begunOf BufferShort number = answers none 0 number
+unfoldable pub flatIndoorBegun : Started → ℕ → IndoorOutcome
+flatIndoorBegun (Made state written) number = flatIndoorMade state written number
+flatIndoorBegun Settings number = indoorOutcome none 0 number
+flatIndoorBegun FileSize number = indoorOutcome none 0 number
+flatIndoorBegun BufferShort number = indoorOutcome none 0 number
 
-abbrev pub startedOf : Left Started → Left IndoorOutcome
-startedOf x = left (begunOf (x .answer) (starting.numberOf (x .answer))) (x .memory)
+abbrev pub flatIndoorStarted : Left Started → Left IndoorOutcome
+flatIndoorStarted x = left (flatIndoorBegun (x .answer) (starting.indoorStartNumberOf (x .answer))) (x .memory)
 
-abbrev pub startOf : silence.Settings → Release → List ℕ → List ℕ → Left IndoorOutcome
-startOf settings release file out = startedOf (start.startOf (settings .limit) (settings .resends) release file out)
+abbrev pub harsolvekIndoorStart : silence.Settings → Release → List ℕ → List ℕ → Left IndoorOutcome
+harsolvekIndoorStart settings release file out = flatIndoorStarted (start.indoorStartOf (settings .limit) (settings .resends) release file out)
 
-abbrev pub passedOf : Left Outcome → Left IndoorOutcome
-passedOf x = left (flatOf (x .answer)) (x .memory)
+abbrev pub flatIndoorLeft : Left Outcome → Left IndoorOutcome
+flatIndoorLeft x = left (flatIndoorOf (x .answer)) (x .memory)
 
-unfoldable pub responseOf : FlatIndoor → List ℕ → List ℕ → List ℕ → Left IndoorOutcome
-responseOf f file message out = pick (isSession f) (passedOf (response.responseOf (unpackOf f) file message out)) (left (noSession f) out)
+unfoldable pub harsolvekIndoorResponse : FlatIndoor → List ℕ → List ℕ → List ℕ → Left IndoorOutcome
+harsolvekIndoorResponse f file message out = pick (isSession f) (flatIndoorLeft (response.indoorResponseOf (unpackOf f) file message out)) (left (noIndoor f) out)
 
-unfoldable pub timeOf : FlatIndoor → List ℕ → ℕ → List ℕ → Left IndoorOutcome
-timeOf f file elapsed out = pick (isSession f) (passedOf (time.timeOf (unpackOf f) file elapsed out)) (left (noSession f) out)
+unfoldable pub harsolvekIndoorTime : FlatIndoor → List ℕ → ℕ → List ℕ → Left IndoorOutcome
+harsolvekIndoorTime f file elapsed out = pick (isSession f) (flatIndoorLeft (time.indoorTimeOf (unpackOf f) file elapsed out)) (left (noIndoor f) out)

@@ -4,7 +4,7 @@ use mathlib.Core.Bool.{Bool, true, false}
 use mathlib.Core.List.{List}
 use lib.ListN.{replicate}
 use Rattle.basis.specs.Pick.{pick}
-use Rattle.mailbox_state.specs.Answer.{numberOf}
+use Rattle.mailbox_state.specs.Answer.{mailboxNumberOf}
 use Rattle.mailbox_state.specs.Connectors as connectors
 use Rattle.mailbox_state.specs.declared.connectors.Connectors.{Connectors}
 use Rattle.mailbox_state.specs.declared.connectors.Counted.{Counted}
@@ -14,18 +14,18 @@ use Rattle.mailbox_state.specs.declared.step.Clears.the-variants.{Nothing, Rese
 use Rattle.mailbox_state.specs.declared.step.Step.{Step}
 use Rattle.mailbox_rules.specs.Mailbox as mailbox
 use Rattle.mailbox_rules.specs.Events as events
-use Rattle.mailbox_state.specs.declared.state.Outcome.{Outcome}
+use Rattle.mailbox_state.specs.declared.mailbox.Outcome.{Outcome}
 use Rattle.mailbox_flat.specs.Flat.{packOf, unpackOf, isMailbox, none}
 use Rattle.mailbox_flat.specs.declared.flat.FlatMailbox.{FlatMailbox}
 use Rattle.link.specs.declared.mailbox_calls.MailboxOutcome.{MailboxOutcome}
 use Rattle.link.specs.declared.mailbox_calls.MailboxCci.{MailboxCci}
 use Rattle.link.specs.declared.mailbox_calls.MessageIn.{MessageIn}
 
-abbrev pub answers : FlatMailbox → ℕ → MailboxOutcome
-answers state number = record { state = state; number = number }
+abbrev pub mailboxOutcome : FlatMailbox → ℕ → MailboxOutcome
+mailboxOutcome state number = record { state = state; number = number }
 
-abbrev pub flatOf : Outcome → MailboxOutcome
-flatOf o = answers (packOf (o .state)) (numberOf (o .answer))
+abbrev pub flatMailboxOf : Outcome → MailboxOutcome
+flatMailboxOf o = mailboxOutcome (packOf (o .mailbox)) (mailboxNumberOf (o .answer))
 
 -- Whether a step zeroes MESSAGE_IN.
 abbrev pub emptiesOf : Clears → Bool
@@ -36,53 +36,53 @@ emptiesOf NoData = true
 
 -- A step that keeps MESSAGE_IN, and one that zeroes it.
 abbrev pub keptOf : FlatMailbox → Step → MailboxOutcome
-keptOf f step = flatOf (mailbox.outcome (mailbox.mailbox (step .stand) (f .«message_in»)) (step .answer))
+keptOf f step = flatMailboxOf (mailbox.mailboxReturns (mailbox.mailbox (step .state) (f .«message_in»)) (step .answer))
 
 abbrev pub emptiedOf : Step → MailboxOutcome
-emptiedOf step = flatOf (mailbox.outcome (mailbox.mailbox (step .stand) mailbox.zeros) (step .answer))
+emptiedOf step = flatMailboxOf (mailbox.mailboxReturns (mailbox.mailbox (step .state) mailbox.zeroMessageIn) (step .answer))
 
 -- 29, and nothing changes.
 abbrev pub noMailbox : FlatMailbox → MailboxOutcome
-noMailbox f = answers f 29
+noMailbox f = mailboxOutcome f 29
 
 abbrev pub packedFresh : Connectors → FlatMailbox
-packedFresh count = packOf (mailbox.freshOf count)
+packedFresh count = packOf (mailbox.mailboxFreshOf count)
 
 -- A refused count hands out no mailbox.
-unfoldable pub madeOf : Counted → FlatMailbox
-madeOf (Made count) = packedFresh count
-madeOf Refused = none
+unfoldable pub flatMailboxMade : Counted → FlatMailbox
+flatMailboxMade (Made count) = packedFresh count
+flatMailboxMade Refused = none
 
-abbrev pub begunOf : Counted → MailboxOutcome
-begunOf counted = answers (madeOf counted) (connectors.numberOf counted)
+abbrev pub flatMailboxBegun : Counted → MailboxOutcome
+flatMailboxBegun counted = mailboxOutcome (flatMailboxMade counted) (connectors.connectorsNumberOf counted)
 
-abbrev pub freshOf : ℕ → MailboxOutcome
-freshOf count = begunOf (connectors.countedOf count)
+abbrev pub harsolvekMailboxFresh : ℕ → MailboxOutcome
+harsolvekMailboxFresh count = flatMailboxBegun (connectors.countedOf count)
 
 -- An event of the mailbox that the numbers say.
 abbrev pub heldOf : FlatMailbox → Outcome → MailboxOutcome
-heldOf f o = pick (isMailbox f) (flatOf o) (noMailbox f)
+heldOf f o = pick (isMailbox f) (flatMailboxOf o) (noMailbox f)
 
-abbrev pub writeOf : FlatMailbox → List ℕ → MailboxOutcome
-writeOf f control = heldOf f (events.writeOf (unpackOf f) control)
+abbrev pub harsolvekMailboxWrite : FlatMailbox → List ℕ → MailboxOutcome
+harsolvekMailboxWrite f control = heldOf f (events.mailboxWriteOf (unpackOf f) control)
 
-abbrev pub successOf : FlatMailbox → List ℕ → MailboxOutcome
-successOf f bytes = heldOf f (events.successOf (unpackOf f) bytes)
+abbrev pub harsolvekMailboxSuccess : FlatMailbox → List ℕ → MailboxOutcome
+harsolvekMailboxSuccess f bytes = heldOf f (events.mailboxSuccessOf (unpackOf f) bytes)
 
-abbrev pub failureOf : FlatMailbox → MailboxOutcome
-failureOf f = heldOf f (events.failureOf (unpackOf f))
+abbrev pub harsolvekMailboxFailure : FlatMailbox → MailboxOutcome
+harsolvekMailboxFailure f = heldOf f (events.mailboxFailureOf (unpackOf f))
 
-abbrev pub changeOf : FlatMailbox → ℕ → ℕ → MailboxOutcome
-changeOf f connector reason = heldOf f (events.changeOf (unpackOf f) connector reason)
+abbrev pub harsolvekMailboxChange : FlatMailbox → ℕ → ℕ → MailboxOutcome
+harsolvekMailboxChange f connector reason = heldOf f (events.mailboxChangeOf (unpackOf f) connector reason)
 
 abbrev pub reads : ℕ → ℕ → MailboxCci
 reads cci number = record { cci = cci; number = number }
 
-abbrev pub cciOf : FlatMailbox → MailboxCci
-cciOf f = pick (isMailbox f) (reads (mailbox.cciOf (unpackOf f)) 0) (reads 0 29)
+abbrev pub harsolvekMailboxCci : FlatMailbox → MailboxCci
+harsolvekMailboxCci f = pick (isMailbox f) (reads (mailbox.mailboxCciOf (unpackOf f)) 0) (reads 0 29)
 
 abbrev pub holds : List ℕ → ℕ → MessageIn
 holds bytes number = record { bytes = bytes; number = number }
 
-abbrev pub messageOf : FlatMailbox → MessageIn
-messageOf f = pick (isMailbox f) (holds (mailbox.messageOf (unpackOf f)) 0) (holds (replicate 256 0) 29)
+abbrev pub harsolvekMailboxMessageIn : FlatMailbox → MessageIn
+harsolvekMailboxMessageIn f = pick (isMailbox f) (holds (mailbox.messageInOf (unpackOf f)) 0) (holds (replicate 256 0) 29)

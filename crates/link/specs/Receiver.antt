@@ -7,7 +7,7 @@ use Rattle.basis.specs.Pick.{pick}
 use Rattle.basis.specs.Left.{Left, left}
 use Rattle.silence.specs.declared.Settings.{Settings}
 use Rattle.wire.specs.declared.response.Identity.{Identity}
-use Rattle.receiver_state.specs.Answer.{numberOf}
+use Rattle.receiver_state.specs.Answer.{receiverNumberOf}
 use Rattle.receiver_rules.specs.Session as session
 use Rattle.receiver_state.specs.Session as starting
 use Rattle.receiver_rules.specs.Request as request
@@ -26,8 +26,8 @@ use Rattle.receiver_flat.specs.declared.flat.FlatReceiver.{FlatReceiver}
 use Rattle.link.specs.declared.receiver_calls.ReceiverOutcome.{ReceiverOutcome}
 use Rattle.link.specs.declared.receiver_calls.ImageSum.{ImageSum}
 
-abbrev pub answers : FlatReceiver → ℕ → ℕ → ReceiverOutcome
-answers state written number = record { state = state; written = written; number = number }
+abbrev pub receiverOutcome : FlatReceiver → ℕ → ℕ → ReceiverOutcome
+receiverOutcome state written number = record { state = state; written = written; number = number }
 
 abbrev pub sums : ℕ → ℕ → ImageSum
 sums sum number = record { sum = sum; number = number }
@@ -36,23 +36,23 @@ sums sum number = record { sum = sum; number = number }
 abbrev pub Kept : FlatReceiver → Receiver → Type 0
 Kept f r = (r .settings ≡ f .settings) × (r .identity ≡ f .identity) × (r .capacity ≡ f .capacity)
 
-abbrev pub flatOf : Outcome → ReceiverOutcome
-flatOf o = answers (packOf (o .state)) (o .written) (numberOf (o .answer))
+abbrev pub flatReceiverOf : Outcome → ReceiverOutcome
+flatReceiverOf o = receiverOutcome (packOf (o .session)) (o .written) (receiverNumberOf (o .answer))
 
 -- 29, and nothing changes.
-abbrev pub noSession : FlatReceiver → ReceiverOutcome
-noSession f = answers f 0 29
+abbrev pub noReceiver : FlatReceiver → ReceiverOutcome
+noReceiver f = receiverOutcome f 0 29
 
 -- A refused start hands out no session.
-unfoldable pub madeOf : Started → FlatReceiver
-madeOf (Made r) = packOf r
-madeOf Refused = none
+unfoldable pub flatReceiverMade : Started → FlatReceiver
+flatReceiverMade (Made r) = packOf r
+flatReceiverMade Refused = none
 
-abbrev pub begunOf : Started → ReceiverOutcome
-begunOf started = answers (madeOf started) 0 (starting.numberOf started)
+abbrev pub flatReceiverBegun : Started → ReceiverOutcome
+flatReceiverBegun started = receiverOutcome (flatReceiverMade started) 0 (starting.receiverStartNumberOf started)
 
-abbrev pub startOf : Settings → Identity → ℕ → ReceiverOutcome
-startOf settings identity capacity = begunOf (session.startOf (settings .limit) (settings .resends) identity capacity)
+abbrev pub harsolvekReceiverStart : Settings → Identity → ℕ → ReceiverOutcome
+harsolvekReceiverStart settings identity capacity = flatReceiverBegun (session.receiverStartOf (settings .limit) (settings .resends) identity capacity)
 
 -- The outcome, the image and the output buffer.
 pub record Called : Type 0 where
@@ -64,18 +64,18 @@ abbrev pub called : ReceiverOutcome → List ℕ → List ℕ → Called
 called outcome image out = record { outcome = outcome; image = image; out = out }
 
 abbrev pub requestedOf : request.Effect → Called
-requestedOf e = called (flatOf (e .outcome)) (e .image) (e .out)
+requestedOf e = called (flatReceiverOf (e .outcome)) (e .image) (e .out)
 
-unfoldable pub requestOf : FlatReceiver → List ℕ → List ℕ → ℕ → ℕ → ℕ → List ℕ → Called
-requestOf f image message readiness verdict later out =
-    pick (isSession f) (requestedOf (request.requestOf (unpackOf f) image message readiness (verdictOf verdict later) out))
-    (called (noSession f) image out)
+unfoldable pub harsolvekReceiverRequest : FlatReceiver → List ℕ → List ℕ → ℕ → ℕ → ℕ → List ℕ → Called
+harsolvekReceiverRequest f image message readiness verdict later out =
+    pick (isSession f) (requestedOf (request.receiverRequestOf (unpackOf f) image message readiness (verdictOf verdict later) out))
+    (called (noReceiver f) image out)
 
-abbrev pub passedOf : Left Outcome → Left ReceiverOutcome
-passedOf x = left (flatOf (x .answer)) (x .memory)
+abbrev pub flatReceiverTimed : Left Outcome → Left ReceiverOutcome
+flatReceiverTimed x = left (flatReceiverOf (x .answer)) (x .memory)
 
-unfoldable pub timeOf : FlatReceiver → ℕ → List ℕ → Left ReceiverOutcome
-timeOf f elapsed out = pick (isSession f) (passedOf (time.timeOf (unpackOf f) elapsed out)) (left (noSession f) out)
+unfoldable pub harsolvekReceiverTime : FlatReceiver → ℕ → List ℕ → Left ReceiverOutcome
+harsolvekReceiverTime f elapsed out = pick (isSession f) (flatReceiverTimed (time.receiverTimeOf (unpackOf f) elapsed out)) (left (noReceiver f) out)
 
 -- A refused sum is 0.
 abbrev pub valueOf : Summed → ℕ
@@ -83,7 +83,7 @@ valueOf (Sum s) = s
 valueOf ImageLength = 0
 
 abbrev pub summedOf : Summed → ImageSum
-summedOf s = sums (valueOf s) (summing.numberOf s)
+summedOf s = sums (valueOf s) (summing.imageSumNumberOf s)
 
-unfoldable pub sumOf : FlatReceiver → List ℕ → ImageSum
-sumOf f image = pick (isSession f) (summedOf (sum.sumOf (unpackOf f) image)) (sums 0 29)
+unfoldable pub harsolvekReceiverSum : FlatReceiver → List ℕ → ImageSum
+harsolvekReceiverSum f image = pick (isSession f) (summedOf (sum.receiverSumOf (unpackOf f) image)) (sums 0 29)

@@ -9,7 +9,7 @@ use silence::Settings;
 ghost use mathlib.Core.Path.{_≡_};
 ghost use Rattle.basis.specs.Left.{left};
 ghost use Rattle.indoor_flat.specs.Flat.{none};
-ghost use Rattle.link.specs.Indoor.{answers, flatOf, noSession, madeOf, begunOf, startOf, responseOf, timeOf};
+ghost use Rattle.link.specs.Indoor.{indoorOutcome, flatIndoorOf, noIndoor, flatIndoorMade, flatIndoorBegun, harsolvekIndoorStart, harsolvekIndoorResponse, harsolvekIndoorTime};
 
 #[repr(C)]
 pub struct IndoorOutcome {
@@ -19,9 +19,9 @@ pub struct IndoorOutcome {
 }
 
 fn flat(outcome: Outcome) -> IndoorOutcome
-    ensures { λ r. ⌜ r ≡ flatOf outcome ⌝ }
+    ensures { λ r. ⌜ r ≡ flatIndoorOf outcome ⌝ }
 {
-    let session = outcome.state;
+    let session = outcome.session;
     let answer = outcome.answer;
     let state = FlatIndoor::pack(session);
     let number = indoor_decide::answer_number(answer);
@@ -33,7 +33,7 @@ fn flat(outcome: Outcome) -> IndoorOutcome
 }
 
 fn no_session(state: FlatIndoor) -> IndoorOutcome
-    ensures { λ r. ⌜ r ≡ noSession state ⌝ }
+    ensures { λ r. ⌜ r ≡ noIndoor state ⌝ }
 {
     IndoorOutcome {
         state,
@@ -49,7 +49,7 @@ pub extern "C" fn harsolvek_indoor_start(
     file: &[u8],
     out: &mut [u8],
 ) -> IndoorOutcome
-    ensures { λ r. ⌜ left r (now (out .exit)) ≡ startOf settings release (now (file .entry)) (now (out .entry)) ⌝ }
+    ensures { λ r. ⌜ left r (now (out .exit)) ≡ harsolvekIndoorStart settings release (now (file .entry)) (now (out .entry)) ⌝ }
 {
     let started = indoor::start(settings.limit, settings.resends, release, file, out);
     let number = indoor::started_number(started);
@@ -57,10 +57,10 @@ pub extern "C" fn harsolvek_indoor_start(
 }
 
 fn begun(started: Started, number: u8) -> IndoorOutcome
-    ensures { λ r. ⌜ r ≡ begunOf started number ⌝ }
+    ensures { λ r. ⌜ r ≡ flatIndoorBegun started number ⌝ }
 {
     match started {
-        Started::Made { state, written } => made(state, written, number),
+        Started::Made { session, written } => made(session, written, number),
         Started::Settings => refused(number),
         Started::FileSize => refused(number),
         Started::BufferShort => refused(number),
@@ -68,7 +68,7 @@ fn begun(started: Started, number: u8) -> IndoorOutcome
 }
 
 fn made(session: Indoor, written: usize, number: u8) -> IndoorOutcome
-    ensures { λ r. ⌜ r ≡ madeOf session written number ⌝ }
+    ensures { λ r. ⌜ r ≡ flatIndoorMade session written number ⌝ }
 {
     let state = FlatIndoor::pack(session);
     IndoorOutcome {
@@ -79,7 +79,7 @@ fn made(session: Indoor, written: usize, number: u8) -> IndoorOutcome
 }
 
 fn refused(number: u8) -> IndoorOutcome
-    ensures { λ r. ⌜ r ≡ answers none 0 number ⌝ }
+    ensures { λ r. ⌜ r ≡ indoorOutcome none 0 number ⌝ }
 {
     let state = FlatIndoor::none();
     IndoorOutcome {
@@ -96,7 +96,7 @@ pub extern "C" fn harsolvek_indoor_response(
     response: &[u8],
     out: &mut [u8],
 ) -> IndoorOutcome
-    ensures { λ r. ⌜ left r (now (out .exit)) ≡ responseOf state (now (file .entry)) (now (response .entry)) (now (out .entry)) ⌝ }
+    ensures { λ r. ⌜ left r (now (out .exit)) ≡ harsolvekIndoorResponse state (now (file .entry)) (now (response .entry)) (now (out .entry)) ⌝ }
 {
     if state.is_session() {
         let session = state.unpack();
@@ -113,7 +113,7 @@ pub extern "C" fn harsolvek_indoor_time(
     elapsed: u16,
     out: &mut [u8],
 ) -> IndoorOutcome
-    ensures { λ r. ⌜ left r (now (out .exit)) ≡ timeOf state (now (file .entry)) elapsed (now (out .entry)) ⌝ }
+    ensures { λ r. ⌜ left r (now (out .exit)) ≡ harsolvekIndoorTime state (now (file .entry)) elapsed (now (out .entry)) ⌝ }
 {
     if state.is_session() {
         let session = state.unpack();

@@ -4,12 +4,12 @@ use crate::NO_SUCH_STATE;
 use mailbox_flat::FlatMailbox;
 use mailbox_state::connectors::Connectors;
 use mailbox_state::connectors::Counted;
-use mailbox_state::state::Mailbox;
-use mailbox_state::state::Outcome;
+use mailbox_state::mailbox::Mailbox;
+use mailbox_state::mailbox::Outcome;
 use mailbox_state::step::Clears;
 use mailbox_state::step::Step;
 ghost use mathlib.Core.Path.{_≡_};
-ghost use Rattle.link.specs.Mailbox.{flatOf, emptiesOf, keptOf, emptiedOf, noMailbox, madeOf, packedFresh, freshOf, writeOf, successOf, failureOf, changeOf, cciOf, messageOf};
+ghost use Rattle.link.specs.Mailbox.{flatMailboxOf, emptiesOf, keptOf, emptiedOf, noMailbox, flatMailboxMade, packedFresh, harsolvekMailboxFresh, harsolvekMailboxWrite, harsolvekMailboxSuccess, harsolvekMailboxFailure, harsolvekMailboxChange, harsolvekMailboxCci, harsolvekMailboxMessageIn};
 
 #[repr(C)]
 pub struct MailboxOutcome {
@@ -30,9 +30,9 @@ pub struct MessageIn {
 }
 
 fn flat(outcome: Outcome) -> MailboxOutcome
-    ensures { λ r. ⌜ r ≡ flatOf outcome ⌝ }
+    ensures { λ r. ⌜ r ≡ flatMailboxOf outcome ⌝ }
 {
-    let mailbox = outcome.state;
+    let mailbox = outcome.mailbox;
     let answer = outcome.answer;
     let state = FlatMailbox::pack(mailbox);
     let number = mailbox_decide::answer_number(answer);
@@ -43,11 +43,11 @@ fn flat(outcome: Outcome) -> MailboxOutcome
 fn kept(state: FlatMailbox, step: Step) -> MailboxOutcome
     ensures { λ r. ⌜ r ≡ keptOf state step ⌝ }
 {
-    let stand = step.stand;
     let message = state.message_in;
+    let state = step.state;
     let answer = step.answer;
     flat(Outcome {
-        state: Mailbox { stand, message },
+        mailbox: Mailbox { state, message },
         answer,
     })
 }
@@ -55,11 +55,11 @@ fn kept(state: FlatMailbox, step: Step) -> MailboxOutcome
 fn emptied(step: Step) -> MailboxOutcome
     ensures { λ r. ⌜ r ≡ emptiedOf step ⌝ }
 {
-    let stand = step.stand;
+    let state = step.state;
     let answer = step.answer;
     flat(Outcome {
-        state: Mailbox {
-            stand,
+        mailbox: Mailbox {
+            state,
             message: [0; 256],
         },
         answer,
@@ -88,7 +88,7 @@ fn no_mailbox(state: FlatMailbox) -> MailboxOutcome
 
 #[no_mangle]
 pub extern "C" fn harsolvek_mailbox_fresh(connectors: u8) -> MailboxOutcome
-    ensures { λ r. ⌜ r ≡ freshOf connectors ⌝ }
+    ensures { λ r. ⌜ r ≡ harsolvekMailboxFresh connectors ⌝ }
 {
     let counted = mailbox_decide::counted(connectors);
     let number = mailbox_decide::counted_number(counted);
@@ -97,7 +97,7 @@ pub extern "C" fn harsolvek_mailbox_fresh(connectors: u8) -> MailboxOutcome
 }
 
 fn made(counted: Counted) -> FlatMailbox
-    ensures { λ r. ⌜ r ≡ madeOf counted ⌝ }
+    ensures { λ r. ⌜ r ≡ flatMailboxMade counted ⌝ }
 {
     match counted {
         Counted::Made(connectors) => fresh(connectors),
@@ -114,12 +114,12 @@ fn fresh(connectors: Connectors) -> FlatMailbox
 
 #[no_mangle]
 pub extern "C" fn harsolvek_mailbox_write(state: FlatMailbox, control: &[u8]) -> MailboxOutcome
-    ensures { λ r. ⌜ r ≡ writeOf state (now (control .entry)) ⌝ }
+    ensures { λ r. ⌜ r ≡ harsolvekMailboxWrite state (now (control .entry)) ⌝ }
 {
     if state.is_mailbox() {
         let mailbox = state.unpack();
-        let stand = mailbox.stand;
-        let step = mailbox::write_step(stand, control);
+        let held = mailbox.state;
+        let step = mailbox::write_step(held, control);
         let answer = step.answer;
         let number = mailbox_decide::answer_number(answer);
         if number != 0 {
@@ -136,7 +136,7 @@ pub extern "C" fn harsolvek_mailbox_write(state: FlatMailbox, control: &[u8]) ->
 
 #[no_mangle]
 pub extern "C" fn harsolvek_mailbox_success(state: FlatMailbox, bytes: &[u8]) -> MailboxOutcome
-    ensures { λ r. ⌜ r ≡ successOf state (now (bytes .entry)) ⌝ }
+    ensures { λ r. ⌜ r ≡ harsolvekMailboxSuccess state (now (bytes .entry)) ⌝ }
 {
     if state.is_mailbox() {
         let mailbox = state.unpack();
@@ -153,12 +153,12 @@ pub extern "C" fn harsolvek_mailbox_success(state: FlatMailbox, bytes: &[u8]) ->
 
 #[no_mangle]
 pub extern "C" fn harsolvek_mailbox_failure(state: FlatMailbox) -> MailboxOutcome
-    ensures { λ r. ⌜ r ≡ failureOf state ⌝ }
+    ensures { λ r. ⌜ r ≡ harsolvekMailboxFailure state ⌝ }
 {
     if state.is_mailbox() {
         let mailbox = state.unpack();
-        let stand = mailbox.stand;
-        let step = mailbox_decide::fail(stand);
+        let held = mailbox.state;
+        let step = mailbox_decide::fail(held);
         let answer = step.answer;
         let number = mailbox_decide::answer_number(answer);
         if number != 0 {
@@ -175,12 +175,12 @@ pub extern "C" fn harsolvek_mailbox_change(
     connector: u8,
     reason: u16,
 ) -> MailboxOutcome
-    ensures { λ r. ⌜ r ≡ changeOf state connector reason ⌝ }
+    ensures { λ r. ⌜ r ≡ harsolvekMailboxChange state connector reason ⌝ }
 {
     if state.is_mailbox() {
         let mailbox = state.unpack();
-        let stand = mailbox.stand;
-        let step = mailbox_decide::change(stand, connector, reason);
+        let held = mailbox.state;
+        let step = mailbox_decide::change(held, connector, reason);
         return kept(state, step);
     }
     no_mailbox(state)
@@ -188,7 +188,7 @@ pub extern "C" fn harsolvek_mailbox_change(
 
 #[no_mangle]
 pub extern "C" fn harsolvek_mailbox_cci(state: FlatMailbox) -> MailboxCci
-    ensures { λ r. ⌜ r ≡ cciOf state ⌝ }
+    ensures { λ r. ⌜ r ≡ harsolvekMailboxCci state ⌝ }
 {
     if state.is_mailbox() {
         let mailbox = state.unpack();
@@ -203,7 +203,7 @@ pub extern "C" fn harsolvek_mailbox_cci(state: FlatMailbox) -> MailboxCci
 
 #[no_mangle]
 pub extern "C" fn harsolvek_mailbox_message_in(state: FlatMailbox) -> MessageIn
-    ensures { λ r. ⌜ r ≡ messageOf state ⌝ }
+    ensures { λ r. ⌜ r ≡ harsolvekMailboxMessageIn state ⌝ }
 {
     if state.is_mailbox() {
         let mailbox = state.unpack();

@@ -9,7 +9,7 @@ use silence::Settings;
 use wire::response::Identity;
 ghost use mathlib.Core.Path.{_≡_};
 ghost use Rattle.basis.specs.Left.{left};
-ghost use Rattle.link.specs.Receiver.{called, Kept, flatOf, noSession, madeOf, startOf, requestOf, timeOf, valueOf, sumOf};
+ghost use Rattle.link.specs.Receiver.{called, Kept, flatReceiverOf, noReceiver, flatReceiverMade, harsolvekReceiverStart, harsolvekReceiverRequest, harsolvekReceiverTime, valueOf, harsolvekReceiverSum};
 
 #[repr(C)]
 pub struct ReceiverOutcome {
@@ -26,10 +26,10 @@ pub struct ImageSum {
 
 // No call changes settings, identity and capacity: they are handed back as they came, and so need not be taken apart.
 fn flat(came: FlatReceiver, outcome: Outcome) -> ReceiverOutcome
-    requires { ⌜ Kept came (outcome .state) ⌝ }
-    ensures { λ r. ⌜ r ≡ flatOf outcome ⌝ }
+    requires { ⌜ Kept came (outcome .session) ⌝ }
+    ensures { λ r. ⌜ r ≡ flatReceiverOf outcome ⌝ }
 {
-    let session = outcome.state;
+    let session = outcome.session;
     let answer = outcome.answer;
     let settings = came.settings;
     let identity = came.identity;
@@ -54,7 +54,7 @@ fn flat(came: FlatReceiver, outcome: Outcome) -> ReceiverOutcome
 }
 
 fn no_session(state: FlatReceiver) -> ReceiverOutcome
-    ensures { λ r. ⌜ r ≡ noSession state ⌝ }
+    ensures { λ r. ⌜ r ≡ noReceiver state ⌝ }
 {
     ReceiverOutcome {
         state,
@@ -69,7 +69,7 @@ pub extern "C" fn harsolvek_receiver_start(
     identity: Identity,
     capacity: usize,
 ) -> ReceiverOutcome
-    ensures { λ r. ⌜ r ≡ startOf settings identity capacity ⌝ }
+    ensures { λ r. ⌜ r ≡ harsolvekReceiverStart settings identity capacity ⌝ }
 {
     let started = receiver::start(settings.limit, settings.resends, identity, capacity);
     let number = receiver::started_number(started);
@@ -82,7 +82,7 @@ pub extern "C" fn harsolvek_receiver_start(
 }
 
 fn made(started: Started) -> FlatReceiver
-    ensures { λ r. ⌜ r ≡ madeOf started ⌝ }
+    ensures { λ r. ⌜ r ≡ flatReceiverMade started ⌝ }
 {
     match started {
         Started::Made(session) => FlatReceiver::pack(session),
@@ -100,7 +100,7 @@ pub extern "C" fn harsolvek_receiver_request(
     later: u8,
     out: &mut [u8],
 ) -> ReceiverOutcome
-    ensures { λ r. ⌜ called r (now (image .exit)) (now (out .exit)) ≡ requestOf state (now (image .entry)) (now (request .entry)) readiness verdict later (now (out .entry)) ⌝ }
+    ensures { λ r. ⌜ called r (now (image .exit)) (now (out .exit)) ≡ harsolvekReceiverRequest state (now (image .entry)) (now (request .entry)) readiness verdict later (now (out .entry)) ⌝ }
 {
     if state.is_session() {
         let session = state.unpack();
@@ -117,7 +117,7 @@ pub extern "C" fn harsolvek_receiver_time(
     elapsed: u16,
     out: &mut [u8],
 ) -> ReceiverOutcome
-    ensures { λ r. ⌜ left r (now (out .exit)) ≡ timeOf state elapsed (now (out .entry)) ⌝ }
+    ensures { λ r. ⌜ left r (now (out .exit)) ≡ harsolvekReceiverTime state elapsed (now (out .entry)) ⌝ }
 {
     if state.is_session() {
         let session = state.unpack();
@@ -129,7 +129,7 @@ pub extern "C" fn harsolvek_receiver_time(
 
 #[no_mangle]
 pub extern "C" fn harsolvek_receiver_sum(state: FlatReceiver, image: &[u8]) -> ImageSum
-    ensures { λ r. ⌜ r ≡ sumOf state (now (image .entry)) ⌝ }
+    ensures { λ r. ⌜ r ≡ harsolvekReceiverSum state (now (image .entry)) ⌝ }
 {
     if state.is_session() {
         let session = state.unpack();

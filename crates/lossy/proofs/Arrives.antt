@@ -10,9 +10,9 @@ use lib.Dec.{eqb}
 use Rattle.basis.specs.Pick.{pick, pick-all}
 use Rattle.basis.specs.Left.{Left, left}
 use Rattle.receiver_state.specs.declared.verdict.Verdict.the-variants.{Good}
-use Rattle.receiver_rules.specs.Request.{requestOf}
+use Rattle.receiver_rules.specs.Request.{receiverRequestOf}
 use Rattle.receiver_rules.proofs.Written as receiver
-use Rattle.indoor_rules.specs.Response.{responseOf}
+use Rattle.indoor_rules.specs.Response.{indoorResponseOf}
 use Rattle.indoor_rules.proofs.Written as indoor
 use Rattle.line.specs.Line.{toReceiver, toIndoor}
 use Rattle.luck.specs.declared.way.Way.{Way}
@@ -24,12 +24,12 @@ use Rattle.luck.specs.declared.went.Missed.{Missed}
 use Rattle.lossy_ends.specs.declared.ends.Ends.{Ends}
 use Rattle.lossy.specs.declared.carry_call.Carried.{Carried}
 use Rattle.lossy_ends.specs.Both.{Both, both}
-use Rattle.luck.specs.Way.{way, nothing, messageOf, risesOf, nextOf, behindOf}
+use Rattle.luck.specs.Way.{way, noMessage, messageOnWay, risesOf, nextWay, behindOf}
 use Rattle.luck.specs.Luck.{fateOf, goesOf}
 use Rattle.luck.specs.Went.{missedOf}
 use Rattle.lossy.specs.Arrive.{requestArrives, responseArrives}
 use Rattle.lossy_ends.specs.Ends.{ends}
-use Rattle.lossy.specs.Carry.{missOf, askOf, tellOf, goOf, carryOf}
+use Rattle.lossy.specs.Carry.{missOf, carryRequestOf, carryResponseOf, goOf, carryOf}
 use Rattle.lossy_ends.specs.Over.{OnItsWay, Over}
 use Rattle.lossy_ends.proofs.Stays.{goes-on, above-goes, below-goes}
 
@@ -43,7 +43,7 @@ behind w buffer sent true o = o
 behind w buffer sent false o = inl refl
 
 -- A message that is there is one that was sent.
-arrived : (w : Way) (buffer : List ℕ) (sent : List (List ℕ)) → OnItsWay w buffer sent → 0 < w .bytes → List·Memᴰ (messageOf w buffer) sent
+arrived : (w : Way) (buffer : List ℕ) (sent : List (List ℕ)) → OnItsWay w buffer sent → 0 < w .bytes → List·Memᴰ (messageOnWay w buffer) sent
 arrived w buffer sent o some = ⊎-elim (λ none. absurd (omega (arith, none))) (λ h. h) o
 
 missing-arrives : (stays : Bool) → Missing ≡ Arrives stays → ⊥
@@ -62,27 +62,27 @@ module _ (file : List ℕ) (e : Ends) (image up down : List ℕ) (o : Over file 
   OverCarried x = Over file (x .answer .answer .ends) (x .memory) (x .answer .up) (x .answer .down)
 
   -- The request on its way has arrived.
-  ask-over : (luck : Luck) (fate : Fate) (stays : Bool) → 0 < e .up .bytes → OverCarried (askOf e (going luck true (e .up) fate) stays image up down)
+  ask-over : (luck : Luck) (fate : Fate) (stays : Bool) → 0 < e .up .bytes → OverCarried (carryRequestOf e (going luck true (e .up) fate) stays image up down)
   unfolding requestArrives
   ask-over luck fate stays some =
-      let request = messageOf (e .up) up in
-      let x = requestOf (e .receiver) image request 0 Good down in
+      let request = messageOnWay (e .up) up in
+      let x = receiverRequestOf (e .receiver) image request 0 Good down in
       above-goes file e image up down o (behindOf (e .up) stays) (behind (e .up) up (o .requests) stays (o .rising)) (x .outcome) (x .image) (x .out)
       (receiver.request-leads (e .receiver) image request 0 Good down)
       (toReceiver (o .reached) request (arrived (e .up) up (o .requests) (o .rising) some) image (inl refl) 0 Good down)
 
   -- The response on its way has arrived.
-  tell-over : (luck : Luck) (fate : Fate) (stays : Bool) → 0 < e .down .bytes → OverCarried (left (tellOf e (going luck false (e .down) fate) stays file up down) image)
+  tell-over : (luck : Luck) (fate : Fate) (stays : Bool) → 0 < e .down .bytes → OverCarried (left (carryResponseOf e (going luck false (e .down) fate) stays file up down) image)
   unfolding responseArrives
   tell-over luck fate stays some =
-      let response = messageOf (e .down) down in
-      let x = responseOf (e .indoor) file response up in
+      let response = messageOnWay (e .down) down in
+      let x = indoorResponseOf (e .indoor) file response up in
       below-goes file e image up down o (behindOf (e .down) stays) (behind (e .down) down (o .responses) stays (o .falling)) x
       (indoor.response-leads (e .indoor) file response up)
       (toIndoor (o .reached) response (arrived (e .down) down (o .responses) (o .falling) some) file (inl refl) up)
 
   abbrev next : Bool → Way
-  next rises = nextOf (e .up) (e .down) rises
+  next rises = nextWay (e .up) (e .down) rises
 
   arrive-over : (luck : Luck) (fate : Fate) (rises stays : Bool) → 0 < next rises .bytes
       → OverCarried (goOf (Arrives stays) e (going luck rises (next rises) fate) file image up down)
@@ -101,7 +101,7 @@ module _ (file : List ℕ) (e : Ends) (image up down : List ℕ) (o : Over file 
   unfolding missedOf
   miss-over g =
       pick-all OverMissed (eqb (g .way .bytes) 0) _ _ (λ _. stays-over (e .up) (e .down) (o .rising) (o .falling))
-      (λ _. pick-all OverMissed (g .rises) _ _ (λ _. stays-over nothing (e .down) (inl refl) (o .falling)) (λ _. stays-over (e .up) nothing (o .rising) (inl refl)))
+      (λ _. pick-all OverMissed (g .rises) _ _ (λ _. stays-over noMessage (e .down) (inl refl) (o .falling)) (λ _. stays-over (e .up) noMessage (o .rising) (inl refl)))
 
   go-over : (luck : Luck) (then fate : Fate) (rises : Bool) → ((stays : Bool) → fate ≡ Arrives stays → 0 < next rises .bytes)
       → OverCarried (goOf fate e (going luck rises (next rises) then) file image up down)

@@ -28,20 +28,20 @@ carried e g went = record { ends = e; luck = g .luck; rises = g .rises; way = g 
 abbrev pub roseOf : Ends → Going → Bool → Roof → Carried
 roseOf e g stays x = carried (roofEnds e (behindOf (g .way) stays) x) g (Arrived (x .answered))
 
-abbrev pub askedOf : Ends → Going → Bool → List ℕ → Left (Left Roof) → Left (Both Carried)
-askedOf e g stays up x = left (both (roseOf e g stays (x .answer .answer)) up (x .answer .memory)) (x .memory)
+abbrev pub requestCarriedOf : Ends → Going → Bool → List ℕ → Left (Left Roof) → Left (Both Carried)
+requestCarriedOf e g stays up x = left (both (roseOf e g stays (x .answer .answer)) up (x .answer .memory)) (x .memory)
 
-abbrev pub askOf : Ends → Going → Bool → List ℕ → List ℕ → List ℕ → Left (Both Carried)
-askOf e g stays image up down = askedOf e g stays up (requestArrives (e .receiver) (g .way) (e .down) image up down)
+abbrev pub carryRequestOf : Ends → Going → Bool → List ℕ → List ℕ → List ℕ → Left (Both Carried)
+carryRequestOf e g stays image up down = requestCarriedOf e g stays up (requestArrives (e .receiver) (g .way) (e .down) image up down)
 
 abbrev pub fellOf : Ends → Going → Bool → Indoors → Carried
 fellOf e g stays x = carried (indoorEnds e (behindOf (g .way) stays) x) g (Arrived (x .answered))
 
-abbrev pub toldOf : Ends → Going → Bool → List ℕ → Left Indoors → Both Carried
-toldOf e g stays down x = both (fellOf e g stays (x .answer)) (x .memory) down
+abbrev pub responseCarriedOf : Ends → Going → Bool → List ℕ → Left Indoors → Both Carried
+responseCarriedOf e g stays down x = both (fellOf e g stays (x .answer)) (x .memory) down
 
-abbrev pub tellOf : Ends → Going → Bool → List ℕ → List ℕ → List ℕ → Both Carried
-tellOf e g stays file up down = toldOf e g stays down (responseArrives (e .indoor) (g .way) (e .up) file up down)
+abbrev pub carryResponseOf : Ends → Going → Bool → List ℕ → List ℕ → List ℕ → Both Carried
+carryResponseOf e g stays file up down = responseCarriedOf e g stays down (responseArrives (e .indoor) (g .way) (e .up) file up down)
 
 -- Nothing was on its way, or it is lost.
 unfoldable pub missOf : Ends → Going → Carried
@@ -49,7 +49,7 @@ missOf e g = let m = missedOf g (e .up) (e .down) in carried (ends (e .receiver)
 
 unfoldable pub goOf : Fate → Ends → Going → List ℕ → List ℕ → List ℕ → List ℕ → Left (Both Carried)
 goOf Missing e g file image up down = left (both (missOf e g) up down) image
-goOf (Arrives stays) e g file image up down = pick (g .rises) (askOf e g stays image up down) (left (tellOf e g stays file up down) image)
+goOf (Arrives stays) e g file image up down = pick (g .rises) (carryRequestOf e g stays image up down) (left (carryResponseOf e g stays file up down) image)
 
 unfoldable pub carryOf : Ends → Luck → List ℕ → List ℕ → List ℕ → List ℕ → Left (Both Carried)
 carryOf e luck file image up down =

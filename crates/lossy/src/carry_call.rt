@@ -12,7 +12,7 @@ ghost use mathlib.Core.Path.{_≡_};
 ghost use Rattle.basis.specs.Left.{left};
 ghost use Rattle.lossy_ends.specs.Both.{both};
 ghost use Rattle.lossy_ends.specs.Ends.{ends as endsOf};
-ghost use Rattle.lossy.specs.Carry.{carried, carryOf, missOf, askOf, tellOf};
+ghost use Rattle.lossy.specs.Carry.{carried, carryOf, missOf, carryRequestOf, carryResponseOf};
 
 // `rises` says whether it is the request that went, `way` which part of its buffer that was, and `luck` is what the next message goes by.
 pub struct Carried {
@@ -69,7 +69,7 @@ fn ask(
     up: &[u8],
     down: &mut [u8],
 ) -> Carried
-    ensures { λ r. ⌜ left (both r (now (up .entry)) (now (down .exit))) (now (image .exit)) ≡ askOf ends going stays (now (image .entry)) (now (up .entry)) (now (down .entry)) ⌝ }
+    ensures { λ r. ⌜ left (both r (now (up .entry)) (now (down .exit))) (now (image .exit)) ≡ carryRequestOf ends going stays (now (image .entry)) (now (up .entry)) (now (down .entry)) ⌝ }
 {
     let way = going.way;
     let roof = arrive::request(ends.receiver, way, ends.down, image, up, down);
@@ -86,7 +86,7 @@ fn ask(
 
 // The response arrives.
 fn tell(ends: Ends, going: Going, stays: bool, file: &[u8], up: &mut [u8], down: &[u8]) -> Carried
-    ensures { λ r. ⌜ both r (now (up .exit)) (now (down .entry)) ≡ tellOf ends going stays (now (file .entry)) (now (up .entry)) (now (down .entry)) ⌝ }
+    ensures { λ r. ⌜ both r (now (up .exit)) (now (down .entry)) ≡ carryResponseOf ends going stays (now (file .entry)) (now (up .entry)) (now (down .entry)) ⌝ }
 {
     let way = going.way;
     let indoors = arrive::response(ends.indoor, way, ends.up, file, up, down);

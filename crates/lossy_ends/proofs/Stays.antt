@@ -10,15 +10,15 @@ use lib.Dec.{eqb}
 use lib.ListN.{length, take}
 use Rattle.basis.specs.Pick.{pick}
 use Rattle.basis.specs.Left.{Left}
-use Rattle.lent.specs.Led.{led}
+use Rattle.lent.specs.Led.{writtenInto}
 use Rattle.lent.specs.Sent.{withSent}
 use Rattle.receiver_state.specs.Phase.{acceptedOf}
 use Rattle.receiver_state.specs.declared.phase.Phase.{Phase}
-use Rattle.receiver_rules.specs.Respond.{bytesOf as receiverBytesOf}
+use Rattle.receiver_rules.specs.Respond.{receiverBytesOf}
 use Rattle.receiver_state.specs.declared.session.Outcome.{Outcome as ReceiverOutcome}
 use Rattle.receiver_rules.proofs.Written as receiver
 use Rattle.indoor_state.specs.declared.phase.Phase.the-variants.{Done}
-use Rattle.indoor_rules.specs.Send.{bytesOf as indoorBytesOf}
+use Rattle.indoor_rules.specs.Send.{indoorBytesOf}
 use Rattle.indoor_state.specs.declared.session.Outcome.{Outcome as IndoorOutcome}
 use Rattle.indoor_rules.proofs.Written as indoor
 use Rattle.line.specs.Line.{Reached}
@@ -27,11 +27,11 @@ use Rattle.luck.specs.declared.way.Way.{Way}
 use Rattle.lossy_ends.specs.declared.ends.Ends.{Ends}
 use Rattle.luck.specs.Way.{way, afterOf}
 use Rattle.lossy_ends.specs.Ends.{ends}
-use Rattle.lossy_ends.specs.Over.{world, OnItsWay, Over, Same}
+use Rattle.lossy_ends.specs.Over.{lossyWorld, OnItsWay, Over, Same}
 
 module _ (w : Way) (out : List ℕ) (sent : List (List ℕ)) (o : OnItsWay w out sent) (bytes out′ : List ℕ) (written : ℕ)
-    (first : out′ ≡ led bytes out) (count : written ≡ length bytes) where
-  unwritten : (s : List ℕ) → out′ ≡ led s out → written ≡ length s → written ≡ 0 → out′ ≡ out
+    (first : out′ ≡ writtenInto bytes out) (count : written ≡ length bytes) where
+  unwritten : (s : List ℕ) → out′ ≡ writtenInto s out → written ≡ length s → written ≡ 0 → out′ ≡ out
   unwritten [] f n z = f
   unwritten (x ∷ s) f n z = absurd (omega (arith, n, z))
 
@@ -47,7 +47,7 @@ module _ (w : Way) (out : List ℕ) (sent : List (List ℕ)) (o : OnItsWay w out
 module _ (file : List ℕ) (e : Ends) (image up down : List ℕ) (o : Over file e image up down) where
   -- The session goes on with these ends and what they sent.
   pub goes-on : (e′ : Ends) (image′ up′ down′ : List ℕ) (requests responses : List (List ℕ))
-      → Reached file (o .memory) (o .release) (o .identity) (world e′ image′ requests responses)
+      → Reached file (o .memory) (o .release) (o .identity) (lossyWorld e′ image′ requests responses)
       → OnItsWay (e′ .up) up′ requests → OnItsWay (e′ .down) down′ responses → Over file e′ image′ up′ down′
   goes-on e′ image′ up′ down′ requests responses reached rising falling = record {
     memory = o .memory;
@@ -64,25 +64,25 @@ module _ (file : List ℕ) (e : Ends) (image up down : List ℕ) (o : Over file 
   -- The receiver has written what its answer says, and so has the indoor end.
   pub above-goes : (rising : Way) → OnItsWay rising up (o .requests) → (x : ReceiverOutcome) (image′ down′ : List ℕ) → receiver.Leads (e .receiver) down x down′
       → Reached file (o .memory) (o .release) (o .identity)
-      (world (ends (x .state) (e .indoor) rising (afterOf (e .down) (x .written))) image′ (o .requests) (withSent (x .written) down′ (o .responses)))
-      → Over file (ends (x .state) (e .indoor) rising (afterOf (e .down) (x .written))) image′ up down′
+      (lossyWorld (ends (x .session) (e .indoor) rising (afterOf (e .down) (x .written))) image′ (o .requests) (withSent (x .written) down′ (o .responses)))
+      → Over file (ends (x .session) (e .indoor) rising (afterOf (e .down) (x .written))) image′ up down′
   above-goes rising on x image′ down′ l reached =
-      goes-on (ends (x .state) (e .indoor) rising (afterOf (e .down) (x .written))) image′ up down′ (o .requests) (withSent (x .written) down′ (o .responses)) reached on
+      goes-on (ends (x .session) (e .indoor) rising (afterOf (e .down) (x .written))) image′ up down′ (o .requests) (withSent (x .written) down′ (o .responses)) reached on
       (after (e .down) down (o .responses) (o .falling) (receiverBytesOf (e .receiver) (x .answer)) down′ (x .written) (l .first) (l .written))
 
   pub below-goes : (falling : Way) → OnItsWay falling down (o .responses) → (x : Left IndoorOutcome) → indoor.Leads (e .indoor .plan) file up x
       → Reached file (o .memory) (o .release) (o .identity)
-      (world (ends (e .receiver) (x .answer .state) (afterOf (e .up) (x .answer .written)) falling) image (withSent (x .answer .written) (x .memory) (o .requests)) (o .responses))
-      → Over file (ends (e .receiver) (x .answer .state) (afterOf (e .up) (x .answer .written)) falling) image (x .memory) down
+      (lossyWorld (ends (e .receiver) (x .answer .session) (afterOf (e .up) (x .answer .written)) falling) image (withSent (x .answer .written) (x .memory) (o .requests)) (o .responses))
+      → Over file (ends (e .receiver) (x .answer .session) (afterOf (e .up) (x .answer .written)) falling) image (x .memory) down
   below-goes falling on x l reached =
-      goes-on (ends (e .receiver) (x .answer .state) (afterOf (e .up) (x .answer .written)) falling) image (x .memory) down
+      goes-on (ends (e .receiver) (x .answer .session) (afterOf (e .up) (x .answer .written)) falling) image (x .memory) down
       (withSent (x .answer .written) (x .memory) (o .requests)) (o .responses) reached
       (after (e .up) up (o .requests) (o .rising) (indoorBytesOf (e .indoor .plan) file (x .answer .answer)) (x .memory) (x .answer .written) (l .first) (l .written))
       on
 
   -- Demand 3: when the indoor end reports done, the receiver's image is the file.
-  pub done-holds : e .indoor .stand .phase ≡ Done → Same file e image
+  pub done-holds : e .indoor .state .phase ≡ Done → Same file e image
   done-holds done =
       let d = demand3 file (o .memory) (o .release) (o .identity) (o .wide) in
-      let g = d .doneIsGood (world e image (o .requests) (o .responses)) (o .reached) done in
+      let g = d .doneIsGood (lossyWorld e image (o .requests) (o .responses)) (o .reached) done in
       (ap (λ (p : Phase). acceptedOf p .bytes) (g .good) ∙ g .holds .counted, g .holds .bytes)

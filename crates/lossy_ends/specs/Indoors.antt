@@ -1,6 +1,6 @@
 -- What a call of the indoor end makes of it and of what is on its way up.
 use Rattle.basis.specs.Left.{Left, left}
-use Rattle.indoor_state.specs.Answer.{numberOf}
+use Rattle.indoor_state.specs.Answer.{indoorNumberOf}
 use Rattle.indoor_state.specs.declared.session.Outcome.{Outcome}
 use Rattle.luck.specs.Way.{afterOf}
 use Rattle.luck.specs.Called.{answeredOf}
@@ -9,9 +9,9 @@ use Rattle.lossy_ends.specs.declared.indoors.Indoors.{Indoors}
 
 abbrev pub indoorsOf : Outcome → Way → Indoors
 indoorsOf x rising = record {
-  indoor = x .state;
+  indoor = x .session;
   up = afterOf rising (x .written);
-  answered = answeredOf (numberOf (x .answer)) rising (x .written);
+  answered = answeredOf (indoorNumberOf (x .answer)) rising (x .written);
 }
 
 -- With the buffer that was lent for it.

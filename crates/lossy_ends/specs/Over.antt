@@ -8,16 +8,16 @@ use Rattle.wire.specs.declared.response.Identity.{Identity}
 use Rattle.receiver_state.specs.Phase.{acceptedOf}
 use Rattle.indoor_state.specs.declared.plan.Release.{Release}
 use Rattle.line.specs.Line.{World, Wide, Reached}
-use Rattle.luck.specs.Way.{messageOf}
+use Rattle.luck.specs.Way.{messageOnWay}
 use Rattle.luck.specs.declared.way.Way.{Way}
 use Rattle.lossy_ends.specs.declared.ends.Ends.{Ends}
 
-abbrev pub world : Ends → List ℕ → List (List ℕ) → List (List ℕ) → World
-world e image requests responses = record { receiver = e .receiver; indoor = e .indoor; image = image; requests = requests; responses = responses }
+abbrev pub lossyWorld : Ends → List ℕ → List (List ℕ) → List (List ℕ) → World
+lossyWorld e image requests responses = record { receiver = e .receiver; indoor = e .indoor; image = image; requests = requests; responses = responses }
 
 -- Nothing is on its way, or a message that was sent; the line adds none and alters none.
 abbrev pub OnItsWay : Way → List ℕ → List (List ℕ) → Type 0
-OnItsWay w buffer sent = (w .bytes ≡ 0) ⊎ List·Memᴰ (messageOf w buffer) sent
+OnItsWay w buffer sent = (w .bytes ≡ 0) ⊎ List·Memᴰ (messageOnWay w buffer) sent
 
 pub record Over (file : List ℕ) (e : Ends) (image up down : List ℕ) : Type 0 where
   pub memory : List ℕ
@@ -26,7 +26,7 @@ pub record Over (file : List ℕ) (e : Ends) (image up down : List ℕ) : Type 0
   pub wide : Wide release identity
   pub requests : List (List ℕ)
   pub responses : List (List ℕ)
-  pub reached : Reached file memory release identity (world e image requests responses)
+  pub reached : Reached file memory release identity (lossyWorld e image requests responses)
   pub rising : OnItsWay (e .up) up requests
   pub falling : OnItsWay (e .down) down responses
 

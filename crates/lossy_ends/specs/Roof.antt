@@ -1,5 +1,5 @@
 -- What a call of the receiver makes of it and of what is on its way down.
-use Rattle.receiver_state.specs.Answer.{numberOf}
+use Rattle.receiver_state.specs.Answer.{receiverNumberOf}
 use Rattle.receiver_state.specs.declared.session.Outcome.{Outcome}
 use Rattle.luck.specs.Way.{afterOf}
 use Rattle.luck.specs.Called.{answeredOf}
@@ -8,7 +8,7 @@ use Rattle.lossy_ends.specs.declared.roof.Roof.{Roof}
 
 abbrev pub roofOf : Outcome → Way → Roof
 roofOf x falling = record {
-  receiver = x .state;
+  receiver = x .session;
   down = afterOf falling (x .written);
-  answered = answeredOf (numberOf (x .answer)) falling (x .written);
+  answered = answeredOf (receiverNumberOf (x .answer)) falling (x .written);
 }

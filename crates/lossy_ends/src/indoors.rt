@@ -16,7 +16,7 @@ pub struct Indoors {
 pub fn indoor_called(heard: Outcome, rising: Way) -> Indoors
     ensures { λ r. ⌜ r ≡ indoorsOf heard rising ⌝ }
 {
-    let indoor = heard.state;
+    let indoor = heard.session;
     let answer = heard.answer;
     let number = indoor_decide::answer_number(answer);
     Indoors {

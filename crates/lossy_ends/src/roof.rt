@@ -16,7 +16,7 @@ pub struct Roof {
 pub fn roof_called(heard: Outcome, falling: Way) -> Roof
     ensures { λ r. ⌜ r ≡ roofOf heard falling ⌝ }
 {
-    let receiver = heard.state;
+    let receiver = heard.session;
     let answer = heard.answer;
     let number = receiver_decide::answer_number(answer);
     Roof {

@@ -11,7 +11,7 @@ use Rattle.receiver_state.specs.Phase.{acceptedOf}
 use Rattle.indoor_state.specs.declared.phase.Phase.{Phase}
 use Rattle.indoor_state.specs.declared.phase.Phase.the-variants.{Identify, Initiate, Transfer, Validate, Done, Failed}
 use Rattle.lossy_ends.specs.declared.ends.Ends.{Ends}
-use Rattle.lossy_session.specs.Judge.{doneOf, equalOf, sameOf, judgeOf}
+use Rattle.lossy_session.specs.Judge.{reportsDone, equalOf, sameOf, sessionJudgedOf}
 use Rattle.lossy_ends.specs.Over.{Over, Same}
 use Rattle.lossy_ends.proofs.Stays.{done-holds}
 
@@ -56,7 +56,7 @@ either false false f g = refl
 pub tells : (accepted : ℕ) (image file : List ℕ) (r : Bool) → (r ≡ true → Sames accepted image file) → (Sames accepted image file → r ≡ true) → r ≡ sameOf accepted image file
 tells accepted image file r f g = either r (sameOf accepted image file) (λ e. true-same accepted image file (f e)) (λ e. g (same-true accepted image file e))
 
-reports : (phase : Phase) → doneOf phase ≡ true → phase ≡ Done
+reports : (phase : Phase) → reportsDone phase ≡ true → phase ≡ Done
 reports Identify e = absurd (true≢false (sym e))
 reports (Initiate wait) e = absurd (true≢false (sym e))
 reports (Transfer p) e = absurd (true≢false (sym e))
@@ -65,14 +65,14 @@ reports Done e = refl
 reports (Failed reason) e = absurd (true≢false (sym e))
 
 module _ (file : List ℕ) (e : Ends) (image : List ℕ) where
-  pub judge-same : judgeOf e file image .same ≡ true → Same file e image
+  pub judge-same : sessionJudgedOf e file image .same ≡ true → Same file e image
   judge-same = same-true (acceptedOf (e .receiver .phase) .bytes) image file
 
-  pub same-judge : Same file e image → judgeOf e file image .same ≡ true
+  pub same-judge : Same file e image → sessionJudgedOf e file image .same ≡ true
   same-judge = true-same (acceptedOf (e .receiver .phase) .bytes) image file
 
-  pub judge-done : (e .indoor .stand .phase ≡ Done → Same file e image) → judgeOf e file image .done ≡ true → judgeOf e file image .same ≡ true
-  judge-done holds done = same-judge (holds (reports (e .indoor .stand .phase) done))
+  pub judge-done : (e .indoor .state .phase ≡ Done → Same file e image) → sessionJudgedOf e file image .done ≡ true → sessionJudgedOf e file image .same ≡ true
+  judge-done holds done = same-judge (holds (reports (e .indoor .state .phase) done))
 
-  pub judge-over : (up down : List ℕ) → Over file e image up down → judgeOf e file image .done ≡ true → judgeOf e file image .same ≡ true
+  pub judge-over : (up down : List ℕ) → Over file e image up down → sessionJudgedOf e file image .done ≡ true → sessionJudgedOf e file image .same ≡ true
   judge-over up down o = judge-done (done-holds file e image up down o)

@@ -3,9 +3,9 @@ use Prim.Native.Nat.{ℕ}
 use mathlib.Core.Logic.{inl}
 use mathlib.Core.Path.{_≡_, refl, sym, subst}
 use mathlib.Core.List.{List}
-use Rattle.receiver_rules.specs.Time.{timeOf as receiverTimeOf}
+use Rattle.receiver_rules.specs.Time.{receiverTimeOf}
 use Rattle.receiver_rules.proofs.Written as receiver
-use Rattle.indoor_rules.specs.Time.{timeOf as indoorTimeOf}
+use Rattle.indoor_rules.specs.Time.{indoorTimeOf}
 use Rattle.indoor_rules.proofs.Written as indoor
 use Rattle.line.specs.Line.{atReceiver, atIndoor}
 use Rattle.lossy_session.specs.Clock.{roofPasses, indoorPasses}
@@ -14,7 +14,7 @@ use Rattle.lossy_ends.specs.Ends.{roofEnds, indoorEnds}
 use Rattle.lossy_ends.specs.Over.{Over}
 use Rattle.lossy_ends.specs.declared.ends.Ends.{Ends}
 use Rattle.lossy_ends.proofs.Stays.{above-goes, below-goes}
-use Rattle.lossy_session.specs.Pass.{passOf}
+use Rattle.lossy_session.specs.Pass.{bothPassOf}
 use Rattle.lossy_session.specs.declared.pass_call.Passed.{Passed}
 
 module _ (file : List ℕ) (e : Ends) (image up down : List ℕ) (o : Over file e image up down) where
@@ -33,8 +33,8 @@ module _ (file : List ℕ) (e : Ends) (image up down : List ℕ) (o : Over file 
       below-goes file e image up down o (e .down) (o .falling) x (indoor.time-leads (e .indoor) file elapsed up) (atIndoor (o .reached) file (inl refl) elapsed up)
 
 pub pass-over : (file : List ℕ) (e : Ends) (image up down : List ℕ) → Over file e image up down
-    → (elapsed : ℕ) (r : Passed) (up′ down′ : List ℕ) → both r up′ down′ ≡ passOf e elapsed file up down → Over file (r .ends) image up′ down′
-unfolding passOf
+    → (elapsed : ℕ) (r : Passed) (up′ down′ : List ℕ) → both r up′ down′ ≡ bothPassOf e elapsed file up down → Over file (r .ends) image up′ down′
+unfolding bothPassOf
 pass-over file e image up down o elapsed r up′ down′ did =
     let x = roofPasses (e .receiver) elapsed (e .down) down in
     subst (λ (b : Both Passed). Over file (b .answer .ends) image (b .up) (b .down)) (sym did)

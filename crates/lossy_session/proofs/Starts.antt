@@ -9,12 +9,12 @@ use denote.Enum.Declared.{tagOf}
 use types.Run.{OneOf, miss}
 use Rattle.basis.specs.Left.{left, answers, leaves}
 use Rattle.wire.specs.declared.response.Identity.{Identity}
-use Rattle.receiver_rules.specs.Session.{startOf as receiverStartOf}
+use Rattle.receiver_rules.specs.Session.{receiverStartOf}
 use Rattle.receiver_state.specs.declared.session.Receiver.{Receiver}
 use Rattle.receiver_state.specs.declared.session.Started as Rec
 use Rattle.receiver_state.specs.declared.session.Started.the-variants as RecStarted
-use Rattle.indoor_rules.specs.Start.{startOf as indoorStartOf}
-use Rattle.indoor_state.specs.Session.{numberOf}
+use Rattle.indoor_rules.specs.Start.{indoorStartOf}
+use Rattle.indoor_state.specs.Session.{indoorStartNumberOf}
 use Rattle.indoor_state.proofs.session.Started.{the-type}
 use Rattle.indoor_state.specs.declared.plan.Release.{Release}
 use Rattle.indoor_state.specs.declared.session.Started as Ind
@@ -23,15 +23,15 @@ use Rattle.line.specs.Line.{Wide, begins}
 use Rattle.lossy_ends.specs.declared.ends.Ends.{Ends}
 use Rattle.lossy_session.specs.declared.start_call.Limits.{Limits}
 use Rattle.lossy_session.specs.declared.start_call.Started.the-variants.{Made, Refused}
-use Rattle.luck.specs.Way.{nothing, sentOf}
+use Rattle.luck.specs.Way.{noMessage, wayOf}
 use Rattle.lossy_ends.specs.Ends.{ends}
-use Rattle.lossy_session.specs.Start.{joinedOf, madeOf, startOf}
-use Rattle.lossy_ends.specs.Over.{world, Over}
+use Rattle.lossy_session.specs.Start.{joinedOf, bothMadeOf, bothStartOf}
+use Rattle.lossy_ends.specs.Over.{lossyWorld, Over}
 
 -- A start that was refused has the number of its refusal.
-pub not-made : (r : Receiver) (x : Ind.Started) → OneOf (1 ∷ 2 ∷ 3 ∷ []) (tagOf the-type x) → Refused (numberOf x) ≡ joinedOf r x
+pub not-made : (r : Receiver) (x : Ind.Started) → OneOf (1 ∷ 2 ∷ 3 ∷ []) (tagOf the-type x) → Refused (indoorStartNumberOf x) ≡ joinedOf r x
 unfolding joinedOf
-not-made r (IndStarted.Made state written) h = absurd (miss (1 ∷ 2 ∷ 3 ∷ []) 0 tt h)
+not-made r (IndStarted.Made session written) h = absurd (miss (1 ∷ 2 ∷ 3 ∷ []) 0 tt h)
 not-made r IndStarted.Settings h = refl
 not-made r IndStarted.FileSize h = refl
 not-made r IndStarted.BufferShort h = refl
@@ -49,7 +49,7 @@ module _ (roof indoors : Limits) (identity : Identity) (release : Release) (file
   module _ (r : Receiver) (made : receiverStartOf (roof .silence) (roof .resends) identity (length memory) ≡ RecStarted.Made r) where
     started-over : (x : Ind.Started) → indoorStartOf (indoors .silence) (indoors .resends) release file up ≡ left x up′ → Made e ≡ joinedOf r x → Goes
     unfolding joinedOf
-    started-over (IndStarted.Made state written) started is =
+    started-over (IndStarted.Made session written) started is =
         subst (λ (a : Ends). Over file a memory up′ down) (sym (made-same _ _ is))
         (record {
           memory = memory;
@@ -59,7 +59,7 @@ module _ (roof indoors : Limits) (identity : Identity) (release : Release) (file
           requests = take written up′ ∷ [];
           responses = [];
           reached = begins (roof .silence) (roof .resends) (indoors .silence) (indoors .resends)
-              (world (ends r state (sentOf written) nothing) memory (take written up′ ∷ []) [])
+              (lossyWorld (ends r session (wayOf written) noMessage) memory (take written up′ ∷ []) [])
               (record { receiver = made; out = up; written = written; out′ = up′; indoor = started; image = refl; requests = refl; responses = refl });
           rising = inr (List·Memᴰ·head refl);
           falling = inl refl;
@@ -68,12 +68,12 @@ module _ (roof indoors : Limits) (identity : Identity) (release : Release) (file
     started-over IndStarted.FileSize started is = absurd (made-refused e 46 is)
     started-over IndStarted.BufferShort started is = absurd (made-refused e 27 is)
 
-  made-over : (x : Rec.Started) → receiverStartOf (roof .silence) (roof .resends) identity (length memory) ≡ x → left (Made e) up′ ≡ madeOf x indoors release file up → Goes
-  unfolding madeOf
+  made-over : (x : Rec.Started) → receiverStartOf (roof .silence) (roof .resends) identity (length memory) ≡ x → left (Made e) up′ ≡ bothMadeOf x indoors release file up → Goes
+  unfolding bothMadeOf
   made-over (RecStarted.Made r) made did =
       let x = indoorStartOf (indoors .silence) (indoors .resends) release file up in
       started-over r made (x .answer) (subst (λ (m : List ℕ). x ≡ left (x .answer) m) (sym (leaves did)) refl) (answers did)
   made-over RecStarted.Refused made did = absurd (made-refused e 29 (answers did))
 
-  pub start-over : left (Made e) up′ ≡ startOf roof indoors identity release file (length memory) up → Goes
+  pub start-over : left (Made e) up′ ≡ bothStartOf roof indoors identity release file (length memory) up → Goes
   start-over = made-over (receiverStartOf (roof .silence) (roof .resends) identity (length memory)) refl

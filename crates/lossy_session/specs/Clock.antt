@@ -4,9 +4,9 @@ use mathlib.Core.List.{List}
 use Rattle.basis.specs.Left.{Left, left}
 use Rattle.receiver_state.specs.declared.session.Receiver.{Receiver}
 use Rattle.receiver_state.specs.declared.session.Outcome.{Outcome}
-use Rattle.receiver_rules.specs.Time.{timeOf as receiverTimeOf}
+use Rattle.receiver_rules.specs.Time.{receiverTimeOf}
 use Rattle.indoor_state.specs.declared.session.Indoor.{Indoor}
-use Rattle.indoor_rules.specs.Time.{timeOf as indoorTimeOf}
+use Rattle.indoor_rules.specs.Time.{indoorTimeOf}
 use Rattle.luck.specs.declared.way.Way.{Way}
 use Rattle.lossy_ends.specs.Roof.{roofOf}
 use Rattle.lossy_ends.specs.Indoors.{indoorsLeft}

@@ -12,13 +12,13 @@ use Rattle.lossy_ends.specs.declared.ends.Ends.{Ends}
 use Rattle.lossy_session.specs.declared.judge_call.Judged.{Judged}
 
 -- The indoor end reports done.
-abbrev pub doneOf : Phase → Bool
-doneOf Identify = false
-doneOf (Initiate wait) = false
-doneOf (Transfer p) = false
-doneOf (Validate wait) = false
-doneOf Done = true
-doneOf (Failed reason) = false
+abbrev pub reportsDone : Phase → Bool
+reportsDone Identify = false
+reportsDone (Initiate wait) = false
+reportsDone (Transfer p) = false
+reportsDone (Validate wait) = false
+reportsDone Done = true
+reportsDone (Failed reason) = false
 
 unfoldable pub equalOf : List ℕ → List ℕ → Bool
 equalOf [] [] = true
@@ -30,8 +30,8 @@ equalOf (x ∷ a) (y ∷ b) = pick (eqb x y) (equalOf a b) false
 unfoldable pub sameOf : ℕ → List ℕ → List ℕ → Bool
 sameOf accepted image file = pick (eqb accepted (length file)) (equalOf (take (length file) image) file) false
 
-abbrev pub judgeOf : Ends → List ℕ → List ℕ → Judged
-judgeOf e file image = record {
-  done = doneOf (e .indoor .stand .phase);
+abbrev pub sessionJudgedOf : Ends → List ℕ → List ℕ → Judged
+sessionJudgedOf e file image = record {
+  done = reportsDone (e .indoor .state .phase);
   same = sameOf (acceptedOf (e .receiver .phase) .bytes) image file;
 }

@@ -9,11 +9,11 @@ use Rattle.lossy_ends.specs.Ends.{ends}
 use Rattle.lossy_ends.specs.declared.ends.Ends.{Ends}
 use Rattle.lossy_session.specs.declared.pass_call.Passed.{Passed}
 
-abbrev pub passedOf : Roof → Indoors → Passed
-passedOf x y = record { ends = ends (x .receiver) (y .indoor) (y .up) (x .down); above = x .answered; below = y .answered }
+abbrev pub bothPassedOf : Roof → Indoors → Passed
+bothPassedOf x y = record { ends = ends (x .receiver) (y .indoor) (y .up) (x .down); above = x .answered; below = y .answered }
 
-unfoldable pub passOf : Ends → ℕ → List ℕ → List ℕ → List ℕ → Both Passed
-passOf e elapsed file up down =
+unfoldable pub bothPassOf : Ends → ℕ → List ℕ → List ℕ → List ℕ → Both Passed
+bothPassOf e elapsed file up down =
     let x = roofPasses (e .receiver) elapsed (e .down) down in
     let y = indoorPasses (e .indoor) elapsed (e .up) file up in
-    both (passedOf (x .answer) (y .answer)) (y .memory) (x .memory)
+    both (bothPassedOf (x .answer) (y .answer)) (y .memory) (x .memory)

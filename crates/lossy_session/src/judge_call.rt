@@ -4,7 +4,7 @@ use lossy_ends::Ends;
 use receiver_state::session::Receiver;
 ghost use mathlib.Core.Path.{_≡_};
 ghost use Rattle.receiver_state.specs.Phase.{acceptedOf};
-ghost use Rattle.lossy_session.specs.Judge.{doneOf, sameOf, judgeOf};
+ghost use Rattle.lossy_session.specs.Judge.{reportsDone, sameOf, sessionJudgedOf};
 
 // `done` is what the indoor end reports, and `same` what the receiver holds.
 pub struct Judged {
@@ -13,10 +13,10 @@ pub struct Judged {
 }
 
 pub fn judge(ends: Ends, file: &[u8], image: &[u8]) -> Judged
-    ensures { λ r. ⌜ r ≡ judgeOf ends (now (file .entry)) (now (image .entry)) ⌝ }
+    ensures { λ r. ⌜ r ≡ sessionJudgedOf ends (now (file .entry)) (now (image .entry)) ⌝ }
 {
-    let stand = ends.indoor.stand;
-    let phase = stand.phase;
+    let state = ends.indoor.state;
+    let phase = state.phase;
     Judged {
         done: done(phase),
         same: same(accepted(ends.receiver), image, file),
@@ -32,7 +32,7 @@ fn accepted(receiver: Receiver) -> u32
 }
 
 fn done(phase: Phase) -> bool
-    ensures { λ r. ⌜ r ≡ doneOf phase ⌝ }
+    ensures { λ r. ⌜ r ≡ reportsDone phase ⌝ }
 {
     match phase {
         Phase::Done => true,

@@ -6,7 +6,7 @@ use lossy_ends::Roof;
 use luck::Answered;
 ghost use mathlib.Core.Path.{_≡_};
 ghost use Rattle.lossy_ends.specs.Both.{both};
-ghost use Rattle.lossy_session.specs.Pass.{passedOf, passOf};
+ghost use Rattle.lossy_session.specs.Pass.{bothPassedOf, bothPassOf};
 
 pub struct Passed {
     pub ends: Ends,
@@ -15,7 +15,7 @@ pub struct Passed {
 }
 
 pub fn pass(ends: Ends, elapsed: u16, file: &[u8], up: &mut [u8], down: &mut [u8]) -> Passed
-    ensures { λ r. ⌜ both r (now (up .exit)) (now (down .exit)) ≡ passOf ends elapsed (now (file .entry)) (now (up .entry)) (now (down .entry)) ⌝ }
+    ensures { λ r. ⌜ both r (now (up .exit)) (now (down .exit)) ≡ bothPassOf ends elapsed (now (file .entry)) (now (up .entry)) (now (down .entry)) ⌝ }
 {
     let roof = clock::roof_time(ends.receiver, elapsed, ends.down, down);
     let indoors = clock::indoor_time(ends.indoor, elapsed, ends.up, file, up);
@@ -23,7 +23,7 @@ pub fn pass(ends: Ends, elapsed: u16, file: &[u8], up: &mut [u8], down: &mut [u8
 }
 
 fn outcome(roof: Roof, indoors: Indoors) -> Passed
-    ensures { λ r. ⌜ r ≡ passedOf roof indoors ⌝ }
+    ensures { λ r. ⌜ r ≡ bothPassedOf roof indoors ⌝ }
 {
     let receiver = roof.receiver;
     let indoor = indoors.indoor;

@@ -8,7 +8,7 @@ use receiver_state::session::Started as Made;
 use wire::response::Identity;
 ghost use mathlib.Core.Path.{_≡_};
 ghost use Rattle.basis.specs.Left.{left};
-ghost use Rattle.lossy_session.specs.Start.{startOf, beginOf, joinedOf};
+ghost use Rattle.lossy_session.specs.Start.{bothStartOf, bothBeginOf, joinedOf};
 
 // An end's silence limit in milliseconds and its resends, not yet tested (29).
 pub struct Limits {
@@ -32,7 +32,7 @@ pub fn start(
     capacity: usize,
     up: &mut [u8],
 ) -> Started
-    ensures { λ r. ⌜ left r (now (up .exit)) ≡ startOf roof indoors identity release (now (file .entry)) capacity (now (up .entry)) ⌝ }
+    ensures { λ r. ⌜ left r (now (up .exit)) ≡ bothStartOf roof indoors identity release (now (file .entry)) capacity (now (up .entry)) ⌝ }
 {
     let made = receiver::start(roof.silence, roof.resends, identity, capacity);
     let number = receiver::started_number(made);
@@ -49,7 +49,7 @@ fn begin(
     file: &[u8],
     up: &mut [u8],
 ) -> Started
-    ensures { λ r. ⌜ left r (now (up .exit)) ≡ beginOf receiver indoors release (now (file .entry)) (now (up .entry)) ⌝ }
+    ensures { λ r. ⌜ left r (now (up .exit)) ≡ bothBeginOf receiver indoors release (now (file .entry)) (now (up .entry)) ⌝ }
 {
     let begun = indoor::start(indoors.silence, indoors.resends, release, file, up);
     joined(receiver, begun)
@@ -58,12 +58,12 @@ fn begin(
 fn joined(receiver: Receiver, begun: Begun) -> Started
     ensures { λ r. ⌜ r ≡ joinedOf receiver begun ⌝ }
 {
-    let Begun::Made { state, written } = begun else {
+    let Begun::Made { session, written } = begun else {
         return Started::Refused(indoor::started_number(begun));
     };
     Started::Made(Ends {
         receiver,
-        indoor: state,
+        indoor: session,
         up: Way::sent(written),
         down: Way::sent(0),
     })

@@ -6,7 +6,7 @@ use mathlib.Core.Path.{_≡_}
 use Rattle.basis.specs.Only.{only}
 use Rattle.luck.specs.Called.{answeredOf}
 use Rattle.luck.specs.Luck.{goesOf, seededOf}
-use Rattle.luck.specs.Way.{sentOf, messageOf, behindOf, afterOf}
+use Rattle.luck.specs.Way.{wayOf, messageOnWay, behindOf, afterOf}
 use Rattle.luck.specs.Went.{missedOf}
 use Rattle.luck.specs.declared.called.Answered.{Answered}
 use Rattle.luck.specs.declared.luck.Going.{Going}
@@ -34,14 +34,14 @@ pub one-seeded : (seed : ℕ) (odds : Odds) (r r′ : Luck)
 one-seeded seed odds r r′ is is′ = only is is′
 
 pub one-sent : (bytes : ℕ) (r r′ : Way)
-    → r ≡ sentOf bytes
-    → r′ ≡ sentOf bytes
+    → r ≡ wayOf bytes
+    → r′ ≡ wayOf bytes
     → r ≡ r′
 one-sent bytes r r′ is is′ = only is is′
 
 pub one-message : (self : Way) (buffer r r′ : List ℕ)
-    → r ≡ messageOf self buffer
-    → r′ ≡ messageOf self buffer
+    → r ≡ messageOnWay self buffer
+    → r′ ≡ messageOnWay self buffer
     → r ≡ r′
 one-message self buffer r r′ is is′ = only is is′
 

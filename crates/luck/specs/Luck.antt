@@ -3,7 +3,7 @@ use Prim.Native.Nat.{ℕ, _+_, _*_, _%_}
 use mathlib.Core.Bool.{false}
 use lib.Dec.{eqb, ltb}
 use Rattle.basis.specs.Pick.{pick}
-use Rattle.luck.specs.Way.{risesOf, nextOf}
+use Rattle.luck.specs.Way.{risesOf, nextWay}
 use Rattle.luck.specs.declared.way.Way.{Way}
 use Rattle.luck.specs.declared.luck.Odds.{Odds}
 use Rattle.luck.specs.declared.luck.Luck.{Luck}
@@ -37,5 +37,5 @@ fateOf l w =
 unfoldable pub goesOf : Luck → Way → Way → Going
 goesOf l rising falling =
     let rises = risesOf rising falling in
-    let w = nextOf rising falling rises in
+    let w = nextWay rising falling rises in
     record { luck = nextLuck (nextLuck l); rises = rises; way = w; fate = fateOf l w }

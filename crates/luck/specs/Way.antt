@@ -10,29 +10,29 @@ use Rattle.luck.specs.declared.way.Way.{Way}
 abbrev pub way : ℕ → Bool → Way
 way bytes again = record { bytes = bytes; again = again }
 
-abbrev pub nothing : Way
-nothing = way 0 false
+abbrev pub noMessage : Way
+noMessage = way 0 false
 
-abbrev pub sentOf : ℕ → Way
-sentOf bytes = way bytes false
+abbrev pub wayOf : ℕ → Way
+wayOf bytes = way bytes false
 
-abbrev pub messageOf : Way → List ℕ → List ℕ
-messageOf w buffer = take (w .bytes) buffer
+abbrev pub messageOnWay : Way → List ℕ → List ℕ
+messageOnWay w buffer = take (w .bytes) buffer
 
 -- The request goes next: alone, or if it comes again.
 abbrev pub risesOf : Way → Way → Bool
 risesOf rising falling = pick (eqb (rising .bytes) 0) false (pick (eqb (falling .bytes) 0) true (rising .again))
 
-abbrev pub nextOf : Way → Way → Bool → Way
-nextOf rising falling rises = pick rises rising falling
+abbrev pub nextWay : Way → Way → Bool → Way
+nextWay rising falling rises = pick rises rising falling
 
 -- Behind a message that went.
 abbrev pub behindOf : Way → Bool → Way
-behindOf w stays = pick stays (way (w .bytes) true) nothing
+behindOf w stays = pick stays (way (w .bytes) true) noMessage
 
 -- After a call that has written so many bytes.
 abbrev pub afterOf : Way → ℕ → Way
-afterOf w written = pick (eqb written 0) w (sentOf written)
+afterOf w written = pick (eqb written 0) w (wayOf written)
 
 -- Such a call has put its message in the place of one that has never arrived.
 abbrev pub pushedOf : Way → ℕ → Bool

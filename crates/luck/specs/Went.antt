@@ -1,7 +1,7 @@
 -- What became of a message that has not arrived.
 use lib.Dec.{eqb}
 use Rattle.basis.specs.Pick.{pick}
-use Rattle.luck.specs.Way.{nothing}
+use Rattle.luck.specs.Way.{noMessage}
 use Rattle.luck.specs.declared.way.Way.{Way}
 use Rattle.luck.specs.declared.luck.Going.{Going}
 use Rattle.luck.specs.declared.went.Went.{Went}
@@ -15,4 +15,4 @@ missed up down went = record { up = up; down = down; went = went }
 unfoldable pub missedOf : Going → Way → Way → Missed
 missedOf g rising falling =
     pick (eqb (g .way .bytes) 0) (missed rising falling Nothing)
-    (pick (g .rises) (missed nothing falling Lost) (missed rising nothing Lost))
+    (pick (g .rises) (missed noMessage falling Lost) (missed rising noMessage Lost))

@@ -1,6 +1,6 @@
 // A message on its way, one way: how many bytes of its buffer it takes, 0 for none, and whether it has arrived before.
 ghost use mathlib.Core.Path.{_≡_};
-ghost use Rattle.luck.specs.Way.{nothing, sentOf, messageOf, risesOf, nextOf, behindOf, afterOf, pushedOf};
+ghost use Rattle.luck.specs.Way.{noMessage, wayOf, messageOnWay, risesOf, nextWay, behindOf, afterOf, pushedOf};
 
 pub struct Way {
     pub bytes: usize,
@@ -9,14 +9,14 @@ pub struct Way {
 
 impl Way {
     pub(crate) fn nothing() -> Way
-        ensures { λ r. ⌜ r ≡ nothing ⌝ }
+        ensures { λ r. ⌜ r ≡ noMessage ⌝ }
     {
         Way::sent(0)
     }
 
     // A message of so many bytes that was just sent; with 0 bytes nothing was.
     pub fn sent(bytes: usize) -> Way
-        ensures { λ r. ⌜ r ≡ sentOf bytes ⌝ }
+        ensures { λ r. ⌜ r ≡ wayOf bytes ⌝ }
     {
         Way {
             bytes,
@@ -26,7 +26,7 @@ impl Way {
 
     // The message in its buffer: the whole of one that is shorter than the message is said to be.
     pub fn message(self, buffer: &[u8]) -> &[u8]
-        ensures { λ r. ⌜ now r ≡ messageOf self (now (buffer .entry)) ⌝ }
+        ensures { λ r. ⌜ now r ≡ messageOnWay self (now (buffer .entry)) ⌝ }
     {
         let n = self.bytes;
         if buffer.len() < n {
@@ -49,7 +49,7 @@ impl Way {
     }
 
     pub(crate) fn next(self, falling: Way, rises: bool) -> Way
-        ensures { λ r. ⌜ r ≡ nextOf self falling rises ⌝ }
+        ensures { λ r. ⌜ r ≡ nextWay self falling rises ⌝ }
     {
         if rises {
             return self;

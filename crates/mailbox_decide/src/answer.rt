@@ -1,10 +1,10 @@
 // The number of an answer (01, Numbers we answer).
 use mailbox_state::answer::Answer;
 ghost use mathlib.Core.Path.{_≡_};
-ghost use Rattle.mailbox_state.specs.Answer.{numberOf};
+ghost use Rattle.mailbox_state.specs.Answer.{mailboxNumberOf};
 
 pub fn answer_number(answer: Answer) -> u8
-    ensures { λ r. ⌜ r ≡ numberOf answer ⌝ }
+    ensures { λ r. ⌜ r ≡ mailboxNumberOf answer ⌝ }
 {
     match answer {
         Answer::Taken => 0,

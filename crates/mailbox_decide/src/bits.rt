@@ -1,7 +1,7 @@
 // CCI, bit for bit (01, The mailbox; 000 T3-2).
-use mailbox_state::told::Told;
+use mailbox_state::status::CommandStatus;
 ghost use mathlib.Core.Path.{_≡_};
-ghost use Rattle.mailbox_rules.specs.Cci.{shownBits, cciOf};
+ghost use Rattle.mailbox_rules.specs.Cci.{shownBits, cciBitsOf};
 
 // Bits 1 to 7: the connector shown.
 const CONNECTOR: u32 = 1 << 1;
@@ -25,19 +25,19 @@ const ERROR: u32 = 1 << 30;
 
 const COMPLETE: u32 = 1 << 31;
 
-pub fn cci(told: Told, shown: u8) -> u32
-    ensures { λ r. ⌜ r ≡ cciOf told shown ⌝ }
+pub fn cci(status: CommandStatus, shown: u8) -> u32
+    ensures { λ r. ⌜ r ≡ cciBitsOf status shown ⌝ }
 {
     let connector = shown_bits(shown);
-    match told {
-        Told::Nothing => connector,
-        Told::ResetDone => RESET_DONE + connector,
-        Told::Busy(_) => BUSY,
-        Told::Completed { length } => COMPLETE + (length as u32) * DATA_LENGTH + connector,
-        Told::Failed => COMPLETE + ERROR + connector,
-        Told::NotSupported => COMPLETE + NOT_SUPPORTED + connector,
-        Told::Cancelled => COMPLETE + CANCEL_DONE + connector,
-        Told::Acknowledged => ACKNOWLEDGE + connector,
+    match status {
+        CommandStatus::Nothing => connector,
+        CommandStatus::ResetDone => RESET_DONE + connector,
+        CommandStatus::Busy(_) => BUSY,
+        CommandStatus::Completed { length } => COMPLETE + (length as u32) * DATA_LENGTH + connector,
+        CommandStatus::Failed => COMPLETE + ERROR + connector,
+        CommandStatus::NotSupported => COMPLETE + NOT_SUPPORTED + connector,
+        CommandStatus::Cancelled => COMPLETE + CANCEL_DONE + connector,
+        CommandStatus::Acknowledged => ACKNOWLEDGE + connector,
     }
 }
 

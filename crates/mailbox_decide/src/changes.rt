@@ -1,8 +1,8 @@
 // The connector shown and those that wait (01, The mailbox).
-use mailbox_state::stand::Changes;
+use mailbox_state::state::Changes;
 ghost use mathlib.Core.Path.{_≡_};
 ghost use mathlib.Core.Bool.{true, false};
-ghost use Rattle.mailbox_rules.specs.Changes.{lowestOf, markedOf, notedOf, nextOf};
+ghost use Rattle.mailbox_rules.specs.Changes.{lowestOf, markedOf, notedOf, nextShownOf};
 
 const PLACES: usize = 8;
 
@@ -26,7 +26,7 @@ pub(crate) fn noted(changes: Changes, connector: u8) -> Changes
 
 // The one shown is acknowledged.
 pub(crate) fn next(changes: Changes) -> Changes
-    ensures { λ r. ⌜ r ≡ nextOf changes ⌝ }
+    ensures { λ r. ⌜ r ≡ nextShownOf changes ⌝ }
 {
     let waiting = changes.waiting;
     let shown = lowest(waiting);

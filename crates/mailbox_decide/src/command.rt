@@ -8,56 +8,56 @@ use commands::control::Control;
 use commands::table::Class;
 use commands::table::look;
 use mailbox_state::answer::Answer;
-use mailbox_state::stand::Changes;
-use mailbox_state::stand::Notifications;
-use mailbox_state::stand::Stand;
+use mailbox_state::state::Changes;
+use mailbox_state::state::Notifications;
+use mailbox_state::state::State;
+use mailbox_state::status::Command;
+use mailbox_state::status::CommandStatus;
 use mailbox_state::step::Clears;
 use mailbox_state::step::Step;
-use mailbox_state::told::Command;
-use mailbox_state::told::Told;
 ghost use mathlib.Core.Path.{_≡_};
 ghost use Rattle.basis.specs.Pick.{pick};
-ghost use Rattle.mailbox_rules.specs.Changes.{nextOf};
-ghost use Rattle.mailbox_rules.specs.Write.{tells, resets, acknowledges, enables, commandOf, begins, takenOf, writeOf};
+ghost use Rattle.mailbox_rules.specs.Changes.{nextShownOf};
+ghost use Rattle.mailbox_rules.specs.Write.{withStatus, resets, acknowledges, enables, commandOf, startsCommand, takenStepOf, controlStepOf};
 
 // 002, Table A-1.
 const CONNECTOR_RESET: u8 = 0x03;
 
-pub fn write(stand: Stand, control: Control) -> Step
-    ensures { λ r. ⌜ r ≡ writeOf stand control ⌝ }
+pub fn write(state: State, control: Control) -> Step
+    ensures { λ r. ⌜ r ≡ controlStepOf state control ⌝ }
 {
     let entry = look(control.code);
     let class = entry.class;
-    let answer = refusal(stand, class, control);
+    let answer = refusal(state, class, control);
     if answer_number(answer) != 0 {
-        return refused(stand, answer);
+        return refused(state, answer);
     }
-    taken(stand, class, entry.connector, control)
+    taken(state, class, entry.connector, control)
 }
 
-fn taken(stand: Stand, class: Class, needs: bool, control: Control) -> Step
-    ensures { λ r. ⌜ r ≡ takenOf stand class needs control ⌝ }
+fn taken(state: State, class: Class, needs: bool, control: Control) -> Step
+    ensures { λ r. ⌜ r ≡ takenStepOf state class needs control ⌝ }
 {
     match class {
-        Class::Reset => reset(stand),
-        Class::Cancel => tell(stand, Told::Cancelled, Clears::Cancel),
-        Class::Acknowledge => acknowledge(stand, control.change),
-        Class::Enable => enable(stand, control.mask),
-        Class::Run => begin(stand, needs, control),
-        Class::NotSupported => tell(stand, Told::NotSupported, Clears::NoData),
+        Class::Reset => reset(state),
+        Class::Cancel => tell(state, CommandStatus::Cancelled, Clears::Cancel),
+        Class::Acknowledge => acknowledge(state, control.change),
+        Class::Enable => enable(state, control.mask),
+        Class::Run => begin(state, needs, control),
+        Class::NotSupported => tell(state, CommandStatus::NotSupported, Clears::NoData),
     }
 }
 
-pub(crate) fn tell(stand: Stand, told: Told, clears: Clears) -> Step
-    ensures { λ r. ⌜ r ≡ tells stand told clears ⌝ }
+pub(crate) fn tell(state: State, status: CommandStatus, clears: Clears) -> Step
+    ensures { λ r. ⌜ r ≡ withStatus state status clears ⌝ }
 {
-    let notifications = stand.notifications;
-    let changes = stand.changes;
+    let notifications = state.notifications;
+    let changes = state.changes;
     Step {
-        stand: Stand {
-            connectors: stand.connectors,
+        state: State {
+            connectors: state.connectors,
             notifications,
-            told,
+            status,
             changes,
         },
         answer: Answer::Taken,
@@ -65,18 +65,18 @@ pub(crate) fn tell(stand: Stand, told: Told, clears: Clears) -> Step
     }
 }
 
-fn reset(stand: Stand) -> Step
-    ensures { λ r. ⌜ r ≡ resets stand ⌝ }
+fn reset(state: State) -> Step
+    ensures { λ r. ⌜ r ≡ resets state ⌝ }
 {
     let changes = Changes {
         shown: 0,
         waiting: [false; 8],
     };
     Step {
-        stand: Stand {
-            connectors: stand.connectors,
+        state: State {
+            connectors: state.connectors,
             notifications: Notifications::Off,
-            told: Told::ResetDone,
+            status: CommandStatus::ResetDone,
             changes,
         },
         answer: Answer::Taken,
@@ -84,16 +84,16 @@ fn reset(stand: Stand) -> Step
     }
 }
 
-fn acknowledge(stand: Stand, change: bool) -> Step
-    ensures { λ r. ⌜ r ≡ acknowledges stand change ⌝ }
+fn acknowledge(state: State, change: bool) -> Step
+    ensures { λ r. ⌜ r ≡ acknowledges state change ⌝ }
 {
-    let notifications = stand.notifications;
-    let changes = stand.changes;
+    let notifications = state.notifications;
+    let changes = state.changes;
     Step {
-        stand: Stand {
-            connectors: stand.connectors,
+        state: State {
+            connectors: state.connectors,
             notifications,
-            told: Told::Acknowledged,
+            status: CommandStatus::Acknowledged,
             changes: after(changes, change),
         },
         answer: Answer::Taken,
@@ -103,7 +103,7 @@ fn acknowledge(stand: Stand, change: bool) -> Step
 
 // With bit 16 set the connector shown is cleared too.
 fn after(changes: Changes, change: bool) -> Changes
-    ensures { λ r. ⌜ r ≡ pick change (nextOf changes) changes ⌝ }
+    ensures { λ r. ⌜ r ≡ pick change (nextShownOf changes) changes ⌝ }
 {
     if change {
         return next(changes);
@@ -111,15 +111,15 @@ fn after(changes: Changes, change: bool) -> Changes
     changes
 }
 
-fn enable(stand: Stand, mask: u16) -> Step
-    ensures { λ r. ⌜ r ≡ enables stand mask ⌝ }
+fn enable(state: State, mask: u16) -> Step
+    ensures { λ r. ⌜ r ≡ enables state mask ⌝ }
 {
-    let changes = stand.changes;
+    let changes = state.changes;
     Step {
-        stand: Stand {
-            connectors: stand.connectors,
+        state: State {
+            connectors: state.connectors,
             notifications: Notifications::On { mask },
-            told: Told::Completed { length: 0 },
+            status: CommandStatus::Completed { length: 0 },
             changes,
         },
         answer: Answer::Taken,
@@ -127,14 +127,18 @@ fn enable(stand: Stand, mask: u16) -> Step
     }
 }
 
-fn begin(stand: Stand, needs: bool, control: Control) -> Step
-    ensures { λ r. ⌜ r ≡ begins stand needs control ⌝ }
+fn begin(state: State, needs: bool, control: Control) -> Step
+    ensures { λ r. ⌜ r ≡ startsCommand state needs control ⌝ }
 {
-    let there = there(control.connector, stand.connectors);
+    let there = there(control.connector, state.connectors);
     if needs & !there {
-        return tell(stand, Told::Failed, Clears::NoData);
+        return tell(state, CommandStatus::Failed, Clears::NoData);
     }
-    tell(stand, Told::Busy(command(needs, control)), Clears::Nothing)
+    tell(
+        state,
+        CommandStatus::Busy(command(needs, control)),
+        Clears::Nothing,
+    )
 }
 
 fn command(needs: bool, control: Control) -> Command

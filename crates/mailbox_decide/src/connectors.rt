@@ -2,7 +2,7 @@
 use mailbox_state::connectors::Connectors;
 use mailbox_state::connectors::Counted;
 ghost use mathlib.Core.Path.{_≡_};
-ghost use Rattle.mailbox_state.specs.Connectors.{countedOf, numberOf};
+ghost use Rattle.mailbox_state.specs.Connectors.{countedOf, connectorsNumberOf};
 
 const LEAST: u8 = 1;
 
@@ -22,7 +22,7 @@ pub fn counted(count: u8) -> Counted
 
 // 01, Numbers we answer.
 pub fn counted_number(counted: Counted) -> u8
-    ensures { λ r. ⌜ r ≡ numberOf counted ⌝ }
+    ensures { λ r. ⌜ r ≡ connectorsNumberOf counted ⌝ }
 {
     match counted {
         Counted::Made(_) => 0,

@@ -7,8 +7,8 @@ mod connectors;
 mod notice;
 mod refusal;
 mod report;
+mod status;
 mod step;
-mod told;
 
 pub use answer::answer_number;
 pub use bits::cci;

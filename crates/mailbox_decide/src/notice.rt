@@ -2,33 +2,33 @@
 use crate::changes::noted;
 use crate::step::refused;
 use mailbox_state::answer::Answer;
-use mailbox_state::stand::Notifications;
-use mailbox_state::stand::Stand;
+use mailbox_state::state::Notifications;
+use mailbox_state::state::State;
 use mailbox_state::step::Clears;
 use mailbox_state::step::Step;
 ghost use mathlib.Core.Path.{_≡_};
-ghost use Rattle.mailbox_rules.specs.Change.{meetsOf, heardOf, notes, presentOf, changeOf};
-ghost use Rattle.mailbox_rules.specs.Write.{thereOf};
+ghost use Rattle.mailbox_rules.specs.Change.{meetsOf, heardOf, recordsChange, presentStepOf, changeStepOf};
+ghost use Rattle.mailbox_rules.specs.Write.{connectorThere};
 
-pub fn change(stand: Stand, connector: u8, reason: u16) -> Step
-    ensures { λ r. ⌜ r ≡ changeOf stand connector reason ⌝ }
+pub fn change(state: State, connector: u8, reason: u16) -> Step
+    ensures { λ r. ⌜ r ≡ changeStepOf state connector reason ⌝ }
 {
-    if there(connector, stand.connectors) {
-        return present(stand, connector, reason);
+    if there(connector, state.connectors) {
+        return present(state, connector, reason);
     }
-    refused(stand, Answer::NoSuchConnector)
+    refused(state, Answer::NoSuchConnector)
 }
 
 // What is not heard is dropped with answer 0.
-fn present(stand: Stand, connector: u8, reason: u16) -> Step
-    ensures { λ r. ⌜ r ≡ presentOf stand connector reason ⌝ }
+fn present(state: State, connector: u8, reason: u16) -> Step
+    ensures { λ r. ⌜ r ≡ presentStepOf state connector reason ⌝ }
 {
-    let notifications = stand.notifications;
+    let notifications = state.notifications;
     if heard(notifications, reason) {
-        return note(stand, connector);
+        return note(state, connector);
     }
     Step {
-        stand,
+        state,
         answer: Answer::Taken,
         clears: Clears::Nothing,
     }
@@ -50,17 +50,17 @@ fn meets(reason: u16, mask: u16) -> bool
     1 < (reason & mask)
 }
 
-fn note(stand: Stand, connector: u8) -> Step
-    ensures { λ r. ⌜ r ≡ notes stand connector ⌝ }
+fn note(state: State, connector: u8) -> Step
+    ensures { λ r. ⌜ r ≡ recordsChange state connector ⌝ }
 {
-    let notifications = stand.notifications;
-    let told = stand.told;
-    let changes = stand.changes;
+    let notifications = state.notifications;
+    let status = state.status;
+    let changes = state.changes;
     Step {
-        stand: Stand {
-            connectors: stand.connectors,
+        state: State {
+            connectors: state.connectors,
             notifications,
-            told,
+            status,
             changes: noted(changes, connector),
         },
         answer: Answer::Taken,
@@ -70,7 +70,7 @@ fn note(stand: Stand, connector: u8) -> Step
 
 // A connector number from 1 to the count.
 pub(crate) fn there(connector: u8, count: u8) -> bool
-    ensures { λ r. ⌜ r ≡ thereOf connector count ⌝ }
+    ensures { λ r. ⌜ r ≡ connectorThere connector count ⌝ }
 {
     (1 <= connector) & (connector <= count)
 }

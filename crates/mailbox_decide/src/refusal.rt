@@ -1,30 +1,30 @@
 // Which refusal a write meets (01, Numbers we answer), by what the mailbox is doing and the command's class.
-use crate::told::due;
-use crate::told::off;
-use crate::told::runs;
+use crate::status::due;
+use crate::status::off;
+use crate::status::runs;
 use commands::control::Control;
 use commands::table::Class;
 use mailbox_state::answer::Answer;
-use mailbox_state::stand::Stand;
+use mailbox_state::state::State;
 ghost use mathlib.Core.Path.{_≡_};
 ghost use mathlib.Core.Bool.{true, false};
 ghost use Rattle.commands.specs.declared.table.Class.the-variants.{Acknowledge};
 ghost use Rattle.mailbox_rules.specs.Refusal.{clearsNothing, judgedOf, refusalOf, unheardOf, stoppedOf};
 
-pub(crate) fn refusal(stand: Stand, class: Class, control: Control) -> Answer
-    ensures { λ r. ⌜ r ≡ refusalOf stand class control ⌝ }
+pub(crate) fn refusal(state: State, class: Class, control: Control) -> Answer
+    ensures { λ r. ⌜ r ≡ refusalOf state class control ⌝ }
 {
-    let told = stand.told;
-    let notifications = stand.notifications;
+    let status = state.status;
+    let notifications = state.notifications;
     let off = off(notifications);
-    if runs(told) {
+    if runs(status) {
         return in_run(class, off);
     }
-    let shown = stand.changes.shown != 0;
+    let shown = state.changes.shown != 0;
     outside(
         class,
         off,
-        due(told),
+        due(status),
         shown,
         control.change,
         control.completed,

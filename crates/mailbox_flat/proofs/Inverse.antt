@@ -8,23 +8,23 @@ use native.Mathlib.Omega.{arith}
 use lib.ListN.{getD}
 use Rattle.basis.specs.Flag.{byte-flag, flag-byte, byte-small}
 use Rattle.basis.specs.Pick.{pick}
-use Rattle.mailbox_state.specs.declared.told.Command.{Command}
-use Rattle.mailbox_state.specs.declared.told.Told.{Told}
-use Rattle.mailbox_state.specs.declared.told.Told.the-variants.{Nothing, ResetDone, Busy, Completed, Failed, NotSupported, Cancelled, Acknowledged}
-use Rattle.mailbox_state.specs.declared.stand.Notifications.{Notifications}
-use Rattle.mailbox_state.specs.declared.stand.Notifications.the-variants.{Off, On}
-use Rattle.mailbox_state.specs.declared.state.Mailbox.{Mailbox}
-use Rattle.mailbox_flat.specs.Waiting.{bytesOf, flagsOf}
+use Rattle.mailbox_state.specs.declared.status.Command.{Command}
+use Rattle.mailbox_state.specs.declared.status.CommandStatus.{CommandStatus}
+use Rattle.mailbox_state.specs.declared.status.CommandStatus.the-variants.{Nothing, ResetDone, Busy, Completed, Failed, NotSupported, Cancelled, Acknowledged}
+use Rattle.mailbox_state.specs.declared.state.Notifications.{Notifications}
+use Rattle.mailbox_state.specs.declared.state.Notifications.the-variants.{Off, On}
+use Rattle.mailbox_state.specs.declared.mailbox.Mailbox.{Mailbox}
+use Rattle.mailbox_flat.specs.Waiting.{waitingBytesOf, flagsOf}
 use Rattle.mailbox_flat.specs.Notifying.{onOf, maskOf, notificationsOf}
-use Rattle.mailbox_flat.specs.Telling.{telling, bare, tellingOf, restOf, toldOf}
+use Rattle.mailbox_flat.specs.Status.{flatStatus, bare, flatStatusOf, restOf, statusOf}
 use Rattle.mailbox_flat.specs.Flat.{packOf, unpackOf, isMailbox}
 use Rattle.mailbox_flat.specs.Whole.{Standing, Whole}
-use Rattle.mailbox_flat.specs.declared.telling.Telling.{Telling}
+use Rattle.mailbox_flat.specs.declared.status.FlatStatus.{FlatStatus}
 use Rattle.mailbox_flat.specs.declared.flat.FlatMailbox.{FlatMailbox}
 use Rattle.mailbox_flat.proofs.Mailboxes.{mailbox-whole, whole-mailbox}
 
-waiting-back : (w : List Bool) → flagsOf (bytesOf w) ≡ w
-unfolding bytesOf flagsOf
+waiting-back : (w : List Bool) → flagsOf (waitingBytesOf w) ≡ w
+unfolding waitingBytesOf flagsOf
 waiting-back [] = refl
 waiting-back (x ∷ w) = rw (byte-flag x, waiting-back w)
 
@@ -33,22 +33,22 @@ unfolding notificationsOf pick
 notifications-back Off = refl
 notifications-back (On mask) = refl
 
-told-back : (t : Told) → toldOf (tellingOf t) ≡ t
-unfolding tellingOf restOf toldOf pick
-told-back Nothing = refl
-told-back ResetDone = refl
-told-back (Busy command) = refl
-told-back (Completed length) = refl
-told-back Failed = refl
-told-back NotSupported = refl
-told-back Cancelled = refl
-told-back Acknowledged = refl
+status-back : (t : CommandStatus) → statusOf (flatStatusOf t) ≡ t
+unfolding flatStatusOf restOf statusOf pick
+status-back Nothing = refl
+status-back ResetDone = refl
+status-back (Busy command) = refl
+status-back (Completed length) = refl
+status-back Failed = refl
+status-back NotSupported = refl
+status-back Cancelled = refl
+status-back Acknowledged = refl
 
 pub unpack-pack : (m : Mailbox) → unpackOf (packOf m) ≡ m
-unpack-pack m = rw (waiting-back (m .stand .changes .waiting), notifications-back (m .stand .notifications), told-back (m .stand .told))
+unpack-pack m = rw (waiting-back (m .state .changes .waiting), notifications-back (m .state .notifications), status-back (m .state .status))
 
-bytes-back : (b : List ℕ) → ((i : ℕ) → getD b i 0 ≤ 1) → bytesOf (flagsOf b) ≡ b
-unfolding bytesOf flagsOf
+bytes-back : (b : List ℕ) → ((i : ℕ) → getD b i 0 ≤ 1) → waitingBytesOf (flagsOf b) ≡ b
+unfolding waitingBytesOf flagsOf
 bytes-back [] h = refl
 bytes-back (x ∷ b) h = rw (flag-byte x (h zero), bytes-back b (λ i. h (suc i)))
 
@@ -58,8 +58,8 @@ on-back zero mask few none = (refl, rw (none refl))
 on-back (suc zero) mask few none = (refl, refl)
 on-back (suc (suc on)) mask few none = absurd (omega arith)
 
-numbers-back : (told length : ℕ) (command : Command) → Standing (telling told length command) → tellingOf (toldOf (telling told length command)) ≡ telling told length command
-unfolding tellingOf restOf toldOf pick
+numbers-back : (code length : ℕ) (command : Command) → Standing (flatStatus code length command) → flatStatusOf (statusOf (flatStatus code length command)) ≡ flatStatus code length command
+unfolding flatStatusOf restOf statusOf pick
 numbers-back zero length command s = let c = s .busy-alone (λ e. omega arith) in rw (s .completed-alone (λ e. omega arith), c .0, c .1, c .2)
 numbers-back (suc zero) length command s = let c = s .busy-alone (λ e. omega arith) in rw (s .completed-alone (λ e. omega arith), c .0, c .1, c .2)
 numbers-back (suc (suc zero)) length command s = rw (s .completed-alone (λ e. omega arith))
@@ -72,7 +72,7 @@ numbers-back (suc (suc (suc (suc (suc (suc zero)))))) length command s =
     let c = s .busy-alone (λ e. omega arith) in rw (s .completed-alone (λ e. omega arith), c .0, c .1, c .2)
 numbers-back (suc (suc (suc (suc (suc (suc (suc zero))))))) length command s =
     let c = s .busy-alone (λ e. omega arith) in rw (s .completed-alone (λ e. omega arith), c .0, c .1, c .2)
-numbers-back (suc (suc (suc (suc (suc (suc (suc (suc told)))))))) length command s = absurd (omega (arith, s .codes))
+numbers-back (suc (suc (suc (suc (suc (suc (suc (suc code)))))))) length command s = absurd (omega (arith, s .codes))
 
 pub pack-unpack : (f : FlatMailbox) → isMailbox f ≡ true → packOf (unpackOf f) ≡ f
 pack-unpack f e =
@@ -80,26 +80,26 @@ pack-unpack f e =
     let on = on-back (f .notifications) (f .mask) (w .on) (w .off-no-mask) in
     rw (bytes-back (f .waiting) (w .flags), on .0, on .1, numbers-back (f .told) (f .length) (f .command) (w .standing))
 
-bytes-flags : (w : List Bool) (i : ℕ) → getD (bytesOf w) i 0 ≤ 1
-unfolding bytesOf
+bytes-flags : (w : List Bool) (i : ℕ) → getD (waitingBytesOf w) i 0 ≤ 1
+unfolding waitingBytesOf
 bytes-flags [] i = omega arith
 bytes-flags (x ∷ w) zero = byte-small x
 bytes-flags (x ∷ w) (suc i) = bytes-flags w i
 
 -- What tells no command.
-bare-standing : (told length : ℕ) → told ≤ 7 → ((told ≡ 3 → ⊥) → length ≡ 0) → Standing (bare told length)
-bare-standing told length few none = record { codes = few; busy-alone = λ _. (refl, refl, refl); completed-alone = none }
+bare-standing : (code length : ℕ) → code ≤ 7 → ((code ≡ 3 → ⊥) → length ≡ 0) → Standing (bare code length)
+bare-standing code length few none = record { codes = few; busy-alone = λ _. (refl, refl, refl); completed-alone = none }
 
-told-standing : (t : Told) → Standing (tellingOf t)
-unfolding tellingOf
-told-standing Nothing = bare-standing _ 0 (omega arith) (λ _. refl)
-told-standing ResetDone = bare-standing _ 0 (omega arith) (λ _. refl)
-told-standing (Busy command) = record { codes = omega arith; busy-alone = λ not. absurd (not refl); completed-alone = λ _. refl }
-told-standing (Completed length) = bare-standing _ length (omega arith) (λ not. absurd (not refl))
-told-standing Failed = bare-standing _ 0 (omega arith) (λ _. refl)
-told-standing NotSupported = bare-standing _ 0 (omega arith) (λ _. refl)
-told-standing Cancelled = bare-standing _ 0 (omega arith) (λ _. refl)
-told-standing Acknowledged = bare-standing _ 0 (omega arith) (λ _. refl)
+status-standing : (t : CommandStatus) → Standing (flatStatusOf t)
+unfolding flatStatusOf
+status-standing Nothing = bare-standing _ 0 (omega arith) (λ _. refl)
+status-standing ResetDone = bare-standing _ 0 (omega arith) (λ _. refl)
+status-standing (Busy command) = record { codes = omega arith; busy-alone = λ not. absurd (not refl); completed-alone = λ _. refl }
+status-standing (Completed length) = bare-standing _ length (omega arith) (λ not. absurd (not refl))
+status-standing Failed = bare-standing _ 0 (omega arith) (λ _. refl)
+status-standing NotSupported = bare-standing _ 0 (omega arith) (λ _. refl)
+status-standing Cancelled = bare-standing _ 0 (omega arith) (λ _. refl)
+status-standing Acknowledged = bare-standing _ 0 (omega arith) (λ _. refl)
 
 on-small : (n : Notifications) → onOf n ≤ 1
 on-small Off = omega arith
@@ -110,14 +110,14 @@ off-none Off e = refl
 off-none (On mask) e = absurd (omega arith)
 
 -- The numbers of every mailbox with a count of connectors that it may have are a mailbox's.
-pub pack-mailbox : (m : Mailbox) → 1 ≤ m .stand .connectors → m .stand .connectors ≤ 8 → isMailbox (packOf m) ≡ true
+pub pack-mailbox : (m : Mailbox) → 1 ≤ m .state .connectors → m .state .connectors ≤ 8 → isMailbox (packOf m) ≡ true
 pack-mailbox m low high =
     whole-mailbox (packOf m)
     (record {
       least = low;
       most = high;
-      flags = bytes-flags (m .stand .changes .waiting);
-      on = on-small (m .stand .notifications);
-      off-no-mask = off-none (m .stand .notifications);
-      standing = told-standing (m .stand .told);
+      flags = bytes-flags (m .state .changes .waiting);
+      on = on-small (m .state .notifications);
+      off-no-mask = off-none (m .state .notifications);
+      standing = status-standing (m .state .status);
     })

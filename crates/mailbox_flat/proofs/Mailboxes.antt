@@ -8,15 +8,15 @@ use borrow.Author.Tests.{ltb-false, leb-true, eqb-true, eqb-false}
 use lib.Dec.{eqb, leb, ltb}
 use lib.ListN.{getD}
 use Rattle.basis.specs.Pick.{pick-all, pick-both, tests}
-use Rattle.mailbox_state.specs.Connectors.{least, most, countedOf, numberOf}
+use Rattle.mailbox_state.specs.Connectors.{connectorsLeast, connectorsMost, countedOf, connectorsNumberOf}
 use Rattle.mailbox_state.specs.declared.connectors.Counted.{Counted}
 use Rattle.mailbox_state.specs.declared.connectors.Counted.the-variants.{Made}
 use Rattle.mailbox_flat.specs.Waiting.{areFlags}
 use Rattle.mailbox_flat.specs.Notifying.{notifiesOf}
-use Rattle.mailbox_flat.specs.Telling.{idleOf, restsOf, tellsOf}
+use Rattle.mailbox_flat.specs.Status.{idleOf, isRestOf, isStatusOf}
 use Rattle.mailbox_flat.specs.Flat.{stated, saysOf, isMailbox, none}
 use Rattle.mailbox_flat.specs.Whole.{Standing, Whole}
-use Rattle.mailbox_flat.specs.declared.telling.Telling.{Telling}
+use Rattle.mailbox_flat.specs.declared.status.FlatStatus.{FlatStatus}
 use Rattle.mailbox_flat.specs.declared.flat.FlatMailbox.{FlatMailbox}
 
 flags-each : (b : List ℕ) → areFlags b ≡ true → (i : ℕ) → getD b i 0 ≤ 1
@@ -48,7 +48,7 @@ module _ (on mask : ℕ) where
       pick-all (λ (b : Bool). b ≡ true) (eqb on 1) _ _ (λ _. refl)
       (λ t. let zero : on ≡ 0 = omega (arith, eqb-false on 1 t) in let no = none zero in search tests)
 
-module _ (t : Telling) where
+module _ (t : FlatStatus) where
   idle-none : idleOf (t .command) ≡ true → (t .command .code ≡ 0) × (t .command .connector ≡ 0) × (t .command .«reset_type» ≡ 0)
   unfolding idleOf
   idle-none e =
@@ -56,60 +56,60 @@ module _ (t : Telling) where
       let b = pick-both (eqb (t .command .connector) 0) _ (a .1) in
       (eqb-true (t .command .code) 0 (a .0), eqb-true (t .command .connector) 0 (b .0), eqb-true (t .command .«reset_type») 0 (b .1))
 
-  rests-standing : (t .told ≡ 2 → ⊥) → (t .command .code ≡ 0) × (t .command .connector ≡ 0) × (t .command .«reset_type» ≡ 0) → restsOf t ≡ true
+  rests-standing : (t .code ≡ 2 → ⊥) → (t .command .code ≡ 0) × (t .command .connector ≡ 0) × (t .command .«reset_type» ≡ 0) → isRestOf t ≡ true
       → Standing t
-  unfolding restsOf
+  unfolding isRestOf
   rests-standing not idle =
-      pick-all (λ (b : Bool). b ≡ true → Standing t) (eqb (t .told) 3) _ _
-      (λ u _. let three = eqb-true (t .told) 3 u in record { codes = omega arith; busy-alone = λ _. idle; completed-alone = λ n. absurd (n three) })
+      pick-all (λ (b : Bool). b ≡ true → Standing t) (eqb (t .code) 3) _ _
+      (λ u _. let three = eqb-true (t .code) 3 u in record { codes = omega arith; busy-alone = λ _. idle; completed-alone = λ n. absurd (n three) })
       (λ _ e.
       let both = pick-both (eqb (t .length) 0) _ e in
-      record { codes = leb-true (t .told) 7 (both .1); busy-alone = λ _. idle; completed-alone = λ _. eqb-true (t .length) 0 (both .0) })
+      record { codes = leb-true (t .code) 7 (both .1); busy-alone = λ _. idle; completed-alone = λ _. eqb-true (t .length) 0 (both .0) })
 
-  tells-standing : tellsOf t ≡ true → Standing t
-  unfolding tellsOf
-  tells-standing =
-      pick-all (λ (b : Bool). b ≡ true → Standing t) (eqb (t .told) 2) _ _
+  status-whole : isStatusOf t ≡ true → Standing t
+  unfolding isStatusOf
+  status-whole =
+      pick-all (λ (b : Bool). b ≡ true → Standing t) (eqb (t .code) 2) _ _
       (λ u e.
-      let two = eqb-true (t .told) 2 u in
+      let two = eqb-true (t .code) 2 u in
       record { codes = omega arith; busy-alone = λ n. absurd (n two); completed-alone = λ _. eqb-true (t .length) 0 e })
       (λ u e.
       let both = pick-both (idleOf (t .command)) _ e in
-      rests-standing (eqb-false (t .told) 2 u) (idle-none (both .0)) (both .1))
+      rests-standing (eqb-false (t .code) 2 u) (idle-none (both .0)) (both .1))
 
-  standing-tells : Standing t → tellsOf t ≡ true
-  unfolding tellsOf idleOf restsOf
-  standing-tells s =
+  whole-status : Standing t → isStatusOf t ≡ true
+  unfolding isStatusOf idleOf isRestOf
+  whole-status s =
       let P : Bool → Type 0 = λ b. b ≡ true in
       let few = s .codes in
-      pick-all P (eqb (t .told) 2) _ _ (λ u. let two = eqb-true (t .told) 2 u in let none = s .completed-alone (λ e. omega arith) in search tests)
+      pick-all P (eqb (t .code) 2) _ _ (λ u. let two = eqb-true (t .code) 2 u in let none = s .completed-alone (λ e. omega arith) in search tests)
       (λ u.
-      let idle = s .busy-alone (eqb-false (t .told) 2 u) in
+      let idle = s .busy-alone (eqb-false (t .code) 2 u) in
       let code = idle .0 in
       let connector = idle .1 in
       let type = idle .2 in
       let rest : idleOf (t .command) ≡ true = search tests in
-      let rests : restsOf t ≡ true = pick-all P (eqb (t .told) 3) _ _ (λ _. refl) (λ v. let none = s .completed-alone (eqb-false (t .told) 3 v) in search tests) in
+      let rests : isRestOf t ≡ true = pick-all P (eqb (t .code) 3) _ _ (λ _. refl) (λ v. let none = s .completed-alone (eqb-false (t .code) 3 v) in search tests) in
       rw (rest, rests) (search tests))
 
-pub counted-within : (count : ℕ) → numberOf (countedOf count) ≡ 0 → (1 ≤ count) × (count ≤ 8)
+pub counted-within : (count : ℕ) → connectorsNumberOf (countedOf count) ≡ 0 → (1 ≤ count) × (count ≤ 8)
 unfolding countedOf
 counted-within count =
-    let P : Counted → Type 0 = λ x. numberOf x ≡ 0 → (1 ≤ count) × (count ≤ 8) in
-    pick-all P (ltb count least) _ _ (λ _ e. absurd (omega arith))
-    (λ a. pick-all P (ltb most count) _ _ (λ _ e. absurd (omega arith)) (λ b _. (ltb-false count least a, ltb-false most count b)))
+    let P : Counted → Type 0 = λ x. connectorsNumberOf x ≡ 0 → (1 ≤ count) × (count ≤ 8) in
+    pick-all P (ltb count connectorsLeast) _ _ (λ _ e. absurd (omega arith))
+    (λ a. pick-all P (ltb connectorsMost count) _ _ (λ _ e. absurd (omega arith)) (λ b _. (ltb-false count connectorsLeast a, ltb-false connectorsMost count b)))
 
 pub within-made : (count : ℕ) → 1 ≤ count → count ≤ 8 → countedOf count ≡ Made (record { count = count })
 unfolding countedOf
 within-made count low high =
-    let some : least ≤ count = low in
-    let few : count ≤ most = high in
+    let some : connectorsLeast ≤ count = low in
+    let few : count ≤ connectorsMost = high in
     search tests
 
 pub mailbox-whole : (f : FlatMailbox) → isMailbox f ≡ true → Whole f
 unfolding isMailbox saysOf
 mailbox-whole f e =
-    let a = pick-both (eqb (numberOf (countedOf (f .connectors))) 0) _ e in
+    let a = pick-both (eqb (connectorsNumberOf (countedOf (f .connectors))) 0) _ e in
     let b = pick-both (areFlags (f .waiting)) _ (a .1) in
     let c = pick-both (notifiesOf (f .notifications) (f .mask)) _ (b .1) in
     let count = counted-within (f .connectors) (eqb-true _ 0 (a .0)) in
@@ -120,7 +120,7 @@ mailbox-whole f e =
       flags = flags-each (f .waiting) (b .0);
       on = on .0;
       off-no-mask = on .1;
-      standing = tells-standing (stated f) (c .1);
+      standing = status-whole (stated f) (c .1);
     }
 
 pub whole-mailbox : (f : FlatMailbox) → Whole f → isMailbox f ≡ true
@@ -130,7 +130,7 @@ whole-mailbox f w =
       within-made (f .connectors) (w .least) (w .most),
       each-flags (f .waiting) (w .flags),
       numbers-notify (f .notifications) (f .mask) (w .on) (w .off-no-mask),
-      standing-tells (stated f) (w .standing),
+      whole-status (stated f) (w .standing),
     )
     (search tests)
 

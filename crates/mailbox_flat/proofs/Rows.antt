@@ -5,23 +5,23 @@ use mathlib.Core.Path.{_≡_, refl}
 use mathlib.Core.List.{List, [], _∷_, map}
 use lib.ListN.{getD, replicate}
 use Rattle.basis.specs.Flag.{byteOf}
-use Rattle.mailbox_state.specs.declared.told.Command.{Command}
-use Rattle.mailbox_state.specs.declared.told.Told.{Told}
-use Rattle.mailbox_state.specs.declared.told.Told.the-variants.{Nothing, ResetDone, Busy, Completed, Failed, NotSupported, Cancelled, Acknowledged}
-use Rattle.mailbox_flat.specs.Waiting.{bytesOf}
-use Rattle.mailbox_flat.specs.Telling.{tellingOf}
+use Rattle.mailbox_state.specs.declared.status.Command.{Command}
+use Rattle.mailbox_state.specs.declared.status.CommandStatus.{CommandStatus}
+use Rattle.mailbox_state.specs.declared.status.CommandStatus.the-variants.{Nothing, ResetDone, Busy, Completed, Failed, NotSupported, Cancelled, Acknowledged}
+use Rattle.mailbox_flat.specs.Waiting.{waitingBytesOf}
+use Rattle.mailbox_flat.specs.Status.{flatStatusOf}
 use Rattle.mailbox_flat.specs.Flat.{none}
 use Rattle.mailbox_flat.specs.declared.flat.FlatMailbox.{FlatMailbox}
 
-pub told-rows : (command : Command) (length : ℕ)
-    → map (λ (x : Told). tellingOf x .told) (Nothing ∷ ResetDone ∷ Busy command ∷ Completed length ∷ Failed ∷ NotSupported ∷ Cancelled ∷ Acknowledged ∷ [])
+pub status-rows : (command : Command) (length : ℕ)
+    → map (λ (x : CommandStatus). flatStatusOf x .code) (Nothing ∷ ResetDone ∷ Busy command ∷ Completed length ∷ Failed ∷ NotSupported ∷ Cancelled ∷ Acknowledged ∷ [])
     ≡ 0 ∷ 1 ∷ 2 ∷ 3 ∷ 4 ∷ 5 ∷ 6 ∷ 7 ∷ []
-unfolding tellingOf
-told-rows command length = refl
+unfolding flatStatusOf
+status-rows command length = refl
 
 -- Connector c waits if waiting[c - 1] is 1.
-pub waiting-row : (w : List Bool) (i : ℕ) → getD (bytesOf w) i 0 ≡ byteOf (getD w i false)
-unfolding bytesOf
+pub waiting-row : (w : List Bool) (i : ℕ) → getD (waitingBytesOf w) i 0 ≡ byteOf (getD w i false)
+unfolding waitingBytesOf
 waiting-row [] i = refl
 waiting-row (x ∷ w) zero = refl
 waiting-row (x ∷ w) (suc i) = waiting-row w i

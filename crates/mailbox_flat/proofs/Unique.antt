@@ -4,7 +4,7 @@ use mathlib.Core.Path.{_≡_}
 use Rattle.basis.specs.Only.{only}
 use Rattle.mailbox_flat.specs.Flat.{none, packOf, unpackOf, isMailbox}
 use Rattle.mailbox_flat.specs.declared.flat.FlatMailbox.{FlatMailbox}
-use Rattle.mailbox_state.specs.declared.state.Mailbox.{Mailbox}
+use Rattle.mailbox_state.specs.declared.mailbox.Mailbox.{Mailbox}
 
 pub one-none : (r r′ : FlatMailbox)
     → r ≡ none

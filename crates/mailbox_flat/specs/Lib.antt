@@ -1,5 +1,5 @@
 pub mod Waiting
 pub mod Notifying
-pub mod Telling
+pub mod Status
 pub mod Flat
 pub mod Whole

@@ -3,8 +3,8 @@ use Prim.Native.Nat.{ℕ}
 use mathlib.Core.Bool.{Bool, true, false}
 use lib.Dec.{eqb}
 use Rattle.basis.specs.Pick.{pick}
-use Rattle.mailbox_state.specs.declared.stand.Notifications.{Notifications}
-use Rattle.mailbox_state.specs.declared.stand.Notifications.the-variants.{Off, On}
+use Rattle.mailbox_state.specs.declared.state.Notifications.{Notifications}
+use Rattle.mailbox_state.specs.declared.state.Notifications.the-variants.{Off, On}
 
 abbrev pub onOf : Notifications → ℕ
 onOf Off = 0

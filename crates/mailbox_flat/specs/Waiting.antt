@@ -6,9 +6,9 @@ use lib.Dec.{eqb, ltb}
 use Rattle.basis.specs.Flag.{byteOf}
 use Rattle.basis.specs.Pick.{pick}
 
-unfoldable pub bytesOf : List Bool → List ℕ
-bytesOf [] = []
-bytesOf (waits ∷ rest) = byteOf waits ∷ bytesOf rest
+unfoldable pub waitingBytesOf : List Bool → List ℕ
+waitingBytesOf [] = []
+waitingBytesOf (waits ∷ rest) = byteOf waits ∷ waitingBytesOf rest
 
 unfoldable pub flagsOf : List ℕ → List Bool
 flagsOf [] = []

@@ -1,5 +1,5 @@
 // The numbers of a mailbox, in the order of include/harsolvek.h.
-use mailbox_state::told::Command;
+use mailbox_state::status::Command;
 ghost use mathlib.Core.Path.{_≡_};
 ghost use Rattle.mailbox_flat.specs.Flat.{none};
 

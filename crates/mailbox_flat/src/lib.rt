@@ -2,7 +2,7 @@
 mod flat;
 mod notifying;
 mod pack;
-mod telling;
+mod status;
 mod unpack;
 mod waiting;
 

@@ -1,5 +1,5 @@
 // Notifications as a flag and a mask, and back. There is a mask only while they are on.
-use mailbox_state::stand::Notifications;
+use mailbox_state::state::Notifications;
 ghost use mathlib.Core.Path.{_≡_};
 ghost use Rattle.mailbox_flat.specs.Notifying.{onOf, maskOf, notificationsOf, notifiesOf};
 

@@ -2,9 +2,9 @@
 use crate::flat::FlatMailbox;
 use crate::notifying::mask_of;
 use crate::notifying::on_of;
-use crate::telling::Telling;
+use crate::status::FlatStatus;
 use crate::waiting::bytes_of;
-use mailbox_state::state::Mailbox;
+use mailbox_state::mailbox::Mailbox;
 ghost use mathlib.Core.Path.{_≡_};
 ghost use Rattle.mailbox_flat.specs.Flat.{packOf};
 
@@ -13,25 +13,25 @@ impl FlatMailbox {
         ensures { λ r. ⌜ r ≡ packOf mailbox ⌝ }
     {
         let message_in = mailbox.message;
-        let stand = mailbox.stand;
-        let told = stand.told;
-        let notifications = stand.notifications;
-        let changes = stand.changes;
+        let state = mailbox.state;
+        let status = state.status;
+        let notifications = state.notifications;
+        let changes = state.changes;
         let flags = changes.waiting;
         let waiting = bytes_of(flags);
         let on = on_of(notifications);
         let mask = mask_of(notifications);
-        let telling = Telling::of(told);
-        let command = telling.command;
+        let flat_status = FlatStatus::of(status);
+        let command = flat_status.command;
         FlatMailbox {
             message_in,
             waiting,
             shown: changes.shown,
-            connectors: stand.connectors,
+            connectors: state.connectors,
             mask,
             notifications: on,
-            told: telling.told,
-            length: telling.length,
+            told: flat_status.code,
+            length: flat_status.length,
             command,
         }
     }

@@ -3,12 +3,12 @@
 use crate::flat::FlatMailbox;
 use crate::notifying::notifications_of;
 use crate::notifying::notifies;
-use crate::telling::Telling;
+use crate::status::FlatStatus;
 use crate::waiting::are_flags;
 use crate::waiting::flags_of;
-use mailbox_state::stand::Changes;
-use mailbox_state::stand::Stand;
-use mailbox_state::state::Mailbox;
+use mailbox_state::mailbox::Mailbox;
+use mailbox_state::state::Changes;
+use mailbox_state::state::State;
 ghost use mathlib.Core.Path.{_≡_};
 ghost use Rattle.mailbox_flat.specs.Flat.{stated, unpackOf, saysOf, isMailbox};
 
@@ -20,19 +20,19 @@ impl FlatMailbox {
         let bytes = self.waiting;
         let waiting = flags_of(bytes);
         let notifications = notifications_of(self.notifications, self.mask);
-        let telling = self.telling();
-        let told = telling.told();
+        let flat_status = self.flat_status();
+        let status = flat_status.status();
         let changes = Changes {
             shown: self.shown,
             waiting,
         };
-        let stand = Stand {
+        let state = State {
             connectors: self.connectors,
             notifications,
-            told,
+            status,
             changes,
         };
-        Mailbox { stand, message }
+        Mailbox { state, message }
     }
 
     pub fn is_mailbox(self) -> bool
@@ -52,19 +52,19 @@ impl FlatMailbox {
     fn says(self) -> bool
         ensures { λ r. ⌜ r ≡ saysOf self ⌝ }
     {
-        let telling = self.telling();
+        let flat_status = self.flat_status();
         if notifies(self.notifications, self.mask) {
-            return telling.tells();
+            return flat_status.is_status();
         }
         false
     }
 
-    fn telling(self) -> Telling
+    fn flat_status(self) -> FlatStatus
         ensures { λ r. ⌜ r ≡ stated self ⌝ }
     {
         let command = self.command;
-        Telling {
-            told: self.told,
+        FlatStatus {
+            code: self.told,
             length: self.length,
             command,
         }

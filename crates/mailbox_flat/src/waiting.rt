@@ -1,11 +1,11 @@
 // The connectors that wait, a byte for each, and back.
 ghost use mathlib.Core.Path.{_≡_};
-ghost use Rattle.mailbox_flat.specs.Waiting.{bytesOf, flagsOf, areFlags};
+ghost use Rattle.mailbox_flat.specs.Waiting.{waitingBytesOf, flagsOf, areFlags};
 
 const PLACES: usize = 8;
 
 pub(crate) fn bytes_of(w: [bool; 8]) -> [u8; 8]
-    ensures { λ r. ⌜ r ≡ bytesOf w ⌝ }
+    ensures { λ r. ⌜ r ≡ waitingBytesOf w ⌝ }
 {
     [
         w[0] as u8,

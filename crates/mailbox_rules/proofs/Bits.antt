@@ -3,11 +3,11 @@ use Prim.Native.Nat.{ℕ, _+_, _*_, _/_, _%_, _<_, _≤_, _^_}
 use mathlib.Core.Bool.{Bool, true, false, true≢false}
 use mathlib.Core.Path.{_≡_, refl, sym}
 use native.Mathlib.Omega.{arith}
-use Rattle.mailbox_state.specs.declared.told.Command.{Command}
-use Rattle.mailbox_state.specs.Told.{runsOf}
-use Rattle.mailbox_state.specs.declared.told.Told.{Told}
-use Rattle.mailbox_state.specs.declared.told.Told.the-variants.{Nothing, ResetDone, Busy, Completed, Failed, NotSupported, Cancelled, Acknowledged}
-use Rattle.mailbox_rules.specs.Cci.{cciOf}
+use Rattle.mailbox_state.specs.declared.status.Command.{Command}
+use Rattle.mailbox_state.specs.Status.{runsOf}
+use Rattle.mailbox_state.specs.declared.status.CommandStatus.{CommandStatus}
+use Rattle.mailbox_state.specs.declared.status.CommandStatus.the-variants.{Nothing, ResetDone, Busy, Completed, Failed, NotSupported, Cancelled, Acknowledged}
+use Rattle.mailbox_rules.specs.Cci.{cciBitsOf}
 
 abbrev pub flag : Bool → ℕ
 flag true = 1
@@ -54,41 +54,41 @@ module _ (cci connector length : ℕ) (notSupported cancelDone resetDone busy ac
 
 -- Of what was told, the bits that are set: outside a run the connector shown too, and in a run bit 28 alone.
 module _ (shown : ℕ) where
-  pub nothing-says : Says (cciOf Nothing shown) (shown % 128) 0 false false false false false false false
-  unfolding cciOf
+  pub nothing-says : Says (cciBitsOf Nothing shown) (shown % 128) 0 false false false false false false false
+  unfolding cciBitsOf
   nothing-says = says _ _ _ false false false false false false false (omega arith) (omega arith) (omega arith)
 
-  pub reset-done-says : Says (cciOf ResetDone shown) (shown % 128) 0 false false true false false false false
-  unfolding cciOf
+  pub reset-done-says : Says (cciBitsOf ResetDone shown) (shown % 128) 0 false false true false false false false
+  unfolding cciBitsOf
   reset-done-says = says _ _ _ false false true false false false false (omega arith) (omega arith) (omega arith)
 
-  pub completed-says : (length : ℕ) → length < 256 → Says (cciOf (Completed length) shown) (shown % 128) length false false false false false false true
-  unfolding cciOf
+  pub completed-says : (length : ℕ) → length < 256 → Says (cciBitsOf (Completed length) shown) (shown % 128) length false false false false false false true
+  unfolding cciBitsOf
   completed-says length h = says _ _ _ false false false false false false true (omega arith) (omega arith) h
 
-  pub failed-says : Says (cciOf Failed shown) (shown % 128) 0 false false false false false true true
-  unfolding cciOf
+  pub failed-says : Says (cciBitsOf Failed shown) (shown % 128) 0 false false false false false true true
+  unfolding cciBitsOf
   failed-says = says _ _ _ false false false false false true true (omega arith) (omega arith) (omega arith)
 
-  pub not-supported-says : Says (cciOf NotSupported shown) (shown % 128) 0 true false false false false false true
-  unfolding cciOf
+  pub not-supported-says : Says (cciBitsOf NotSupported shown) (shown % 128) 0 true false false false false false true
+  unfolding cciBitsOf
   not-supported-says = says _ _ _ true false false false false false true (omega arith) (omega arith) (omega arith)
 
-  pub cancelled-says : Says (cciOf Cancelled shown) (shown % 128) 0 false true false false false false true
-  unfolding cciOf
+  pub cancelled-says : Says (cciBitsOf Cancelled shown) (shown % 128) 0 false true false false false false true
+  unfolding cciBitsOf
   cancelled-says = says _ _ _ false true false false false false true (omega arith) (omega arith) (omega arith)
 
-  pub acknowledged-says : Says (cciOf Acknowledged shown) (shown % 128) 0 false false false false true false false
-  unfolding cciOf
+  pub acknowledged-says : Says (cciBitsOf Acknowledged shown) (shown % 128) 0 false false false false true false false
+  unfolding cciBitsOf
   acknowledged-says = says _ _ _ false false false false true false false (omega arith) (omega arith) (omega arith)
 
-  pub busy-says : (command : Command) → Says (cciOf (Busy command) shown) 0 0 false false false true false false false
-  unfolding cciOf
+  pub busy-says : (command : Command) → Says (cciBitsOf (Busy command) shown) 0 0 false false false true false false false
+  unfolding cciBitsOf
   busy-says command = says _ _ _ false false false true false false false (omega arith) (omega arith) (omega arith)
 
 -- Whatever else is told.
-pub outside-shows : (told : Told) (shown : ℕ) → runsOf told ≡ false → cciOf told shown / 2 ^ 1 % 2 ^ 7 ≡ shown % 128
-unfolding cciOf runsOf
+pub outside-shows : (status : CommandStatus) (shown : ℕ) → runsOf status ≡ false → cciBitsOf status shown / 2 ^ 1 % 2 ^ 7 ≡ shown % 128
+unfolding cciBitsOf runsOf
 outside-shows Nothing shown e = omega arith
 outside-shows ResetDone shown e = omega arith
 outside-shows (Busy command) shown e = absurd (true≢false e)
@@ -98,8 +98,8 @@ outside-shows NotSupported shown e = omega arith
 outside-shows Cancelled shown e = omega arith
 outside-shows Acknowledged shown e = omega arith
 
-pub in-run-alone : (told : Told) (shown : ℕ) → runsOf told ≡ true → cciOf told shown ≡ 2 ^ 28
-unfolding cciOf runsOf
+pub in-run-alone : (status : CommandStatus) (shown : ℕ) → runsOf status ≡ true → cciBitsOf status shown ≡ 2 ^ 28
+unfolding cciBitsOf runsOf
 in-run-alone (Busy command) shown e = refl
 in-run-alone Nothing shown e = absurd (true≢false (sym e))
 in-run-alone ResetDone shown e = absurd (true≢false (sym e))
@@ -110,8 +110,8 @@ in-run-alone Cancelled shown e = absurd (true≢false (sym e))
 in-run-alone Acknowledged shown e = absurd (true≢false (sym e))
 
 -- Whichever connector is shown, only bits 1 to 7 tell.
-pub others-stay : (told : Told) (one other : ℕ) → cciOf told one / 2 ^ 8 ≡ cciOf told other / 2 ^ 8
-unfolding cciOf
+pub others-stay : (status : CommandStatus) (one other : ℕ) → cciBitsOf status one / 2 ^ 8 ≡ cciBitsOf status other / 2 ^ 8
+unfolding cciBitsOf
 others-stay Nothing one other = omega arith
 others-stay ResetDone one other = omega arith
 others-stay (Busy command) one other = refl
@@ -121,8 +121,8 @@ others-stay NotSupported one other = omega arith
 others-stay Cancelled one other = omega arith
 others-stay Acknowledged one other = omega arith
 
-pub bit-0-clear : (told : Told) (shown : ℕ) → cciOf told shown % 2 ≡ 0
-unfolding cciOf
+pub bit-0-clear : (status : CommandStatus) (shown : ℕ) → cciBitsOf status shown % 2 ≡ 0
+unfolding cciBitsOf
 bit-0-clear Nothing shown = omega arith
 bit-0-clear ResetDone shown = omega arith
 bit-0-clear (Busy command) shown = refl

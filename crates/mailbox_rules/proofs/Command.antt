@@ -10,25 +10,25 @@ use Rattle.commands.proofs.Rows.{Named, named}
 use Rattle.commands.specs.declared.table.Class.{Class}
 use Rattle.commands.specs.declared.table.Class.the-variants as class
 use Rattle.commands.specs.declared.control.Control.{Control}
-use Rattle.mailbox_state.specs.Answer.{numberOf}
-use Rattle.mailbox_state.specs.Told.{runsOf}
-use Rattle.mailbox_state.specs.Stand.{noChanges}
+use Rattle.mailbox_state.specs.Answer.{mailboxNumberOf}
+use Rattle.mailbox_state.specs.Status.{runsOf}
+use Rattle.mailbox_state.specs.State.{noChanges}
 use Rattle.mailbox_state.specs.Step.{refused}
 use Rattle.mailbox_state.specs.declared.answer.Answer.{Answer}
 use Rattle.mailbox_state.specs.declared.answer.Answer.the-variants as answer
-use Rattle.mailbox_state.specs.declared.told.Told.{Told}
-use Rattle.mailbox_state.specs.declared.told.Told.the-variants.{Nothing, ResetDone, Busy, Completed, Failed, NotSupported, Cancelled, Acknowledged}
-use Rattle.mailbox_state.specs.declared.stand.Changes.{Changes}
-use Rattle.mailbox_state.specs.declared.stand.Stand.{Stand}
+use Rattle.mailbox_state.specs.declared.status.CommandStatus.{CommandStatus}
+use Rattle.mailbox_state.specs.declared.status.CommandStatus.the-variants.{Nothing, ResetDone, Busy, Completed, Failed, NotSupported, Cancelled, Acknowledged}
+use Rattle.mailbox_state.specs.declared.state.Changes.{Changes}
+use Rattle.mailbox_state.specs.declared.state.State.{State}
 use Rattle.mailbox_state.specs.declared.step.Clears.{Clears}
 use Rattle.mailbox_state.specs.declared.step.Clears.the-variants as clears
 use Rattle.mailbox_state.specs.declared.step.Step.{Step}
-use Rattle.mailbox_rules.specs.Changes.{nextOf}
+use Rattle.mailbox_rules.specs.Changes.{nextShownOf}
 use Rattle.mailbox_rules.specs.Refusal.{refusalOf}
-use Rattle.mailbox_rules.specs.Write.{begins, takenOf, heededOf, writeOf}
+use Rattle.mailbox_rules.specs.Write.{startsCommand, takenStepOf, judgedStepOf, controlStepOf}
 
 -- 0 is Taken alone.
-pub zero-taken : (a : Answer) → numberOf a ≡ 0 → a ≡ answer.Taken
+pub zero-taken : (a : Answer) → mailboxNumberOf a ≡ 0 → a ≡ answer.Taken
 zero-taken answer.Taken e = refl
 zero-taken answer.ControlLength e = absurd (omega arith)
 zero-taken answer.NotificationsOff e = absurd (omega arith)
@@ -44,19 +44,19 @@ zero-taken answer.NoSuchConnector e = absurd (omega arith)
 pub data ShownBy (control : Control) (a : Answer) (before after : Changes) : Type 0 where
   stays : after ≡ before → ShownBy control a before after
   reset : control .code ≡ 0x01 → after ≡ noChanges → ShownBy control a before after
-  acknowledged : control .code ≡ 0x04 → control .change ≡ true → a ≡ answer.Taken → after ≡ nextOf before → ShownBy control a before after
+  acknowledged : control .code ≡ 0x04 → control .change ≡ true → a ≡ answer.Taken → after ≡ nextShownOf before → ShownBy control a before after
 
 -- What a write that is taken tells, by its class: a command completes or is cancelled, and then an acknowledgement is due, or it runs.
-abbrev pub Tells : Class → Told → Type 0
-Tells class.Reset told = told ≡ ResetDone
-Tells class.Cancel told = told ≡ Cancelled
-Tells class.Acknowledge told = told ≡ Acknowledged
-Tells class.Enable told = told ≡ Completed 0
-Tells class.Run told = (runsOf told ≡ true) ⊎ (told ≡ Failed)
-Tells class.NotSupported told = told ≡ NotSupported
+abbrev pub Tells : Class → CommandStatus → Type 0
+Tells class.Reset status = status ≡ ResetDone
+Tells class.Cancel status = status ≡ Cancelled
+Tells class.Acknowledge status = status ≡ Acknowledged
+Tells class.Enable status = status ≡ Completed 0
+Tells class.Run status = (runsOf status ≡ true) ⊎ (status ≡ Failed)
+Tells class.NotSupported status = status ≡ NotSupported
 
 -- Start and ACK keep MESSAGE_IN; reset, cancel and a completion without data zero it.
-abbrev pub Zeroes : Told → Clears → Type 0
+abbrev pub Zeroes : CommandStatus → Clears → Type 0
 Zeroes Nothing c = ⊥
 Zeroes ResetDone c = c ≡ clears.Reset
 Zeroes (Busy command) c = c ≡ clears.Nothing
@@ -66,26 +66,26 @@ Zeroes NotSupported c = c ≡ clears.NoData
 Zeroes Cancelled c = c ≡ clears.Cancel
 Zeroes Acknowledged c = c ≡ clears.Nothing
 
-pub record Takes (stand : Stand) (class : Class) (control : Control) (step : Step) : Type 0 where
+pub record Takes (state : State) (class : Class) (control : Control) (step : Step) : Type 0 where
   pub answer : step .answer ≡ answer.Taken
-  pub connectors : step .stand .connectors ≡ stand .connectors
-  pub tells : Tells class (step .stand .told)
-  pub zeroes : Zeroes (step .stand .told) (step .clears)
-  pub shown : ShownBy control (step .answer) (stand .changes) (step .stand .changes)
+  pub connectors : step .state .connectors ≡ state .connectors
+  pub tells : Tells class (step .state .status)
+  pub zeroes : Zeroes (step .state .status) (step .clears)
+  pub shown : ShownBy control (step .answer) (state .changes) (step .state .changes)
 
-module _ (stand : Stand) (control : Control) where
-  begun : (needs : Bool) → Takes stand class.Run control (begins stand needs control)
-  unfolding begins runsOf
+module _ (state : State) (control : Control) where
+  begun : (needs : Bool) → Takes state class.Run control (startsCommand state needs control)
+  unfolding startsCommand runsOf
   begun needs =
-      pick-all (Takes stand class.Run control) _ _ _
+      pick-all (Takes state class.Run control) _ _ _
       (λ y. record { answer = refl; connectors = refl; tells = inr refl; zeroes = refl; shown = stays refl })
       (λ n. record { answer = refl; connectors = refl; tells = inl refl; zeroes = refl; shown = stays refl })
 
-  acked : control .code ≡ 0x04 → ShownBy control answer.Taken (stand .changes) (pick (control .change) (nextOf (stand .changes)) (stand .changes))
-  acked e = pick-all (ShownBy control answer.Taken (stand .changes)) _ _ _ (λ y. acknowledged e y refl refl) (λ n. stays refl)
+  acked : control .code ≡ 0x04 → ShownBy control answer.Taken (state .changes) (pick (control .change) (nextShownOf (state .changes)) (state .changes))
+  acked e = pick-all (ShownBy control answer.Taken (state .changes)) _ _ _ (λ y. acknowledged e y refl refl) (λ n. stays refl)
 
-  pub taken-takes : (class : Class) (needs : Bool) → Named (control .code) class → Takes stand class control (takenOf stand class needs control)
-  unfolding takenOf
+  pub taken-takes : (class : Class) (needs : Bool) → Named (control .code) class → Takes state class control (takenStepOf state class needs control)
+  unfolding takenStepOf
   taken-takes class.Reset needs h = record { answer = refl; connectors = refl; tells = refl; zeroes = refl; shown = reset h refl }
   taken-takes class.Cancel needs h = record { answer = refl; connectors = refl; tells = refl; zeroes = refl; shown = stays refl }
   taken-takes class.Acknowledge needs h = record { answer = refl; connectors = refl; tells = refl; zeroes = refl; shown = acked h }
@@ -97,25 +97,25 @@ module _ (stand : Stand) (control : Control) where
   ofClass = entryOf (control .code) .class
 
   abbrev judged : Answer
-  judged = refusalOf stand ofClass control
+  judged = refusalOf state ofClass control
 
   -- A write that is taken does what its class says.
-  pub write-takes : judged ≡ answer.Taken → Takes stand ofClass control (writeOf stand control)
-  unfolding heededOf
+  pub write-takes : judged ≡ answer.Taken → Takes state ofClass control (controlStepOf state control)
+  unfolding judgedStepOf
   write-takes e =
-      pick-all (Takes stand ofClass control) _ _ _
+      pick-all (Takes state ofClass control) _ _ _
       (λ y. taken-takes ofClass (entryOf (control .code) .connector) (named (control .code)))
-      (λ n. absurd (eqb-false (numberOf judged) 0 n (ap numberOf e)))
+      (λ n. absurd (eqb-false (mailboxNumberOf judged) 0 n (ap mailboxNumberOf e)))
 
   -- A write that is refused keeps everything.
-  pub write-refused : (judged ≡ answer.Taken → ⊥) → writeOf stand control ≡ refused stand judged
-  unfolding heededOf
+  pub write-refused : (judged ≡ answer.Taken → ⊥) → controlStepOf state control ≡ refused state judged
+  unfolding judgedStepOf
   write-refused h =
-      pick-all (λ (s : Step). s ≡ refused stand judged) _ _ _ (λ y. absurd (h (zero-taken judged (eqb-true (numberOf judged) 0 y)))) (λ n. refl)
+      pick-all (λ (s : Step). s ≡ refused state judged) _ _ _ (λ y. absurd (h (zero-taken judged (eqb-true (mailboxNumberOf judged) 0 y)))) (λ n. refl)
 
-  pub write-shown : ShownBy control (writeOf stand control .answer) (stand .changes) (writeOf stand control .stand .changes)
-  unfolding heededOf
+  pub write-shown : ShownBy control (controlStepOf state control .answer) (state .changes) (controlStepOf state control .state .changes)
+  unfolding judgedStepOf
   write-shown =
-      pick-all (λ (s : Step). ShownBy control (s .answer) (stand .changes) (s .stand .changes)) _ _ _
+      pick-all (λ (s : Step). ShownBy control (s .answer) (state .changes) (s .state .changes)) _ _ _
       (λ y. taken-takes ofClass (entryOf (control .code) .connector) (named (control .code)) .shown)
       (λ n. stays refl)

@@ -4,8 +4,8 @@ use mathlib.Core.Bool.{Bool, false}
 use mathlib.Core.List.{List, [], _∷_}
 use mathlib.Core.Path.{_≡_, refl, _∙_, ap}
 use lib.ListN.{getD, set}
-use Rattle.mailbox_state.specs.declared.stand.Changes.{Changes}
-use Rattle.mailbox_rules.specs.Changes.{lowestOf, nextOf}
+use Rattle.mailbox_state.specs.declared.state.Changes.{Changes}
+use Rattle.mailbox_rules.specs.Changes.{lowestOf, nextShownOf}
 use Rattle.mailbox_rules.proofs.Marked.{marked-is, marked-other}
 
 set-here : (w : List Bool) (i : ℕ) → getD (set w i false) i false ≡ false
@@ -17,15 +17,15 @@ module _ (now : Changes) where
   abbrev lowest : ℕ
   lowest = lowestOf (now .waiting)
 
-  pub next-shows : nextOf now .shown ≡ lowest
-  unfolding nextOf
+  pub next-shows : nextShownOf now .shown ≡ lowest
+  unfolding nextShownOf
   next-shows = refl
 
-  pub next-waits-no-more : 1 ≤ lowest → lowest ≤ 8 → getD (nextOf now .waiting) (lowest - 1) false ≡ false
-  unfolding nextOf
+  pub next-waits-no-more : 1 ≤ lowest → lowest ≤ 8 → getD (nextShownOf now .waiting) (lowest - 1) false ≡ false
+  unfolding nextShownOf
   next-waits-no-more low high =
       ap (λ (w : List Bool). getD w (lowest - 1) false) (marked-is (now .waiting) lowest false low high) ∙ set-here (now .waiting) (lowest - 1)
 
-  pub next-others : (j : ℕ) → (j ≡ lowest - 1 → ⊥) → getD (nextOf now .waiting) j false ≡ getD (now .waiting) j false
-  unfolding nextOf
+  pub next-others : (j : ℕ) → (j ≡ lowest - 1 → ⊥) → getD (nextShownOf now .waiting) j false ≡ getD (now .waiting) j false
+  unfolding nextShownOf
   next-others j h = marked-other (now .waiting) lowest false j h

@@ -7,9 +7,9 @@ use borrow.Author.Tests.{eqb-false, ltb-true, ltb-false}
 use lib.Dec.{ltb}
 use lib.ListN.{getD, replicate}
 use Rattle.basis.specs.Pick.{pick-all}
-use Rattle.mailbox_state.specs.Stand.{changes, noChanges}
-use Rattle.mailbox_state.specs.declared.stand.Changes.{Changes}
-use Rattle.mailbox_rules.specs.Changes.{lowestOf, markedOf, notedOf, nextOf}
+use Rattle.mailbox_state.specs.State.{changes, noChanges}
+use Rattle.mailbox_state.specs.declared.state.Changes.{Changes}
+use Rattle.mailbox_rules.specs.Changes.{lowestOf, markedOf, notedOf, nextShownOf}
 use Rattle.mailbox_rules.proofs.Lowest.{First, none, first, lowest-first}
 use Rattle.mailbox_rules.proofs.Marked.{marked-other, unmarked}
 
@@ -60,6 +60,6 @@ module _ (count : ℕ) (now : Changes) (w : Within count now) where
       below true y = let h = ltb-true i count y in omega (arith, h, e)
       below false n = absurd (true≢false (sym t ∙ w .waiting i (ltb-false i count n)))
 
-  pub next-within : Within count (nextOf now)
-  unfolding nextOf
+  pub next-within : Within count (nextShownOf now)
+  unfolding nextShownOf
   next-within = lowest-within (lowestOf (now .waiting)) (lowest-first 1 (now .waiting))

@@ -5,63 +5,63 @@ use mathlib.Core.Path.{_≡_, refl}
 use native.Mathlib.Omega.{arith}
 use borrow.Author.Tests.{lt-ltb, le-ltb, ltb-false}
 use Rattle.basis.specs.Pick.{pick, pick-all}
-use Rattle.mailbox_state.specs.Answer.{numberOf}
-use Rattle.mailbox_state.specs.Stand.{stands}
-use Rattle.mailbox_state.specs.Step.{step, refused}
-use Rattle.mailbox_state.specs.Told.{runsOf}
+use Rattle.mailbox_state.specs.Answer.{mailboxNumberOf}
+use Rattle.mailbox_state.specs.State.{mailboxState}
+use Rattle.mailbox_state.specs.Step.{mailboxStep, refused}
+use Rattle.mailbox_state.specs.Status.{runsOf}
 use Rattle.mailbox_state.specs.declared.answer.Answer.the-variants.{Taken, NothingRuns, DataTooLong}
-use Rattle.mailbox_state.specs.declared.told.Told.{Told}
-use Rattle.mailbox_state.specs.declared.told.Told.the-variants.{Completed, Failed}
-use Rattle.mailbox_state.specs.declared.stand.Stand.{Stand}
+use Rattle.mailbox_state.specs.declared.status.CommandStatus.{CommandStatus}
+use Rattle.mailbox_state.specs.declared.status.CommandStatus.the-variants.{Completed, Failed}
+use Rattle.mailbox_state.specs.declared.state.State.{State}
 use Rattle.mailbox_state.specs.declared.step.Clears.the-variants.{Nothing, NoData}
 use Rattle.mailbox_state.specs.declared.step.Step.{Step}
-use Rattle.mailbox_rules.specs.Report.{dataMost, succeedOf, failOf}
+use Rattle.mailbox_rules.specs.Report.{dataMost, successStepOf, failureStepOf}
 
 -- Nothing but what is told changes.
-abbrev pub telling : Stand → Told → Stand
-telling stand told = stands (stand .connectors) (stand .notifications) told (stand .changes)
+abbrev pub telling : State → CommandStatus → State
+telling state status = mailboxState (state .connectors) (state .notifications) status (state .changes)
 
-module _ (stand : Stand) where
+module _ (state : State) where
   -- 7 comes before 8: of any length.
-  pub success-7 : (n : ℕ) → runsOf (stand .told) ≡ false → succeedOf stand n ≡ refused stand NothingRuns
-  unfolding succeedOf pick
+  pub success-7 : (n : ℕ) → runsOf (state .status) ≡ false → successStepOf state n ≡ refused state NothingRuns
+  unfolding successStepOf pick
   success-7 n e = rw e
 
-  pub success-8 : (n : ℕ) → runsOf (stand .told) ≡ true → 255 < n → succeedOf stand n ≡ refused stand DataTooLong
-  unfolding succeedOf pick
+  pub success-8 : (n : ℕ) → runsOf (state .status) ≡ true → 255 < n → successStepOf state n ≡ refused state DataTooLong
+  unfolding successStepOf pick
   success-8 n e h = rw (e, lt-ltb 255 n h)
 
-  pub success-completes : (n : ℕ) → runsOf (stand .told) ≡ true → n ≤ 255 → succeedOf stand n ≡ step (telling stand (Completed n)) Taken Nothing
-  unfolding succeedOf pick
+  pub success-completes : (n : ℕ) → runsOf (state .status) ≡ true → n ≤ 255 → successStepOf state n ≡ mailboxStep (telling state (Completed n)) Taken Nothing
+  unfolding successStepOf pick
   success-completes n e h = rw (e, le-ltb 255 n h)
 
-  pub failure-7 : runsOf (stand .told) ≡ false → failOf stand ≡ refused stand NothingRuns
-  unfolding failOf pick
+  pub failure-7 : runsOf (state .status) ≡ false → failureStepOf state ≡ refused state NothingRuns
+  unfolding failureStepOf pick
   failure-7 e = rw e
 
-  pub failure-completes : runsOf (stand .told) ≡ true → failOf stand ≡ step (telling stand Failed) Taken NoData
-  unfolding failOf pick
+  pub failure-completes : runsOf (state .status) ≡ true → failureStepOf state ≡ mailboxStep (telling state Failed) Taken NoData
+  unfolding failureStepOf pick
   failure-completes e = rw e
 
 abbrev Fits : ℕ → Step → Type 0
-Fits n step = numberOf (step .answer) ≡ 0 → n ≤ dataMost
+Fits n mailboxStep = mailboxNumberOf (mailboxStep .answer) ≡ 0 → n ≤ dataMost
 
 -- A success that is taken has at most 255 bytes.
-pub success-fits : (stand : Stand) (n : ℕ) → Fits n (succeedOf stand n)
-unfolding succeedOf
-success-fits stand n =
+pub success-fits : (state : State) (n : ℕ) → Fits n (successStepOf state n)
+unfolding successStepOf
+success-fits state n =
     pick-all (Fits n) _ _ _
     (λ runs. pick-all (Fits n) _ _ _ (λ long e. absurd (omega arith)) (λ short e. ltb-false dataMost n short))
     (λ still e. absurd (omega arith))
 
 -- A report leaves what is shown and what waits.
-abbrev Leaves : Stand → Step → Type 0
-Leaves stand step = step .stand .changes ≡ stand .changes
+abbrev Leaves : State → Step → Type 0
+Leaves state mailboxStep = mailboxStep .state .changes ≡ state .changes
 
-pub success-leaves : (stand : Stand) (n : ℕ) → Leaves stand (succeedOf stand n)
-unfolding succeedOf
-success-leaves stand n = pick-all (Leaves stand) _ _ _ (λ y. pick-all (Leaves stand) _ _ _ (λ y. refl) (λ n. refl)) (λ n. refl)
+pub success-leaves : (state : State) (n : ℕ) → Leaves state (successStepOf state n)
+unfolding successStepOf
+success-leaves state n = pick-all (Leaves state) _ _ _ (λ y. pick-all (Leaves state) _ _ _ (λ y. refl) (λ n. refl)) (λ n. refl)
 
-pub failure-leaves : (stand : Stand) → Leaves stand (failOf stand)
-unfolding failOf
-failure-leaves stand = pick-all (Leaves stand) _ _ _ (λ y. refl) (λ n. refl)
+pub failure-leaves : (state : State) → Leaves state (failureStepOf state)
+unfolding failureStepOf
+failure-leaves state = pick-all (Leaves state) _ _ _ (λ y. refl) (λ n. refl)

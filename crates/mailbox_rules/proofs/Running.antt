@@ -4,13 +4,13 @@ use mathlib.Core.Path.{_≡_, refl, sym}
 use Rattle.basis.specs.Pick.{pick}
 use Rattle.commands.specs.declared.table.Class.{Class}
 use Rattle.commands.specs.declared.table.Class.the-variants.{Reset, Cancel, Acknowledge, Enable, Run, NotSupported}
-use Rattle.mailbox_state.specs.Told.{runsOf, dueOf}
-use Rattle.mailbox_state.specs.declared.told.Told.{Told}
-use Rattle.mailbox_state.specs.declared.told.Told.the-variants.{Nothing, ResetDone, Busy, Completed, Failed, NotSupported as Unsupported, Cancelled, Acknowledged}
+use Rattle.mailbox_state.specs.Status.{runsOf, dueOf}
+use Rattle.mailbox_state.specs.declared.status.CommandStatus.{CommandStatus}
+use Rattle.mailbox_state.specs.declared.status.CommandStatus.the-variants.{Nothing, ResetDone, Busy, Completed, Failed, NotSupported as Unsupported, Cancelled, Acknowledged}
 use Rattle.mailbox_rules.specs.Refusal.{judgedOf, unheardOf}
 
 -- An acknowledgement is never due in a run.
-pub not-due : (told : Told) → runsOf told ≡ true → dueOf told ≡ false
+pub not-due : (status : CommandStatus) → runsOf status ≡ true → dueOf status ≡ false
 unfolding runsOf dueOf
 not-due (Busy command) e = refl
 not-due Nothing e = refl

@@ -3,10 +3,10 @@ use mathlib.Core.Path.{_≡_, refl}
 use Rattle.commands.specs.declared.control.Parsed.{Parsed}
 use Rattle.commands.specs.declared.control.Parsed.the-variants.{Fields, WrongLength}
 use Rattle.mailbox_rules.specs.Mailbox.{clearedOf, settledOf}
-use Rattle.mailbox_rules.specs.Events.{stepOf, readOf}
-use Rattle.mailbox_state.specs.declared.state.Mailbox.{Mailbox}
+use Rattle.mailbox_rules.specs.Events.{parsedStepOf, mailboxReadOf}
+use Rattle.mailbox_state.specs.declared.mailbox.Mailbox.{Mailbox}
 
-pub read-settled : (m : Mailbox) (p : Parsed) → readOf m p ≡ settledOf m (stepOf (m .stand) p)
-unfolding readOf stepOf clearedOf
+pub read-settled : (m : Mailbox) (p : Parsed) → mailboxReadOf m p ≡ settledOf m (parsedStepOf (m .state) p)
+unfolding mailboxReadOf parsedStepOf clearedOf
 read-settled m (Fields control) = refl
 read-settled m WrongLength = refl

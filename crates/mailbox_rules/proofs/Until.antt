@@ -9,26 +9,26 @@ use lib.ListN.{length}
 use Rattle.basis.specs.Pick.{pick, pick-all}
 use Rattle.commands.specs.Control.{fieldsOf, controlOf}
 use Rattle.commands.specs.declared.control.Parsed.{Parsed}
-use Rattle.mailbox_state.specs.Told.{runsOf, dueOf}
-use Rattle.mailbox_state.specs.declared.stand.Stand.{Stand}
+use Rattle.mailbox_state.specs.Status.{runsOf, dueOf}
+use Rattle.mailbox_state.specs.declared.state.State.{State}
 use Rattle.mailbox_rules.proofs.Pending.{Stops, run-stays, Ends, due-still, due-stays}
 use Rattle.mailbox_rules.proofs.Noted.{change-alters}
 use Rattle.mailbox_rules.proofs.Report.{success-7, success-completes, failure-7, failure-completes}
-use Rattle.mailbox_rules.specs.Events.{readOf, reportedOf, successOf, failureOf}
+use Rattle.mailbox_rules.specs.Events.{mailboxReadOf, mailboxReportedOf, mailboxSuccessOf, mailboxFailureOf}
 use Rattle.mailbox_rules.specs.History.{Event, writes, succeeds, fails, changes, eventOf}
-use Rattle.mailbox_state.specs.declared.state.Mailbox.{Mailbox}
+use Rattle.mailbox_state.specs.declared.mailbox.Mailbox.{Mailbox}
 
 abbrev pub IsDue : Mailbox → Type 0
-IsDue m = dueOf (m .stand .told) ≡ true
+IsDue m = dueOf (m .state .status) ≡ true
 
-module _ (m : Mailbox) (r : runsOf (m .stand .told) ≡ true) where
-  pub success-due : (bytes : List ℕ) → length bytes ≤ 255 → IsDue (successOf m bytes .state)
-  unfolding reportedOf dueOf pick
-  success-due bytes h = rw (success-completes (m .stand) (length bytes) r h)
+module _ (m : Mailbox) (r : runsOf (m .state .status) ≡ true) where
+  pub success-due : (bytes : List ℕ) → length bytes ≤ 255 → IsDue (mailboxSuccessOf m bytes .mailbox)
+  unfolding mailboxReportedOf dueOf pick
+  success-due bytes h = rw (success-completes (m .state) (length bytes) r h)
 
-  pub failure-due : IsDue (failureOf m .state)
+  pub failure-due : IsDue (mailboxFailureOf m .mailbox)
   unfolding dueOf
-  failure-due = rw (failure-completes (m .stand) r)
+  failure-due = rw (failure-completes (m .state) r)
 
 -- Of an event: whether it is the one that may end it.
 abbrev pub EndsIt : Event → Type 0
@@ -38,17 +38,17 @@ EndsIt fails = ⊥
 EndsIt (changes c reason) = ⊥
 
 module _ (m : Mailbox) (d : IsDue m) where
-  success-not : (bytes : List ℕ) → IsDue (successOf m bytes .state)
-  unfolding reportedOf pick
-  success-not bytes = rw (success-7 (m .stand) (length bytes) (due-still (m .stand .told) d)) d
+  success-not : (bytes : List ℕ) → IsDue (mailboxSuccessOf m bytes .mailbox)
+  unfolding mailboxReportedOf pick
+  success-not bytes = rw (success-7 (m .state) (length bytes) (due-still (m .state .status) d)) d
 
-  pub due-until : (e : Event) → IsDue (eventOf m e .state) ⊎ EndsIt e
-  unfolding readOf controlOf
+  pub due-until : (e : Event) → IsDue (eventOf m e .mailbox) ⊎ EndsIt e
+  unfolding mailboxReadOf controlOf
   due-until (writes control) =
-      pick-all (λ (p : Parsed). IsDue (readOf m p .state) ⊎ EndsIt (writes control)) _ _ _ (λ y. due-stays (m .stand) (fieldsOf control) d) (λ n. inl d)
+      pick-all (λ (p : Parsed). IsDue (mailboxReadOf m p .mailbox) ⊎ EndsIt (writes control)) _ _ _ (λ y. due-stays (m .state) (fieldsOf control) d) (λ n. inl d)
   due-until (succeeds bytes) = inl (success-not bytes)
-  due-until fails = inl (rw (failure-7 (m .stand) (due-still (m .stand .told) d)) d)
-  due-until (changes c reason) = inl (ap (λ (s : Stand). dueOf (s .told)) (change-alters (m .stand) c reason .stand-kept) ∙ d)
+  due-until fails = inl (rw (failure-7 (m .state) (due-still (m .state .status) d)) d)
+  due-until (changes c reason) = inl (ap (λ (s : State). dueOf (s .status)) (change-alters (m .state) c reason .stand-kept) ∙ d)
 
 -- Of an event: whether it is one that may end a run.
 abbrev pub StopsIt : Event → Type 0
@@ -58,12 +58,12 @@ StopsIt fails = Unit
 StopsIt (changes c reason) = ⊥
 
 -- A command runs until the port reports, but for CANCEL and PPM_RESET.
-pub run-until : (m : Mailbox) → runsOf (m .stand .told) ≡ true → (e : Event) → (eventOf m e .state .stand .told ≡ m .stand .told) ⊎ StopsIt e
-unfolding readOf controlOf
+pub run-until : (m : Mailbox) → runsOf (m .state .status) ≡ true → (e : Event) → (eventOf m e .mailbox .state .status ≡ m .state .status) ⊎ StopsIt e
+unfolding mailboxReadOf controlOf
 run-until m r (writes control) =
-    pick-all (λ (p : Parsed). (readOf m p .state .stand .told ≡ m .stand .told) ⊎ StopsIt (writes control)) _ _ _
-    (λ y. run-stays (m .stand) (fieldsOf control) r)
+    pick-all (λ (p : Parsed). (mailboxReadOf m p .mailbox .state .status ≡ m .state .status) ⊎ StopsIt (writes control)) _ _ _
+    (λ y. run-stays (m .state) (fieldsOf control) r)
     (λ n. inl refl)
 run-until m r (succeeds bytes) = inr tt
 run-until m r fails = inr tt
-run-until m r (changes c reason) = inl (ap (λ (s : Stand). s .told) (change-alters (m .stand) c reason .stand-kept))
+run-until m r (changes c reason) = inl (ap (λ (s : State). s .status) (change-alters (m .state) c reason .stand-kept))

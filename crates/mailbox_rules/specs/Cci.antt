@@ -1,7 +1,7 @@
 -- CCI, bit for bit (01, The mailbox; 000 T3-2).
 use Prim.Native.Nat.{ℕ, _+_, _*_, _%_, _^_}
-use Rattle.mailbox_state.specs.declared.told.Told.{Told}
-use Rattle.mailbox_state.specs.declared.told.Told.the-variants.{Nothing, ResetDone, Busy, Completed, Failed, NotSupported, Cancelled, Acknowledged}
+use Rattle.mailbox_state.specs.declared.status.CommandStatus.{CommandStatus}
+use Rattle.mailbox_state.specs.declared.status.CommandStatus.the-variants.{Nothing, ResetDone, Busy, Completed, Failed, NotSupported, Cancelled, Acknowledged}
 
 -- Bits 1 to 7: the connector shown.
 abbrev pub connector : ℕ
@@ -35,19 +35,19 @@ error = 30
 abbrev pub complete : ℕ
 complete = 31
 
-abbrev pub bit : ℕ → ℕ
-bit i = 2 ^ i
+abbrev pub cciBit : ℕ → ℕ
+cciBit i = 2 ^ i
 
 abbrev pub shownBits : ℕ → ℕ
-shownBits shown = shown % 2 ^ connectorSize * bit connector
+shownBits shown = shown % 2 ^ connectorSize * cciBit connector
 
 -- While a command runs, CCI is bit 28 alone. Cancel sets bit 26 and what 000 T4-4 prints beside it.
-unfoldable pub cciOf : Told → ℕ → ℕ
-cciOf Nothing shown = shownBits shown
-cciOf ResetDone shown = bit resetDone + shownBits shown
-cciOf (Busy command) shown = bit busy
-cciOf (Completed length) shown = bit complete + length * bit dataLength + shownBits shown
-cciOf Failed shown = bit complete + bit error + shownBits shown
-cciOf NotSupported shown = bit complete + bit notSupported + shownBits shown
-cciOf Cancelled shown = bit complete + bit cancelDone + shownBits shown
-cciOf Acknowledged shown = bit acknowledge + shownBits shown
+unfoldable pub cciBitsOf : CommandStatus → ℕ → ℕ
+cciBitsOf Nothing shown = shownBits shown
+cciBitsOf ResetDone shown = cciBit resetDone + shownBits shown
+cciBitsOf (Busy command) shown = cciBit busy
+cciBitsOf (Completed length) shown = cciBit complete + length * cciBit dataLength + shownBits shown
+cciBitsOf Failed shown = cciBit complete + cciBit error + shownBits shown
+cciBitsOf NotSupported shown = cciBit complete + cciBit notSupported + shownBits shown
+cciBitsOf Cancelled shown = cciBit complete + cciBit cancelDone + shownBits shown
+cciBitsOf Acknowledged shown = cciBit acknowledge + shownBits shown

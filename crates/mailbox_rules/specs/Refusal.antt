@@ -6,11 +6,11 @@ use Rattle.basis.specs.Pick.{pick}
 use Rattle.commands.specs.declared.table.Class.{Class}
 use Rattle.commands.specs.declared.table.Class.the-variants.{Reset, Cancel, Acknowledge, Enable, Run, NotSupported}
 use Rattle.commands.specs.declared.control.Control.{Control}
-use Rattle.mailbox_state.specs.Told.{runsOf, dueOf}
-use Rattle.mailbox_state.specs.Stand.{offOf}
+use Rattle.mailbox_state.specs.Status.{runsOf, dueOf}
+use Rattle.mailbox_state.specs.State.{offOf}
 use Rattle.mailbox_state.specs.declared.answer.Answer.{Answer}
 use Rattle.mailbox_state.specs.declared.answer.Answer.the-variants.{Taken, NotificationsOff, CommandRuns, AcknowledgementDue, NothingToClear, NothingToCancel}
-use Rattle.mailbox_state.specs.declared.stand.Stand.{Stand}
+use Rattle.mailbox_state.specs.declared.state.State.{State}
 
 abbrev place : Class → ℕ
 place Reset = 0
@@ -39,9 +39,9 @@ judgedOf class off runs due shown change completed =
     (pick (is Cancel class && not runs) NothingToCancel
     Taken)))))
 
-abbrev pub refusalOf : Stand → Class → Control → Answer
-refusalOf stand class control =
-    judgedOf class (offOf (stand .notifications)) (runsOf (stand .told)) (dueOf (stand .told)) (not (eqb (stand .changes .shown) 0))
+abbrev pub refusalOf : State → Class → Control → Answer
+refusalOf state class control =
+    judgedOf class (offOf (state .notifications)) (runsOf (state .status)) (dueOf (state .status)) (not (eqb (state .changes .shown) 0))
     (control .change)
     (control .completed)
 

@@ -9,42 +9,42 @@ use Rattle.commands.specs.declared.table.Class.{Class}
 use Rattle.commands.specs.declared.table.Class.the-variants as class
 use Rattle.commands.specs.declared.table.Entry.{Entry}
 use Rattle.commands.specs.declared.control.Control.{Control}
-use Rattle.mailbox_state.specs.Answer.{numberOf}
-use Rattle.mailbox_state.specs.Stand.{noChanges, stands}
-use Rattle.mailbox_state.specs.Step.{step, refused}
+use Rattle.mailbox_state.specs.Answer.{mailboxNumberOf}
+use Rattle.mailbox_state.specs.State.{noChanges, mailboxState}
+use Rattle.mailbox_state.specs.Step.{mailboxStep, refused}
 use Rattle.mailbox_state.specs.declared.answer.Answer.{Answer}
 use Rattle.mailbox_state.specs.declared.answer.Answer.the-variants.{Taken}
-use Rattle.mailbox_state.specs.declared.told.Command.{Command}
-use Rattle.mailbox_state.specs.declared.told.Told.{Told}
-use Rattle.mailbox_state.specs.declared.told.Told.the-variants.{ResetDone, Busy, Completed, Failed, NotSupported, Cancelled, Acknowledged}
-use Rattle.mailbox_state.specs.declared.stand.Notifications.the-variants.{Off, On}
-use Rattle.mailbox_state.specs.declared.stand.Stand.{Stand}
+use Rattle.mailbox_state.specs.declared.status.Command.{Command}
+use Rattle.mailbox_state.specs.declared.status.CommandStatus.{CommandStatus}
+use Rattle.mailbox_state.specs.declared.status.CommandStatus.the-variants.{ResetDone, Busy, Completed, Failed, NotSupported, Cancelled, Acknowledged}
+use Rattle.mailbox_state.specs.declared.state.Notifications.the-variants.{Off, On}
+use Rattle.mailbox_state.specs.declared.state.State.{State}
 use Rattle.mailbox_state.specs.declared.step.Clears.{Clears}
 use Rattle.mailbox_state.specs.declared.step.Clears.the-variants.{Nothing, Reset, Cancel, NoData}
 use Rattle.mailbox_state.specs.declared.step.Step.{Step}
-use Rattle.mailbox_rules.specs.Changes.{nextOf}
+use Rattle.mailbox_rules.specs.Changes.{nextShownOf}
 use Rattle.mailbox_rules.specs.Refusal.{refusalOf}
 
 -- A connector number from 1 to the count.
-unfoldable pub thereOf : ℕ → ℕ → Bool
-thereOf connector count = leb 1 connector && leb connector count
+unfoldable pub connectorThere : ℕ → ℕ → Bool
+connectorThere connector count = leb 1 connector && leb connector count
 
 -- Only what is told changes.
-abbrev pub tells : Stand → Told → Clears → Step
-tells stand told clears = step (stands (stand .connectors) (stand .notifications) told (stand .changes)) Taken clears
+abbrev pub withStatus : State → CommandStatus → Clears → Step
+withStatus state status clears = mailboxStep (mailboxState (state .connectors) (state .notifications) status (state .changes)) Taken clears
 
 -- Changes and mask cleared, notifications off, nothing running, no acknowledgement due.
-abbrev pub resets : Stand → Step
-resets stand = step (stands (stand .connectors) Off ResetDone noChanges) Taken Reset
+abbrev pub resets : State → Step
+resets state = mailboxStep (mailboxState (state .connectors) Off ResetDone noChanges) Taken Reset
 
 -- With bit 16 set it also clears the connector shown.
-abbrev pub acknowledges : Stand → Bool → Step
-acknowledges stand change =
-    step (stands (stand .connectors) (stand .notifications) Acknowledged (pick change (nextOf (stand .changes)) (stand .changes))) Taken Nothing
+abbrev pub acknowledges : State → Bool → Step
+acknowledges state change =
+    mailboxStep (mailboxState (state .connectors) (state .notifications) Acknowledged (pick change (nextShownOf (state .changes)) (state .changes))) Taken Nothing
 
 -- Takes the mask, notifications on, completes at once.
-abbrev pub enables : Stand → ℕ → Step
-enables stand mask = step (stands (stand .connectors) (On mask) (Completed 0) (stand .changes)) Taken NoData
+abbrev pub enables : State → ℕ → Step
+enables state mask = mailboxStep (mailboxState (state .connectors) (On mask) (Completed 0) (state .changes)) Taken NoData
 
 abbrev pub commandOf : Bool → Control → Command
 commandOf needs control =
@@ -55,24 +55,24 @@ commandOf needs control =
     }
 
 -- Runs until the port reports; without the connector that it needs it completes at once with bits 30 and 31.
-unfoldable pub begins : Stand → Bool → Control → Step
-begins stand needs control =
-    pick (needs && not (thereOf (control .connector) (stand .connectors)))
-    (tells stand Failed NoData)
-    (tells stand (Busy (commandOf needs control)) Nothing)
+unfoldable pub startsCommand : State → Bool → Control → Step
+startsCommand state needs control =
+    pick (needs && not (connectorThere (control .connector) (state .connectors)))
+    (withStatus state Failed NoData)
+    (withStatus state (Busy (commandOf needs control)) Nothing)
 
-unfoldable pub takenOf : Stand → Class → Bool → Control → Step
-takenOf stand class.Reset needs control = resets stand
-takenOf stand class.Cancel needs control = tells stand Cancelled Cancel
-takenOf stand class.Acknowledge needs control = acknowledges stand (control .change)
-takenOf stand class.Enable needs control = enables stand (control .mask)
-takenOf stand class.Run needs control = begins stand needs control
-takenOf stand class.NotSupported needs control = tells stand NotSupported NoData
+unfoldable pub takenStepOf : State → Class → Bool → Control → Step
+takenStepOf state class.Reset needs control = resets state
+takenStepOf state class.Cancel needs control = withStatus state Cancelled Cancel
+takenStepOf state class.Acknowledge needs control = acknowledges state (control .change)
+takenStepOf state class.Enable needs control = enables state (control .mask)
+takenStepOf state class.Run needs control = startsCommand state needs control
+takenStepOf state class.NotSupported needs control = withStatus state NotSupported NoData
 
-unfoldable pub heededOf : Stand → Entry → Control → Answer → Step
-heededOf stand entry control answer =
-    pick (eqb (numberOf answer) 0) (takenOf stand (entry .class) (entry .connector) control) (refused stand answer)
+unfoldable pub judgedStepOf : State → Entry → Control → Answer → Step
+judgedStepOf state entry control answer =
+    pick (eqb (mailboxNumberOf answer) 0) (takenStepOf state (entry .class) (entry .connector) control) (refused state answer)
 
-abbrev pub writeOf : Stand → Control → Step
-writeOf stand control =
-    heededOf stand (entryOf (control .code)) control (refusalOf stand (entryOf (control .code) .class) control)
+abbrev pub controlStepOf : State → Control → Step
+controlStepOf state control =
+    judgedStepOf state (entryOf (control .code)) control (refusalOf state (entryOf (control .code) .class) control)

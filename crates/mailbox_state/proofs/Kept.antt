@@ -2,8 +2,8 @@
 use mathlib.Core.Path.{_≡_, refl}
 use Rattle.mailbox_state.specs.Step.{refused}
 use Rattle.mailbox_state.specs.declared.answer.Answer.{Answer}
-use Rattle.mailbox_state.specs.declared.stand.Stand.{Stand}
+use Rattle.mailbox_state.specs.declared.state.State.{State}
 use Rattle.mailbox_state.specs.declared.step.Clears.the-variants.{Nothing}
 
-pub refused-keeps : (stand : Stand) (answer : Answer) → (refused stand answer .stand ≡ stand) × (refused stand answer .answer ≡ answer) × (refused stand answer .clears ≡ Nothing)
-refused-keeps stand answer = (refl, refl, refl)
+pub refused-keeps : (state : State) (answer : Answer) → (refused state answer .state ≡ state) × (refused state answer .answer ≡ answer) × (refused state answer .clears ≡ Nothing)
+refused-keeps state answer = (refl, refl, refl)

@@ -4,14 +4,14 @@ use Prim.Native.Nat.{ℕ}
 use mathlib.Core.Bool.{true, false}
 use mathlib.Core.List.{List, [], _∷_, map}
 use mathlib.Core.Path.{_≡_, refl}
-use Rattle.mailbox_state.specs.Stand.{offOf}
-use Rattle.mailbox_state.specs.Told.{runsOf, dueOf}
-use Rattle.mailbox_state.specs.declared.stand.Notifications.the-variants.{Off, On}
-use Rattle.mailbox_state.specs.declared.told.Command.{Command}
-use Rattle.mailbox_state.specs.declared.told.Told.{Told}
-use Rattle.mailbox_state.specs.declared.told.Told.the-variants.{Nothing, ResetDone, Busy, Completed, Failed, NotSupported, Cancelled, Acknowledged}
+use Rattle.mailbox_state.specs.State.{offOf}
+use Rattle.mailbox_state.specs.Status.{runsOf, dueOf}
+use Rattle.mailbox_state.specs.declared.state.Notifications.the-variants.{Off, On}
+use Rattle.mailbox_state.specs.declared.status.Command.{Command}
+use Rattle.mailbox_state.specs.declared.status.CommandStatus.{CommandStatus}
+use Rattle.mailbox_state.specs.declared.status.CommandStatus.the-variants.{Nothing, ResetDone, Busy, Completed, Failed, NotSupported, Cancelled, Acknowledged}
 
-abbrev all : Command → ℕ → List Told
+abbrev all : Command → ℕ → List CommandStatus
 all command length = Nothing ∷ ResetDone ∷ Acknowledged ∷ Busy command ∷ Completed length ∷ Failed ∷ NotSupported ∷ Cancelled ∷ []
 
 pub runs-rows : (command : Command) (length : ℕ) → map runsOf (all command length) ≡ false ∷ false ∷ false ∷ true ∷ false ∷ false ∷ false ∷ false ∷ []

@@ -5,15 +5,15 @@ use Rattle.basis.specs.Pick.{pick}
 use Rattle.mailbox_state.specs.declared.connectors.Counted.{Counted}
 use Rattle.mailbox_state.specs.declared.connectors.Counted.the-variants.{Made, Refused}
 
-abbrev pub least : ℕ
-least = 1
+abbrev pub connectorsLeast : ℕ
+connectorsLeast = 1
 
-abbrev pub most : ℕ
-most = 8
+abbrev pub connectorsMost : ℕ
+connectorsMost = 8
 
 unfoldable pub countedOf : ℕ → Counted
-countedOf count = pick (ltb count least) Refused (pick (ltb most count) Refused (Made (record { count = count })))
+countedOf count = pick (ltb count connectorsLeast) Refused (pick (ltb connectorsMost count) Refused (Made (record { count = count })))
 
-abbrev pub numberOf : Counted → ℕ
-numberOf (Made connectors) = 0
-numberOf Refused = 29
+abbrev pub connectorsNumberOf : Counted → ℕ
+connectorsNumberOf (Made connectors) = 0
+connectorsNumberOf Refused = 29

@@ -1,5 +1,5 @@
 pub mod Answer
-pub mod Told
-pub mod Stand
+pub mod Status
+pub mod State
 pub mod Connectors
 pub mod Step

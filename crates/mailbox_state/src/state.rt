@@ -1,13 +1,22 @@
-// The mailbox by value, its MESSAGE_IN inside, and what a call returns of it.
-use crate::answer::Answer;
-use crate::stand::Stand;
+// Where the mailbox stands.
+use crate::status::CommandStatus;
 
-pub struct Mailbox {
-    pub stand: Stand,
-    pub message: [u8; 256],
+// A mask is there only while notifications are on.
+pub enum Notifications {
+    Off,
+    On { mask: u16 },
 }
 
-pub struct Outcome {
-    pub state: Mailbox,
-    pub answer: Answer,
+// `shown` is a connector or 0 for none; connector c waits if `waiting[c - 1]`.
+pub struct Changes {
+    pub shown: u8,
+    pub waiting: [bool; 8],
+}
+
+// `connectors` is how many there are.
+pub struct State {
+    pub connectors: u8,
+    pub notifications: Notifications,
+    pub status: CommandStatus,
+    pub changes: Changes,
 }

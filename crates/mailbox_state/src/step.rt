@@ -1,6 +1,6 @@
 // What is decided on an event: where the mailbox stands then, its answer, and what it clears.
 use crate::answer::Answer;
-use crate::stand::Stand;
+use crate::state::State;
 
 // What zeroes MESSAGE_IN: PPM_RESET, CANCEL, or a completion without data.
 pub enum Clears {
@@ -11,7 +11,7 @@ pub enum Clears {
 }
 
 pub struct Step {
-    pub stand: Stand,
+    pub state: State,
     pub answer: Answer,
     pub clears: Clears,
 }

@@ -7,9 +7,9 @@ use Rattle.image.specs.Blocks.{blocksOf}
 use Rattle.image.specs.Sum.{sumOf}
 use Rattle.wire.specs.Written.{responseBytes}
 use Rattle.wire.specs.declared.response.Response.the-variants.{Initiate}
-use Rattle.mailbox_rules.specs.Mailbox.{freshOf, cciOf}
+use Rattle.mailbox_rules.specs.Mailbox.{mailboxFreshOf, mailboxCciOf}
 use Rattle.mailbox_rules.specs.History.{Event, writes, changes, eventOf}
-use Rattle.mailbox_state.specs.declared.state.Mailbox.{Mailbox}
+use Rattle.mailbox_state.specs.declared.mailbox.Mailbox.{Mailbox}
 
 -- CONTROL: the command in the first byte, bits 16 to 31 in the third and fourth.
 abbrev pub control : ℕ → ℕ → ℕ → Event
@@ -17,11 +17,11 @@ control code low high = writes (code ∷ 0 ∷ low ∷ high ∷ 0 ∷ 0 ∷ 0 �
 
 abbrev pub after : Mailbox → List Event → Mailbox
 after m [] = m
-after m (e ∷ es) = after (eventOf m e .state) es
+after m (e ∷ es) = after (eventOf m e .mailbox) es
 
 -- Two connectors, after enabling (mask FFFF) and ACK.
 abbrev pub enabled : Mailbox
-enabled = after (freshOf (record { count = 2 })) (control 0x05 0xFF 0xFF ∷ control 0x04 0x02 0x00 ∷ [])
+enabled = after (mailboxFreshOf (record { count = 2 })) (control 0x05 0xFF 0xFF ∷ control 0x04 0x02 0x00 ∷ [])
 
 -- A file's blocks, a capacity's bytes in a ready INITIATE answer, the sum of accepted bytes, CCI after these events.
 pub data Example : Type 0 where
@@ -34,7 +34,7 @@ abbrev pub valueOf : Example → List ℕ
 valueOf (blocks size) = blocksOf size ∷ []
 valueOf (capacity most) = drop 4 (responseBytes (Initiate 0 0 most))
 valueOf (sum bytes) = sumOf bytes ∷ []
-valueOf (cci events) = cciOf (after enabled events) ∷ []
+valueOf (cci events) = mailboxCciOf (after enabled events) ∷ []
 
 pub record Row : Type 0 where
   pub example : Example

@@ -7,19 +7,19 @@ use Rattle.commands.specs.Control.{fieldsOf, controlOf}
 use Rattle.commands.specs.Table.{entryOf}
 use Rattle.printing.specs.Digits.{digitOf, decimalOf}
 use Rattle.printing.specs.Line.{tailOf, textOf}
-use Rattle.recording.specs.Reading.{nextOf}
+use Rattle.recording.specs.Reading.{nextRecordOf}
 use Rattle.recording.specs.Apart.{turns, apartOf}
-use Rattle.mailbox_state.specs.Stand.{offOf}
-use Rattle.mailbox_state.specs.Told.{runsOf, dueOf}
+use Rattle.mailbox_state.specs.State.{offOf}
+use Rattle.mailbox_state.specs.Status.{runsOf, dueOf}
 use Rattle.mailbox_rules.specs.Cci as cci
-use Rattle.mailbox_rules.specs.Change.{meetsOf, heardOf, presentOf}
+use Rattle.mailbox_rules.specs.Change.{meetsOf, heardOf, presentStepOf}
 use Rattle.mailbox_rules.specs.Change as change
 use Rattle.mailbox_rules.specs.Changes as changes
 use Rattle.mailbox_rules.specs.Refusal.{judgedOf}
-use Rattle.mailbox_rules.specs.Report.{succeedOf, failOf}
-use Rattle.mailbox_rules.specs.Write.{thereOf, begins, takenOf, heededOf}
-use Rattle.mailbox_rules.specs.Mailbox.{freshOf}
-use Rattle.mailbox_rules.specs.Events.{readOf, reportedOf}
+use Rattle.mailbox_rules.specs.Report.{successStepOf, failureStepOf}
+use Rattle.mailbox_rules.specs.Write.{connectorThere, startsCommand, takenStepOf, judgedStepOf}
+use Rattle.mailbox_rules.specs.Mailbox.{mailboxFreshOf}
+use Rattle.mailbox_rules.specs.Events.{mailboxReadOf, mailboxReportedOf}
 use Rattle.playing.specs.Turn.{eventIn, outcomeOf, printed}
 use Rattle.playing.specs.Replay.{shownOf, printedOf}
 
@@ -58,5 +58,5 @@ pub record Cases : Type 0 where
   pub misses : printedOf (masked ++ 0x02 ∷ 0x01 ∷ 0x00 ∷ 0x02 ∷ []) ≡ textOf 0x80000000 0 ++ textOf 0x20000000 0 ++ textOf 0x20000000 0
 
 pub cases : Cases
-unfolding shownOf apartOf turns nextOf eventIn outcomeOf printed digitOf decimalOf tailOf freshOf readOf reportedOf controlOf fieldsOf entryOf heededOf judgedOf takenOf begins thereOf pick offOf runsOf dueOf cci.cciOf succeedOf change.changeOf presentOf heardOf meetsOf changes.notedOf changes.nextOf changes.lowestFrom changes.markedOf failOf
+unfolding shownOf apartOf turns nextRecordOf eventIn outcomeOf printed digitOf decimalOf tailOf mailboxFreshOf mailboxReadOf mailboxReportedOf controlOf fieldsOf entryOf judgedStepOf judgedOf takenStepOf startsCommand connectorThere pick offOf runsOf dueOf cci.cciBitsOf successStepOf change.changeStepOf presentStepOf heardOf meetsOf changes.notedOf changes.nextShownOf changes.lowestFrom changes.markedOf failureStepOf
 cases = record { whole-case = refl; failure = refl; second = refl; third = refl; meets = refl; misses = refl }

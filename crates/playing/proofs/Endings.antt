@@ -4,7 +4,7 @@ use mathlib.Core.Path.{_≡_, refl, _∙_, ap}
 use mathlib.Core.List.{List, [], _++_, append-nil}
 use native.Mathlib.Omega.{arith}
 use Rattle.printing.specs.Line.{longest, stopText, lineIn, stopOf}
-use Rattle.recording.specs.Reading.{nextOf}
+use Rattle.recording.specs.Reading.{nextRecordOf}
 use Rattle.recording.specs.Apart.{apart, onward, apartOf, writtenOf}
 use Rattle.recording.proofs.TakenApart.{apart-step, apart-written}
 use Rattle.recording.proofs.Moved.{unknown-stays}
@@ -12,7 +12,7 @@ use Rattle.recording.specs.declared.record.Record.{Record}
 use Rattle.recording.specs.declared.reader.Read.the-variants.{Ended}
 use Rattle.recording.specs.declared.reader.Ending.{Ending}
 use Rattle.recording.specs.declared.reader.Ending.the-variants.{Whole, Cut, UnknownKind}
-use Rattle.mailbox_state.specs.declared.state.Mailbox.{Mailbox}
+use Rattle.mailbox_state.specs.declared.mailbox.Mailbox.{Mailbox}
 use Rattle.playing.specs.Replay.{linesOf, closingText, shownOf, replayOf}
 use Rattle.playing.specs.Part.{closingOf}
 use Rattle.playing.specs.declared.part.Stop.{Stop}
@@ -30,12 +30,12 @@ unfolding closingOf
 closing-rows = record { whole = refl; cut = refl; unknown = refl; full = refl }
 
 -- Where no record is found, the closing line is all that is printed.
-pub replay-ended : (m : Mailbox) (s : List ℕ) (ending : Ending) → nextOf s 0 ≡ Ended ending → replayOf m s ≡ closingText ending
+pub replay-ended : (m : Mailbox) (s : List ℕ) (ending : Ending) → nextRecordOf s 0 ≡ Ended ending → replayOf m s ≡ closingText ending
 unfolding shownOf
 replay-ended m s ending e = ap (shownOf m) (apart-step s ∙ ap (onward apartOf s) e)
 
 -- Records, and behind them nothing, a cut record or an unknown kind: their lines, and then the closing line.
-pub replay-written : (m : Mailbox) (rs : List Record) (rest : List ℕ) (ending : Ending) → nextOf rest 0 ≡ Ended ending
+pub replay-written : (m : Mailbox) (rs : List Record) (rest : List ℕ) (ending : Ending) → nextRecordOf rest 0 ≡ Ended ending
     → replayOf m (writtenOf rs ++ rest) ≡ linesOf m rs ++ closingText ending
 unfolding shownOf
 replay-written m rs rest ending e =
@@ -44,7 +44,7 @@ replay-written m rs rest ending e =
     ap (shownOf m) all
 
 -- Whatever follows an unknown kind, nothing more is printed.
-pub stop-last : (m : Mailbox) (rs : List Record) (rest more : List ℕ) → nextOf rest 0 ≡ Ended UnknownKind
+pub stop-last : (m : Mailbox) (rs : List Record) (rest more : List ℕ) → nextRecordOf rest 0 ≡ Ended UnknownKind
     → replayOf m (writtenOf rs ++ (rest ++ more)) ≡ linesOf m rs ++ stopText
 stop-last m rs rest more e = replay-written m rs (rest ++ more) UnknownKind (unknown-stays rest more 0 e)
 

@@ -8,26 +8,26 @@ use Rattle.printing.specs.Line.{longest, textOf}
 use Rattle.printing.proofs.Texts.{line-holds, line-sized, Says, line-says}
 use Rattle.recording.specs.declared.record.Record.{Record}
 use Rattle.recording.specs.declared.record.Record.the-variants.{Success}
-use Rattle.mailbox_state.specs.Answer.{numberOf}
-use Rattle.mailbox_state.specs.declared.state.Mailbox.{Mailbox}
-use Rattle.mailbox_state.specs.Told.{runsOf}
+use Rattle.mailbox_state.specs.Answer.{mailboxNumberOf}
+use Rattle.mailbox_state.specs.declared.mailbox.Mailbox.{Mailbox}
+use Rattle.mailbox_state.specs.Status.{runsOf}
 use Rattle.mailbox_state.specs.declared.answer.Answer.{Answer}
 use Rattle.mailbox_state.specs.declared.answer.Answer.the-variants.{Taken, ControlLength, NotificationsOff, CommandRuns, AcknowledgementDue, NothingToClear, NothingToCancel, NothingRuns, DataTooLong, NoSuchConnector}
-use Rattle.mailbox_rules.specs.Mailbox.{cciOf, messageOf}
+use Rattle.mailbox_rules.specs.Mailbox.{mailboxCciOf, messageInOf}
 use Rattle.mailbox_rules.proofs.Message.{success-fills}
 use Rattle.playing.specs.Turn.{eventIn, outcomeOf, printed, turnOf}
 
 -- 11 to 13 bytes.
 pub printed-sized : (m : Mailbox) (r : Record) → (11 ≤ length (printed (outcomeOf m r))) × (length (printed (outcomeOf m r)) ≤ longest)
 unfolding printed
-printed-sized m r = line-sized (cciOf (outcomeOf m r .state)) (numberOf (outcomeOf m r .answer))
+printed-sized m r = line-sized (mailboxCciOf (outcomeOf m r .mailbox)) (mailboxNumberOf (outcomeOf m r .answer))
 
 -- The line that a turn hands out is that of its own mailbox and answer.
-pub turn-line : (m : Mailbox) (r : Record) → take (turnOf m r .line .len) (turnOf m r .line .bytes) ≡ textOf (cciOf (turnOf m r .state)) (numberOf (turnOf m r .answer))
+pub turn-line : (m : Mailbox) (r : Record) → take (turnOf m r .line .len) (turnOf m r .line .bytes) ≡ textOf (mailboxCciOf (turnOf m r .mailbox)) (mailboxNumberOf (turnOf m r .answer))
 unfolding turnOf printed
-turn-line m r = line-holds (textOf (cciOf (outcomeOf m r .state)) (numberOf (outcomeOf m r .answer))) .1
+turn-line m r = line-holds (textOf (mailboxCciOf (outcomeOf m r .mailbox)) (mailboxNumberOf (outcomeOf m r .answer))) .1
 
-number-small : (a : Answer) → numberOf a < 256
+number-small : (a : Answer) → mailboxNumberOf a < 256
 number-small Taken = omega arith
 number-small ControlLength = omega arith
 number-small NotificationsOff = omega arith
@@ -40,12 +40,12 @@ number-small DataTooLong = omega arith
 number-small NoSuchConnector = omega arith
 
 -- So what is read in it is CCI and the answer's number; every u32 is below 2^32.
-pub turn-says : (m : Mailbox) (r : Record) → cciOf (turnOf m r .state) < 2 ^ 32
-    → Says (cciOf (turnOf m r .state)) (numberOf (turnOf m r .answer)) (take (turnOf m r .line .len) (turnOf m r .line .bytes))
+pub turn-says : (m : Mailbox) (r : Record) → mailboxCciOf (turnOf m r .mailbox) < 2 ^ 32
+    → Says (mailboxCciOf (turnOf m r .mailbox)) (mailboxNumberOf (turnOf m r .answer)) (take (turnOf m r .line .len) (turnOf m r .line .bytes))
 turn-says m r h = rw (turn-line m r) (line-says _ _ h (number-small (turnOf m r .answer)))
 
 -- That many zero bytes: all 256 are zero.
-pub success-zeros : (m : Mailbox) (n : ℕ) → runsOf (m .stand .told) ≡ true → n ≤ 255 → messageOf (outcomeOf m (Success n) .state) ≡ replicate 256 0
+pub success-zeros : (m : Mailbox) (n : ℕ) → runsOf (m .state .status) ≡ true → n ≤ 255 → messageInOf (outcomeOf m (Success n) .mailbox) ≡ replicate 256 0
 unfolding outcomeOf eventIn
 success-zeros m n r h =
     let l : length (replicate {A = ℕ} n 0) ≡ n = length-replicate n 0 in

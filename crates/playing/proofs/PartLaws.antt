@@ -7,8 +7,8 @@ use lib.ListN.{length, take, drop, length-drop, length-append}
 use lib.Seq.{drop-drop, drop-append-le, take-append-seam, drop-append-seam}
 use Rattle.basis.specs.Left.{Left, left}
 use Rattle.printing.specs.Line.{longest}
-use Rattle.recording.specs.Reading.{nextOf}
-use Rattle.recording.specs.Writing.{bytesOf}
+use Rattle.recording.specs.Reading.{nextRecordOf}
+use Rattle.recording.specs.Writing.{recordBytesOf}
 use Rattle.recording.specs.Apart.{onward, apartOf}
 use Rattle.recording.proofs.Cases.{found-past, Short, next-short}
 use Rattle.recording.proofs.TakenApart.{apart-step}
@@ -16,7 +16,7 @@ use Rattle.recording.proofs.Moved.{found-stays}
 use Rattle.recording.specs.declared.record.Record.{Record}
 use Rattle.recording.specs.declared.reader.Read.the-variants.{Found, Ended}
 use Rattle.recording.specs.declared.reader.Ending.the-variants.{Whole, Cut, UnknownKind}
-use Rattle.mailbox_state.specs.declared.state.Mailbox.{Mailbox}
+use Rattle.mailbox_state.specs.declared.mailbox.Mailbox.{Mailbox}
 use Rattle.playing.specs.Turn.{outcomeOf, printed}
 use Rattle.playing.specs.Replay.{linesOf, shownOf, replayOf}
 use Rattle.playing.specs.Part.{partOf, leadsOf, playOf}
@@ -74,25 +74,25 @@ never-full =
     ih (omega (arith, past, sized, l)))
 
 -- The lines of a recording from its first record on.
-replay-found : (m : Mailbox) (s : List ℕ) (r : Record) (next : ℕ) → nextOf s 0 ≡ Found r next → replayOf m s ≡ printed (outcomeOf m r) ++ replayOf (outcomeOf m r .state) (drop next s)
+replay-found : (m : Mailbox) (s : List ℕ) (r : Record) (next : ℕ) → nextRecordOf s 0 ≡ Found r next → replayOf m s ≡ printed (outcomeOf m r) ++ replayOf (outcomeOf m r .mailbox) (drop next s)
 unfolding shownOf
 replay-found m s r next e =
-    ap (shownOf m) (apart-step s ∙ ap (onward apartOf s) e) ∙ append-assoc (printed (outcomeOf m r)) (linesOf (outcomeOf m r .state) (apartOf (drop next s) .records)) _
+    ap (shownOf m) (apart-step s ∙ ap (onward apartOf s) e) ∙ append-assoc (printed (outcomeOf m r)) (linesOf (outcomeOf m r .mailbox) (apartOf (drop next s) .records)) _
 
 -- Whatever follows the part.
 pub part-joins : (m : Mailbox) (room : ℕ) (part more : List ℕ)
-    → replayOf m (part ++ more) ≡ partOf m room (apartOf part) .text ++ replayOf (partOf m room (apartOf part) .state) (drop (partOf m room (apartOf part) .taken) part ++ more)
+    → replayOf m (part ++ more) ≡ partOf m room (apartOf part) .text ++ replayOf (partOf m room (apartOf part) .mailbox) (drop (partOf m room (apartOf part) .taken) part ++ more)
 part-joins m room part more =
-    part-all (λ m room part q. replayOf m (part ++ more) ≡ q .text ++ replayOf (q .state) (drop (q .taken) part ++ more))
+    part-all (λ m room part q. replayOf m (part ++ more) ≡ q .text ++ replayOf (q .mailbox) (drop (q .taken) part ++ more))
     (λ m room part ending e. refl)
     (λ m room part r next e h. refl)
     (λ m room part r next rest e h ih.
     let past = found-past part 0 r next e in
-    let size : next ≡ length (bytesOf r) = omega (arith, past) in
+    let size : next ≡ length (recordBytesOf r) = omega (arith, past) in
     replay-found m (part ++ more) r next (found-stays part more 0 r next e)
-    ∙ ap (λ (s : List ℕ). printed (outcomeOf m r) ++ replayOf (outcomeOf m r .state) s) (drop-append-le next part more (past .2))
+    ∙ ap (λ (s : List ℕ). printed (outcomeOf m r) ++ replayOf (outcomeOf m r .mailbox) s) (drop-append-le next part more (past .2))
     ∙ ap (λ (t : List ℕ). printed (outcomeOf m r) ++ t)
-    (ih ∙ ap (λ (s : List ℕ). rest .text ++ replayOf (rest .state) (s ++ more)) (drop-drop (rest .taken) next part ∙ ap (λ (k : ℕ). drop (k + rest .taken) part) size))
+    (ih ∙ ap (λ (s : List ℕ). rest .text ++ replayOf (rest .mailbox) (s ++ more)) (drop-drop (rest .taken) next part ∙ ap (λ (k : ℕ). drop (k + rest .taken) part) size))
     ∙ sym (append-assoc (printed (outcomeOf m r)) (rest .text) _))
     m room part
 
@@ -101,26 +101,26 @@ part-joins m room part more =
 pub record Waits (m : Mailbox) (room : ℕ) (rest : List ℕ) : Type 0 where
   pub waiting : Record
   pub next : ℕ
-  pub found : nextOf rest 0 ≡ Found waiting next
+  pub found : nextRecordOf rest 0 ≡ Found waiting next
   pub long : room < length (printed (outcomeOf m waiting))
 
 abbrev pub Because : Mailbox → ℕ → List ℕ → Stop → Type 0
-Because m room rest (Stop.Ended ending) = nextOf rest 0 ≡ Ended ending
+Because m room rest (Stop.Ended ending) = nextRecordOf rest 0 ≡ Ended ending
 Because m room rest Stop.Full = Waits m room rest
 
 pub part-stops : (m : Mailbox) (room : ℕ) (part : List ℕ)
-    → Because (partOf m room (apartOf part) .state) (room - length (partOf m room (apartOf part) .text)) (drop (partOf m room (apartOf part) .taken) part) (partOf m room (apartOf part) .stop)
+    → Because (partOf m room (apartOf part) .mailbox) (room - length (partOf m room (apartOf part) .text)) (drop (partOf m room (apartOf part) .taken) part) (partOf m room (apartOf part) .stop)
 part-stops =
-    part-all (λ m room part q. Because (q .state) (room - length (q .text)) (drop (q .taken) part) (q .stop))
+    part-all (λ m room part q. Because (q .mailbox) (room - length (q .text)) (drop (q .taken) part) (q .stop))
     (λ m room part ending e. e)
     (λ m room part r next e h. record { waiting = r; next = next; found = e; long = omega arith })
     (λ m room part r next rest e h ih.
     let past = found-past part 0 r next e in
-    let size : next ≡ length (bytesOf r) = omega (arith, past) in
+    let size : next ≡ length (recordBytesOf r) = omega (arith, past) in
     let left : room - length (printed (outcomeOf m r)) - length (rest .text) ≡ room - length (printed (outcomeOf m r) ++ rest .text) = simp length-append (omega arith) in
-    let place : drop (rest .taken) (drop next part) ≡ drop (length (bytesOf r) + rest .taken) part = drop-drop (rest .taken) next part ∙ ap (λ (k : ℕ). drop (k + rest .taken) part) size in
-    subst (λ (k : ℕ). Because (rest .state) k (drop (length (bytesOf r) + rest .taken) part) (rest .stop)) left
-    (subst (λ (s : List ℕ). Because (rest .state) (room - length (printed (outcomeOf m r)) - length (rest .text)) s (rest .stop)) place ih))
+    let place : drop (rest .taken) (drop next part) ≡ drop (length (recordBytesOf r) + rest .taken) part = drop-drop (rest .taken) next part ∙ ap (λ (k : ℕ). drop (k + rest .taken) part) size in
+    subst (λ (k : ℕ). Because (rest .mailbox) k (drop (length (recordBytesOf r) + rest .taken) part) (rest .stop)) left
+    (subst (λ (s : List ℕ). Because (rest .mailbox) (room - length (printed (outcomeOf m r)) - length (rest .text)) s (rest .stop)) place ih))
 
 -- Behind the last record played, nothing or the begun part of one record.
 abbrev pub Leaves : ℕ → Stop → Type 0
@@ -138,13 +138,13 @@ leaving m room part taken Stop.Full e = tt
 pub part-leaves : (m : Mailbox) (room : ℕ) (part : List ℕ) → Leaves (length part - partOf m room (apartOf part) .taken) (partOf m room (apartOf part) .stop)
 part-leaves m room part =
     let q = partOf m room (apartOf part) in
-    leaving (q .state) (room - length (q .text)) part (q .taken) (q .stop) (part-stops m room part)
+    leaving (q .mailbox) (room - length (q .text)) part (q .taken) (q .stop) (part-stops m room part)
 
 -- The same of what `play` hands out.
 module _ (m : Mailbox) (part out : List ℕ) (r : Played) (now : List ℕ) (e : left r now ≡ playOf m part out) where
-  pub play-state : r .state ≡ partOf m (length out) (apartOf part) .state
+  pub play-state : r .mailbox ≡ partOf m (length out) (apartOf part) .mailbox
   unfolding leadsOf
-  play-state = ap (λ (x : Left Played). x .answer .state) e
+  play-state = ap (λ (x : Left Played). x .answer .mailbox) e
 
   pub play-taken : r .taken ≡ partOf m (length out) (apartOf part) .taken
   unfolding leadsOf
@@ -155,9 +155,9 @@ module _ (m : Mailbox) (part out : List ℕ) (r : Played) (now : List ℕ) (e : 
   play-stop = ap (λ (x : Left Played). x .answer .stop) e
 
   -- Playing on from where it stopped joins up to the whole, whatever follows.
-  pub play-joins : (more : List ℕ) → replayOf m (part ++ more) ≡ take (r .written) now ++ replayOf (r .state) (drop (r .taken) part ++ more)
+  pub play-joins : (more : List ℕ) → replayOf m (part ++ more) ≡ take (r .written) now ++ replayOf (r .mailbox) (drop (r .taken) part ++ more)
   play-joins more = rw (play-writes m part out r now e .0, play-state, play-taken) (part-joins m (length out) part more)
 
-  pub play-stops : Because (r .state) (length out - r .written) (drop (r .taken) part) (r .stop)
+  pub play-stops : Because (r .mailbox) (length out - r .written) (drop (r .taken) part) (r .stop)
   unfolding leadsOf
   play-stops = rw (play-state, play-taken, play-stop, ap (λ (x : Left Played). x .answer .written) e) (part-stops m (length out) part)

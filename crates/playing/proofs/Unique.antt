@@ -4,7 +4,7 @@ use mathlib.Core.List.{List}
 use mathlib.Core.Path.{_≡_}
 use Rattle.basis.specs.Left.{left}
 use Rattle.basis.specs.Only.{only}
-use Rattle.mailbox_state.specs.declared.state.Mailbox.{Mailbox}
+use Rattle.mailbox_state.specs.declared.mailbox.Mailbox.{Mailbox}
 use Rattle.playing.specs.Part.{playOf, closingOf}
 use Rattle.playing.specs.Replay.{begun}
 use Rattle.playing.specs.Turn.{turnOf}

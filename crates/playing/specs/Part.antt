@@ -5,14 +5,14 @@ use lib.Dec.{ltb}
 use lib.ListN.{length}
 use Rattle.basis.specs.Pick.{pick}
 use Rattle.basis.specs.Left.{Left, left}
-use Rattle.lent.specs.Led.{led}
+use Rattle.lent.specs.Led.{writtenInto}
 use Rattle.printing.specs.Line.{lineIn}
 use Rattle.printing.specs.declared.text.Line.{Line}
 use Rattle.recording.specs.Apart.{Apart, apartOf}
-use Rattle.recording.specs.Writing.{bytesOf}
+use Rattle.recording.specs.Writing.{recordBytesOf}
 use Rattle.recording.specs.declared.record.Record.{Record}
 use Rattle.recording.specs.declared.reader.Ending.{Ending}
-use Rattle.mailbox_state.specs.declared.state.Mailbox.{Mailbox}
+use Rattle.mailbox_state.specs.declared.mailbox.Mailbox.{Mailbox}
 use Rattle.playing.specs.Turn.{outcomeOf, printed}
 use Rattle.playing.specs.Replay.{closingText}
 use Rattle.playing.specs.declared.part.Stop.{Stop}
@@ -21,31 +21,31 @@ use Rattle.playing.specs.declared.part.Played.{Played}
 
 -- The mailbox afterwards, how many bytes were taken, the lines, and why no further record was played.
 pub record Plays : Type 0 where
-  pub state : Mailbox
+  pub mailbox : Mailbox
   pub taken : ℕ
   pub text : List ℕ
   pub stop : Stop
 
 abbrev pub plays : Mailbox → ℕ → List ℕ → Stop → Plays
-plays state taken text stop = record { state = state; taken = taken; text = text; stop = stop }
+plays mailbox taken text stop = record { mailbox = mailbox; taken = taken; text = text; stop = stop }
 
 -- After so many bytes and these lines.
 abbrev pub after : ℕ → List ℕ → Plays → Plays
-after taken text p = plays (p .state) (taken + p .taken) (text ++ p .text) (p .stop)
+after taken text p = plays (p .mailbox) (taken + p .taken) (text ++ p .text) (p .stop)
 
 -- A record whose line does not fit is not played.
 unfoldable pub playsOf : Mailbox → ℕ → List Record → Ending → Plays
 playsOf m room [] ending = plays m 0 [] (Ended ending)
 playsOf m room (r ∷ rs) ending =
     pick (ltb room (length (printed (outcomeOf m r)))) (plays m 0 [] Full)
-    (after (length (bytesOf r)) (printed (outcomeOf m r)) (playsOf (outcomeOf m r .state) (room - length (printed (outcomeOf m r))) rs ending))
+    (after (length (recordBytesOf r)) (printed (outcomeOf m r)) (playsOf (outcomeOf m r .mailbox) (room - length (printed (outcomeOf m r))) rs ending))
 
 abbrev pub partOf : Mailbox → ℕ → Apart → Plays
 partOf m room a = playsOf m room (a .records) (a .ending)
 
 -- The lines lead the output, and the rest of it is kept.
 unfoldable pub leadsOf : Plays → List ℕ → Left Played
-leadsOf p out = left (record { state = p .state; taken = p .taken; written = length (p .text); stop = p .stop }) (led (p .text) out)
+leadsOf p out = left (record { mailbox = p .mailbox; taken = p .taken; written = length (p .text); stop = p .stop }) (writtenInto (p .text) out)
 
 abbrev pub playOf : Mailbox → List ℕ → List ℕ → Left Played
 playOf m part out = leadsOf (partOf m (length out) (apartOf part)) out

@@ -6,18 +6,18 @@ use Rattle.recording.specs.Apart.{Apart, apartOf}
 use Rattle.recording.specs.declared.record.Record.{Record}
 use Rattle.recording.specs.declared.reader.Ending.{Ending}
 use Rattle.recording.specs.declared.reader.Ending.the-variants.{Whole, Cut, UnknownKind}
-use Rattle.mailbox_rules.specs.Mailbox.{freshOf}
-use Rattle.mailbox_state.specs.declared.state.Mailbox.{Mailbox}
+use Rattle.mailbox_rules.specs.Mailbox.{mailboxFreshOf}
+use Rattle.mailbox_state.specs.declared.mailbox.Mailbox.{Mailbox}
 use Rattle.playing.specs.Turn.{outcomeOf, printed}
 
 -- Two connectors.
 abbrev pub begun : Mailbox
-begun = freshOf (record { count = 2 })
+begun = mailboxFreshOf (record { count = 2 })
 
 -- Each record gives one line.
 abbrev pub linesOf : Mailbox → List Record → List ℕ
 linesOf m [] = []
-linesOf m (r ∷ rs) = printed (outcomeOf m r) ++ linesOf (outcomeOf m r .state) rs
+linesOf m (r ∷ rs) = printed (outcomeOf m r) ++ linesOf (outcomeOf m r .mailbox) rs
 
 -- An unknown kind or a cut record gives `stop`.
 abbrev pub closingText : Ending → List ℕ

@@ -7,29 +7,29 @@ use Rattle.recording.specs.declared.record.Record.{Record}
 use Rattle.recording.specs.declared.record.Record.the-variants.{Control, Change, Success, Failure}
 use Rattle.printing.specs.Line.{lineOf}
 use Rattle.printing.specs.declared.text.Line.{Line}
-use Rattle.mailbox_state.specs.Answer.{numberOf}
-use Rattle.mailbox_state.specs.Step.{step, refused}
+use Rattle.mailbox_state.specs.Answer.{mailboxNumberOf}
+use Rattle.mailbox_state.specs.Step.{mailboxStep, refused}
 use Rattle.mailbox_state.specs.declared.answer.Answer.{Answer}
-use Rattle.mailbox_state.specs.declared.stand.Stand.{Stand}
+use Rattle.mailbox_state.specs.declared.state.State.{State}
 use Rattle.mailbox_state.specs.declared.step.Clears.the-variants.{NoData}
 use Rattle.mailbox_state.specs.declared.step.Step.{Step}
-use Rattle.mailbox_rules.specs.Cci.{cciOf}
-use Rattle.mailbox_rules.specs.Change.{changeOf}
-use Rattle.mailbox_rules.specs.Report.{succeedOf, failOf}
-use Rattle.mailbox_rules.specs.Events.{writeStep}
+use Rattle.mailbox_rules.specs.Cci.{cciBitsOf}
+use Rattle.mailbox_rules.specs.Change.{changeStepOf}
+use Rattle.mailbox_rules.specs.Report.{successStepOf, failureStepOf}
+use Rattle.mailbox_rules.specs.Events.{writeStepOf}
 
 -- The bytes of a success are zeros, so that one that is taken zeroes MESSAGE_IN.
-unfoldable pub zeroedOf : Stand → Step → Step
-zeroedOf stand s = pick (eqb (numberOf (s .answer)) 0) (step (s .stand) (s .answer) NoData) (refused stand (s .answer))
+unfoldable pub zeroedOf : State → Step → Step
+zeroedOf state s = pick (eqb (mailboxNumberOf (s .answer)) 0) (mailboxStep (s .state) (s .answer) NoData) (refused state (s .answer))
 
-abbrev pub successStep : Stand → ℕ → Step
-successStep stand length = zeroedOf stand (succeedOf stand length)
+abbrev pub successStep : State → ℕ → Step
+successStep state length = zeroedOf state (successStepOf state length)
 
-unfoldable pub stepIn : Stand → Record → Step
-stepIn stand (Control control) = writeStep stand (controlBytes control)
-stepIn stand (Change connector reason) = changeOf stand connector reason
-stepIn stand (Success length) = successStep stand length
-stepIn stand Failure = failOf stand
+unfoldable pub stepIn : State → Record → Step
+stepIn state (Control control) = writeStepOf state (controlBytes control)
+stepIn state (Change connector reason) = changeStepOf state connector reason
+stepIn state (Success length) = successStep state length
+stepIn state Failure = failureStepOf state
 
-abbrev pub lineAfter : Stand → Answer → Line
-lineAfter stand answer = lineOf (cciOf (stand .told) (stand .changes .shown)) (numberOf answer)
+abbrev pub lineAfter : State → Answer → Line
+lineAfter state answer = lineOf (cciBitsOf (state .status) (state .changes .shown)) (mailboxNumberOf answer)

@@ -6,11 +6,11 @@ use Rattle.recording.specs.Record.{controlBytes}
 use Rattle.recording.specs.declared.record.Record.{Record}
 use Rattle.recording.specs.declared.record.Record.the-variants.{Control, Change, Success, Failure}
 use Rattle.printing.specs.Line.{textOf, lineIn}
-use Rattle.mailbox_state.specs.Answer.{numberOf}
-use Rattle.mailbox_rules.specs.Mailbox.{cciOf}
+use Rattle.mailbox_state.specs.Answer.{mailboxNumberOf}
+use Rattle.mailbox_rules.specs.Mailbox.{mailboxCciOf}
 use Rattle.mailbox_rules.specs.History.{Event, writes, succeeds, fails, changes, eventOf}
-use Rattle.mailbox_state.specs.declared.state.Mailbox.{Mailbox}
-use Rattle.mailbox_state.specs.declared.state.Outcome.{Outcome}
+use Rattle.mailbox_state.specs.declared.mailbox.Mailbox.{Mailbox}
+use Rattle.mailbox_state.specs.declared.mailbox.Outcome.{Outcome}
 use Rattle.playing.specs.declared.turn.Turn.{Turn}
 
 -- Kind 3 has one byte, and that many zero bytes are reported.
@@ -25,7 +25,7 @@ outcomeOf m r = eventOf m (eventIn r)
 
 -- CCI after the record, and the answer's number.
 unfoldable pub printed : Outcome → List ℕ
-printed o = textOf (cciOf (o .state)) (numberOf (o .answer))
+printed o = textOf (mailboxCciOf (o .mailbox)) (mailboxNumberOf (o .answer))
 
 unfoldable pub turnOf : Mailbox → Record → Turn
-turnOf m r = record { state = outcomeOf m r .state; answer = outcomeOf m r .answer; line = lineIn (printed (outcomeOf m r)) }
+turnOf m r = record { mailbox = outcomeOf m r .mailbox; answer = outcomeOf m r .answer; line = lineIn (printed (outcomeOf m r)) }

@@ -2,7 +2,7 @@
 use crate::step::clear;
 use crate::step::line_after;
 use crate::step::step_of;
-use mailbox_state::state::Mailbox;
+use mailbox_state::mailbox::Mailbox;
 use printing::Line;
 use recording::Ending;
 use recording::Read;
@@ -22,7 +22,7 @@ pub enum Stop {
 
 // The next record stands at `taken`, and the next line goes to `written`.
 pub struct Played {
-    pub state: Mailbox,
+    pub mailbox: Mailbox,
     pub taken: usize,
     pub written: usize,
     pub stop: Stop,
@@ -31,7 +31,7 @@ pub struct Played {
 pub fn play(mailbox: Mailbox, part: &[u8], out: &mut [u8]) -> Played
     ensures { λ r. ⌜ left r (now (out .exit)) ≡ playOf mailbox (now (part .entry)) (now (out .entry)) ⌝ }
 {
-    let mut stand = mailbox.stand;
+    let mut state = mailbox.state;
     let mut message = mailbox.message;
     let mut taken = 0;
     let mut written = 0;
@@ -40,19 +40,19 @@ pub fn play(mailbox: Mailbox, part: &[u8], out: &mut [u8]) -> Played
         match read {
             Read::Ended(ending) => {
                 return Played {
-                    state: Mailbox { stand, message },
+                    mailbox: Mailbox { state, message },
                     taken,
                     written,
                     stop: Stop::Ended(ending),
                 };
             }
             Read::Found { record, next } => {
-                let step = step_of(stand, record);
+                let step = step_of(state, record);
                 let answer = step.answer;
-                let line = line_after(step.stand, answer);
+                let line = line_after(step.state, answer);
                 if out.len() - written < line.len {
                     return Played {
-                        state: Mailbox { stand, message },
+                        mailbox: Mailbox { state, message },
                         taken,
                         written,
                         stop: Stop::Full,
@@ -60,7 +60,7 @@ pub fn play(mailbox: Mailbox, part: &[u8], out: &mut [u8]) -> Played
                 }
                 put(out, written, line);
                 clear(&mut message, step);
-                stand = step.stand;
+                state = step.state;
                 taken = next;
                 written += line.len;
             }

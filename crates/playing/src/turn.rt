@@ -3,14 +3,14 @@ use crate::step::clear;
 use crate::step::line_after;
 use crate::step::step_of;
 use mailbox_state::answer::Answer;
-use mailbox_state::state::Mailbox;
+use mailbox_state::mailbox::Mailbox;
 use printing::Line;
 use recording::Record;
 ghost use mathlib.Core.Path.{_≡_};
 ghost use Rattle.playing.specs.Turn.{turnOf};
 
 pub struct Turn {
-    pub state: Mailbox,
+    pub mailbox: Mailbox,
     pub answer: Answer,
     pub line: Line,
 }
@@ -18,15 +18,15 @@ pub struct Turn {
 pub fn play_record(mailbox: Mailbox, record: Record) -> Turn
     ensures { λ r. ⌜ r ≡ turnOf mailbox «record» ⌝ }
 {
-    let before = mailbox.stand;
+    let before = mailbox.state;
     let mut message = mailbox.message;
     let step = step_of(before, record);
-    let stand = step.stand;
+    let state = step.state;
     let answer = step.answer;
-    let line = line_after(stand, answer);
+    let line = line_after(state, answer);
     clear(&mut message, step);
     Turn {
-        state: Mailbox { stand, message },
+        mailbox: Mailbox { state, message },
         answer,
         line,
     }

@@ -1,7 +1,7 @@
 // How a whole recording begins, and the line that it ends with.
 use crate::part::Stop;
 use mailbox_state::connectors::Connectors;
-use mailbox_state::state::Mailbox;
+use mailbox_state::mailbox::Mailbox;
 use printing::Line;
 use recording::Ending;
 ghost use mathlib.Core.Path.{_≡_};

@@ -6,10 +6,10 @@ use wire::codes;
 use wire::request::Parsed;
 use wire::request::Request;
 ghost use mathlib.Core.Path.{_≡_};
-ghost use Rattle.wire.specs.Request.{requestOf, typedOf, bareOf, initiateOf, dataOf};
+ghost use Rattle.wire.specs.Request.{parsedRequestOf, requestOfType, bareIn, initiateIn, dataIn};
 
 pub fn read_request(msg: &[u8]) -> Parsed
-    ensures { λ r. ⌜ r ≡ requestOf (now (msg .entry)) ⌝ }
+    ensures { λ r. ⌜ r ≡ parsedRequestOf (now (msg .entry)) ⌝ }
 {
     if has_header(msg) {
         return typed(msg, msg[1]);
@@ -18,7 +18,7 @@ pub fn read_request(msg: &[u8]) -> Parsed
 }
 
 fn typed(msg: &[u8], t: u8) -> Parsed
-    ensures { λ r. ⌜ r ≡ typedOf (now (msg .entry)) t ⌝ }
+    ensures { λ r. ⌜ r ≡ requestOfType (now (msg .entry)) t ⌝ }
 {
     if t == codes::GET_FW_ID {
         return bare(msg, Request::GetFwId);
@@ -48,7 +48,7 @@ fn typed(msg: &[u8], t: u8) -> Parsed
 }
 
 fn bare(msg: &[u8], request: Request) -> Parsed
-    ensures { λ r. ⌜ r ≡ bareOf (now (msg .entry)) request ⌝ }
+    ensures { λ r. ⌜ r ≡ bareIn (now (msg .entry)) request ⌝ }
 {
     if msg.len() == codes::HEADER {
         return Parsed::Valid(request);
@@ -57,7 +57,7 @@ fn bare(msg: &[u8], request: Request) -> Parsed
 }
 
 fn initiate(msg: &[u8]) -> Parsed
-    ensures { λ r. ⌜ r ≡ initiateOf (now (msg .entry)) ⌝ }
+    ensures { λ r. ⌜ r ≡ initiateIn (now (msg .entry)) ⌝ }
 {
     if msg.len() == codes::INITIATE_LENGTH {
         return Parsed::Valid(Request::Initiate(versions_at(msg, 2)));
@@ -66,7 +66,7 @@ fn initiate(msg: &[u8]) -> Parsed
 }
 
 fn block(msg: &[u8]) -> Parsed
-    ensures { λ r. ⌜ r ≡ dataOf (now (msg .entry)) ⌝ }
+    ensures { λ r. ⌜ r ≡ dataIn (now (msg .entry)) ⌝ }
 {
     let n = msg.len();
     if n < codes::DATA_HEAD {

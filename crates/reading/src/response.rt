@@ -11,10 +11,10 @@ ghost use mathlib.Core.Path.{_≡_};
 ghost use lib.ListN.{length};
 ghost use Rattle.wire.specs.Codes.{getFwIdResponseLength};
 ghost use Rattle.wire.specs.Identity.{identityIn};
-ghost use Rattle.wire.specs.Response.{responseOf, typedOf, identifiedOf, initiatedOf, receiptOf, validatedOf};
+ghost use Rattle.wire.specs.Response.{parsedResponseOf, responseOfType, identifiedIn, initiatedIn, receiptIn, validatedIn};
 
 pub fn read_response(msg: &[u8]) -> Parsed
-    ensures { λ r. ⌜ r ≡ responseOf (now (msg .entry)) ⌝ }
+    ensures { λ r. ⌜ r ≡ parsedResponseOf (now (msg .entry)) ⌝ }
 {
     if has_header(msg) {
         return typed(msg, msg[1]);
@@ -23,7 +23,7 @@ pub fn read_response(msg: &[u8]) -> Parsed
 }
 
 fn typed(msg: &[u8], t: u8) -> Parsed
-    ensures { λ r. ⌜ r ≡ typedOf (now (msg .entry)) t ⌝ }
+    ensures { λ r. ⌜ r ≡ responseOfType (now (msg .entry)) t ⌝ }
 {
     if t == codes::GET_FW_ID_RESPONSE {
         return identified(msg);
@@ -47,7 +47,7 @@ fn typed(msg: &[u8], t: u8) -> Parsed
 }
 
 fn identified(msg: &[u8]) -> Parsed
-    ensures { λ r. ⌜ r ≡ identifiedOf (now (msg .entry)) ⌝ }
+    ensures { λ r. ⌜ r ≡ identifiedIn (now (msg .entry)) ⌝ }
 {
     if msg.len() == codes::GET_FW_ID_RESPONSE_LENGTH {
         let status = msg[2];
@@ -80,7 +80,7 @@ fn identity_in(msg: &[u8]) -> Identity
 }
 
 fn initiated(msg: &[u8]) -> Parsed
-    ensures { λ r. ⌜ r ≡ initiatedOf (now (msg .entry)) ⌝ }
+    ensures { λ r. ⌜ r ≡ initiatedIn (now (msg .entry)) ⌝ }
 {
     if msg.len() == codes::INITIATE_RESPONSE_LENGTH {
         let size = word_at(msg, 4) as u32 + 65536 * ((msg[6] % 16) as u32);
@@ -94,7 +94,7 @@ fn initiated(msg: &[u8]) -> Parsed
 }
 
 fn receipt(msg: &[u8]) -> Parsed
-    ensures { λ r. ⌜ r ≡ receiptOf (now (msg .entry)) ⌝ }
+    ensures { λ r. ⌜ r ≡ receiptIn (now (msg .entry)) ⌝ }
 {
     if msg.len() == codes::DATA_RESPONSE_LENGTH {
         let number = word_at(msg, 5);
@@ -108,7 +108,7 @@ fn receipt(msg: &[u8]) -> Parsed
 }
 
 fn validated(msg: &[u8]) -> Parsed
-    ensures { λ r. ⌜ r ≡ validatedOf (now (msg .entry)) ⌝ }
+    ensures { λ r. ⌜ r ≡ validatedIn (now (msg .entry)) ⌝ }
 {
     if msg.len() == codes::VALIDATE_RESPONSE_LENGTH {
         return Parsed::Valid(Response::Validate {

@@ -4,12 +4,12 @@ use mathlib.Core.List.{List}
 use mathlib.Core.Path.{_≡_}
 use Rattle.basis.specs.Left.{left}
 use Rattle.basis.specs.Only.{only}
-use Rattle.receiver_rules.specs.Request.{effect, requestOf}
-use Rattle.receiver_rules.specs.Session.{startOf}
-use Rattle.receiver_rules.specs.Sum.{sumOf}
-use Rattle.receiver_rules.specs.Time.{timeOf}
-use Rattle.receiver_state.specs.Session as the-session
-use Rattle.receiver_state.specs.Sum as the-sum
+use Rattle.receiver_rules.specs.Request.{effect, receiverRequestOf}
+use Rattle.receiver_rules.specs.Session.{receiverStartOf}
+use Rattle.receiver_rules.specs.Sum.{receiverSumOf}
+use Rattle.receiver_rules.specs.Time.{receiverTimeOf}
+use Rattle.receiver_state.specs.Session.{receiverStartNumberOf}
+use Rattle.receiver_state.specs.Sum.{imageSumNumberOf}
 use Rattle.receiver_state.specs.declared.session.Outcome.{Outcome}
 use Rattle.receiver_state.specs.declared.session.Receiver.{Receiver}
 use Rattle.receiver_state.specs.declared.session.Started.{Started}
@@ -18,37 +18,37 @@ use Rattle.receiver_state.specs.declared.verdict.Verdict.{Verdict}
 use Rattle.wire.specs.declared.response.Identity.{Identity}
 
 pub one-request : (session : Receiver) (image request : List ℕ) (readiness : ℕ) (verdict : Verdict) (out : List ℕ) (r r′ : Outcome) (image-left image-left′ out-left out-left′ : List ℕ)
-    → effect r image-left out-left ≡ requestOf session image request readiness verdict out
-    → effect r′ image-left′ out-left′ ≡ requestOf session image request readiness verdict out
+    → effect r image-left out-left ≡ receiverRequestOf session image request readiness verdict out
+    → effect r′ image-left′ out-left′ ≡ receiverRequestOf session image request readiness verdict out
     → effect r image-left out-left ≡ effect r′ image-left′ out-left′
 one-request session image request readiness verdict out r r′ image-left image-left′ out-left out-left′ is is′ = only is is′
 
 pub one-start : (limit resends : ℕ) (identity : Identity) (capacity : ℕ) (r r′ : Started)
-    → r ≡ startOf limit resends identity capacity
-    → r′ ≡ startOf limit resends identity capacity
+    → r ≡ receiverStartOf limit resends identity capacity
+    → r′ ≡ receiverStartOf limit resends identity capacity
     → r ≡ r′
 one-start limit resends identity capacity r r′ is is′ = only is is′
 
 pub one-started-number : (started : Started) (r r′ : ℕ)
-    → r ≡ the-session.numberOf started
-    → r′ ≡ the-session.numberOf started
+    → r ≡ receiverStartNumberOf started
+    → r′ ≡ receiverStartNumberOf started
     → r ≡ r′
 one-started-number started r r′ is is′ = only is is′
 
 pub one-sum : (session : Receiver) (image : List ℕ) (r r′ : Summed)
-    → r ≡ sumOf session image
-    → r′ ≡ sumOf session image
+    → r ≡ receiverSumOf session image
+    → r′ ≡ receiverSumOf session image
     → r ≡ r′
 one-sum session image r r′ is is′ = only is is′
 
 pub one-summed-number : (summed : Summed) (r r′ : ℕ)
-    → r ≡ the-sum.numberOf summed
-    → r′ ≡ the-sum.numberOf summed
+    → r ≡ imageSumNumberOf summed
+    → r′ ≡ imageSumNumberOf summed
     → r ≡ r′
 one-summed-number summed r r′ is is′ = only is is′
 
 pub one-time : (session : Receiver) (elapsed : ℕ) (out : List ℕ) (r r′ : Outcome) (out-left out-left′ : List ℕ)
-    → left r out-left ≡ timeOf session elapsed out
-    → left r′ out-left′ ≡ timeOf session elapsed out
+    → left r out-left ≡ receiverTimeOf session elapsed out
+    → left r′ out-left′ ≡ receiverTimeOf session elapsed out
     → left r out-left ≡ left r′ out-left′
 one-time session elapsed out r r′ out-left out-left′ is is′ = only is is′

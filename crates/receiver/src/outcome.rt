@@ -4,20 +4,20 @@ use receiver_state::phase::Phase;
 use receiver_state::session::Outcome;
 use receiver_state::session::Receiver;
 ghost use mathlib.Core.Path.{_≡_};
-ghost use Rattle.receiver_rules.specs.Session.{ends, moved};
+ghost use Rattle.receiver_rules.specs.Session.{receiverReturns, receiverMoved};
 
 pub(crate) fn refused(session: Receiver, answer: Answer) -> Outcome
-    ensures { λ r. ⌜ r ≡ ends session answer 0 ⌝ }
+    ensures { λ r. ⌜ r ≡ receiverReturns session answer 0 ⌝ }
 {
     Outcome {
-        state: session,
+        session,
         answer,
         written: 0,
     }
 }
 
 pub(crate) fn moved(session: Receiver, phase: Phase, silence: u16, resends: u8) -> Receiver
-    ensures { λ r. ⌜ r ≡ moved session phase silence resends ⌝ }
+    ensures { λ r. ⌜ r ≡ receiverMoved session phase silence resends ⌝ }
 {
     let settings = session.settings;
     let identity = session.identity;

@@ -17,10 +17,10 @@ ghost use mathlib.Core.Path.{_≡_};
 ghost use Prim.Native.Nat.{_≤_};
 ghost use lib.ListN.{length};
 ghost use Rattle.wire.specs.Codes.{longest};
-ghost use Rattle.wire.specs.Request.{requestOf as messageOf};
+ghost use Rattle.wire.specs.Request.{parsedRequestOf as messageOf};
 ghost use Rattle.wire.specs.declared.request.Parsed.the-variants.{Valid};
-ghost use Rattle.receiver_rules.specs.Decide.{decideOf};
-ghost use Rattle.receiver_rules.specs.Request.{effect, doneOf, readOf, requestOf};
+ghost use Rattle.receiver_rules.specs.Decide.{receiverDecideOf};
+ghost use Rattle.receiver_rules.specs.Request.{effect, requestDone, requestReadOf, receiverRequestOf};
 
 pub fn request(
     session: Receiver,
@@ -30,7 +30,7 @@ pub fn request(
     verdict: Verdict,
     out: &mut [u8],
 ) -> Outcome
-    ensures { λ r. ⌜ effect r (now (image .exit)) (now (out .exit)) ≡ requestOf session (now (image .entry)) (now (request .entry)) readiness verdict (now (out .entry)) ⌝ }
+    ensures { λ r. ⌜ effect r (now (image .exit)) (now (out .exit)) ≡ receiverRequestOf session (now (image .entry)) (now (request .entry)) readiness verdict (now (out .entry)) ⌝ }
 {
     if image.len() != session.capacity as usize {
         return refused(session, Answer::ImageLength);
@@ -53,7 +53,7 @@ fn read(
     out: &mut [u8],
 ) -> Outcome
     requires { ⌜ longest ≤ length (now out) ⌝ }
-    ensures { λ r. ⌜ effect r (now (image .exit)) (now (out .exit)) ≡ readOf session (messageOf (now (request .entry))) (now (image .entry)) (now (request .entry)) readiness verdict (now (out .entry)) ⌝ }
+    ensures { λ r. ⌜ effect r (now (image .exit)) (now (out .exit)) ≡ requestReadOf session (messageOf (now (request .entry))) (now (image .entry)) (now (request .entry)) readiness verdict (now (out .entry)) ⌝ }
 {
     let parsed = reading::read_request(request);
     let Parsed::Valid(valid) = parsed else {
@@ -74,7 +74,7 @@ fn hear(
 ) -> Outcome
     requires { ⌜ longest ≤ length (now out) ⌝ }
     requires { ⌜ messageOf (now request) ≡ Valid valid ⌝ }
-    ensures { λ r. ⌜ effect r (now (image .exit)) (now (out .exit)) ≡ doneOf session (decideOf (session .phase) valid (session .capacity) readiness verdict) (now (image .entry)) (now (request .entry)) (now (out .entry)) ⌝ }
+    ensures { λ r. ⌜ effect r (now (image .exit)) (now (out .exit)) ≡ requestDone session (receiverDecideOf (session .phase) valid (session .capacity) readiness verdict) (now (image .entry)) (now (request .entry)) (now (out .entry)) ⌝ }
 {
     let before = session.phase;
     let identity = session.identity;
@@ -84,9 +84,9 @@ fn hear(
     let phase = step.phase;
     apply(image, request, store);
     let written = respond(out, identity, session.capacity, answer);
-    let state = moved(session, phase, 0, 0);
+    let session = moved(session, phase, 0, 0);
     Outcome {
-        state,
+        session,
         answer,
         written,
     }

@@ -12,12 +12,12 @@ ghost use Rattle.wire.specs.Codes.{longest};
 ghost use Rattle.wire.specs.Written.{responseBytes};
 ghost use Rattle.wire.specs.declared.response.Response.the-variants.{Data, Validate};
 ghost use Rattle.receiver_state.specs.Answer.{replyOf};
-ghost use Rattle.lent.specs.Led.{leads};
+ghost use Rattle.lent.specs.Led.{returnsWritten};
 ghost use Rattle.receiver_rules.specs.Respond.{replyBytes};
 
 pub(crate) fn respond(out: &mut [u8], identity: Identity, capacity: u32, answer: Answer) -> usize
     requires { ⌜ longest ≤ length (now out) ⌝ }
-    ensures { λ r. ⌜ left r (now (out .exit)) ≡ leads (replyBytes (replyOf identity capacity answer)) (now (out .entry)) ⌝ }
+    ensures { λ r. ⌜ left r (now (out .exit)) ≡ returnsWritten (replyBytes (replyOf identity capacity answer)) (now (out .entry)) ⌝ }
 {
     let sends = reply(answer, identity, capacity);
     deliver(out, sends)
@@ -25,7 +25,7 @@ pub(crate) fn respond(out: &mut [u8], identity: Identity, capacity: u32, answer:
 
 fn deliver(out: &mut [u8], reply: Reply) -> usize
     requires { ⌜ longest ≤ length (now out) ⌝ }
-    ensures { λ r. ⌜ left r (now (out .exit)) ≡ leads (replyBytes reply) (now (out .entry)) ⌝ }
+    ensures { λ r. ⌜ left r (now (out .exit)) ≡ returnsWritten (replyBytes reply) (now (out .entry)) ⌝ }
 {
     match reply {
         Reply::Nothing => 0,
@@ -36,7 +36,7 @@ fn deliver(out: &mut [u8], reply: Reply) -> usize
 // Each kind is written by itself: the compiler then knows how long it is, and copies no more than that.
 fn send(out: &mut [u8], response: Response) -> usize
     requires { ⌜ longest ≤ length (now out) ⌝ }
-    ensures { λ r. ⌜ left r (now (out .exit)) ≡ leads (responseBytes response) (now (out .entry)) ⌝ }
+    ensures { λ r. ⌜ left r (now (out .exit)) ≡ returnsWritten (responseBytes response) (now (out .entry)) ⌝ }
 {
     match response {
         Response::GetFwId { status, identity } => write(
@@ -63,7 +63,7 @@ fn send(out: &mut [u8], response: Response) -> usize
 
 fn receipt(out: &mut [u8], status: u8, wait: u8, number: u16) -> usize
     requires { ⌜ longest ≤ length (now out) ⌝ }
-    ensures { λ r. ⌜ left r (now (out .exit)) ≡ leads (responseBytes (Data status wait number)) (now (out .entry)) ⌝ }
+    ensures { λ r. ⌜ left r (now (out .exit)) ≡ returnsWritten (responseBytes (Data status wait number)) (now (out .entry)) ⌝ }
 {
     write(
         out,
@@ -77,7 +77,7 @@ fn receipt(out: &mut [u8], status: u8, wait: u8, number: u16) -> usize
 
 fn validated(out: &mut [u8], status: u8, wait: u8, success: bool) -> usize
     requires { ⌜ longest ≤ length (now out) ⌝ }
-    ensures { λ r. ⌜ left r (now (out .exit)) ≡ leads (responseBytes (Validate status wait success)) (now (out .entry)) ⌝ }
+    ensures { λ r. ⌜ left r (now (out .exit)) ≡ returnsWritten (responseBytes (Validate status wait success)) (now (out .entry)) ⌝ }
 {
     write(
         out,
@@ -91,7 +91,7 @@ fn validated(out: &mut [u8], status: u8, wait: u8, success: bool) -> usize
 
 fn write(out: &mut [u8], response: Response) -> usize
     requires { ⌜ longest ≤ length (now out) ⌝ }
-    ensures { λ r. ⌜ left r (now (out .exit)) ≡ leads (responseBytes response) (now (out .entry)) ⌝ }
+    ensures { λ r. ⌜ left r (now (out .exit)) ≡ returnsWritten (responseBytes response) (now (out .entry)) ⌝ }
 {
     let message = writing::write_response(response);
     let written = message.len;

@@ -7,12 +7,12 @@ use silence::Settings;
 use wire::codes;
 use wire::response::Identity;
 ghost use mathlib.Core.Path.{_≡_};
-ghost use Rattle.receiver_state.specs.Session.{numberOf};
-ghost use Rattle.receiver_rules.specs.Session.{startOf, freshOf};
+ghost use Rattle.receiver_state.specs.Session.{receiverStartNumberOf};
+ghost use Rattle.receiver_rules.specs.Session.{receiverStartOf, receiverFreshOf};
 
 // From plain numbers, so that a session that is made here has settings that were tested.
 pub fn start(limit: u16, resends: u8, identity: Identity, capacity: usize) -> Started
-    ensures { λ r. ⌜ r ≡ startOf limit resends identity capacity ⌝ }
+    ensures { λ r. ⌜ r ≡ receiverStartOf limit resends identity capacity ⌝ }
 {
     if codes::IMAGE_SIZE_MOST < capacity {
         return Started::Refused;
@@ -22,7 +22,7 @@ pub fn start(limit: u16, resends: u8, identity: Identity, capacity: usize) -> St
 }
 
 fn fresh(checked: Checked, identity: Identity, capacity: u32) -> Started
-    ensures { λ r. ⌜ r ≡ freshOf checked identity capacity ⌝ }
+    ensures { λ r. ⌜ r ≡ receiverFreshOf checked identity capacity ⌝ }
 {
     match checked {
         Checked::Made(settings) => {
@@ -41,7 +41,7 @@ fn fresh(checked: Checked, identity: Identity, capacity: u32) -> Started
 
 // 01, Numbers we answer.
 pub fn started_number(started: Started) -> u8
-    ensures { λ r. ⌜ r ≡ numberOf started ⌝ }
+    ensures { λ r. ⌜ r ≡ receiverStartNumberOf started ⌝ }
 {
     match started {
         Started::Made(_) => 0,

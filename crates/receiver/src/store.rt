@@ -5,11 +5,11 @@ ghost use Prim.Native.Nat.{_≤_};
 ghost use lib.ListN.{length, drop};
 ghost use Rattle.wire.specs.Codes.{dataHead};
 ghost use Rattle.image.specs.Blocks.{putBlockOf};
-ghost use Rattle.receiver_rules.specs.Request.{Long, imageOf};
+ghost use Rattle.receiver_rules.specs.Request.{HasBlock, imageAfter};
 
 pub(crate) fn apply(image: &mut [u8], request: &[u8], store: Store)
-    requires { ⌜ Long store (now request) ⌝ }
-    ensures { λ _. ⌜ now (image .exit) ≡ imageOf store (now (image .entry)) (now (request .entry)) ⌝ }
+    requires { ⌜ HasBlock store (now request) ⌝ }
+    ensures { λ _. ⌜ now (image .exit) ≡ imageAfter store (now (image .entry)) (now (request .entry)) ⌝ }
 {
     match store {
         Store::Nowhere => {}

@@ -3,11 +3,11 @@ use receiver_decide::accepted;
 use receiver_state::session::Receiver;
 use receiver_state::sum::Summed;
 ghost use mathlib.Core.Path.{_≡_};
-ghost use Rattle.receiver_state.specs.Sum.{numberOf};
-ghost use Rattle.receiver_rules.specs.Sum.{sumOf};
+ghost use Rattle.receiver_state.specs.Sum.{imageSumNumberOf};
+ghost use Rattle.receiver_rules.specs.Sum.{receiverSumOf};
 
 pub fn sum(session: Receiver, image: &[u8]) -> Summed
-    ensures { λ r. ⌜ r ≡ sumOf session (now (image .entry)) ⌝ }
+    ensures { λ r. ⌜ r ≡ receiverSumOf session (now (image .entry)) ⌝ }
 {
     if image.len() != session.capacity as usize {
         return Summed::ImageLength;
@@ -19,7 +19,7 @@ pub fn sum(session: Receiver, image: &[u8]) -> Summed
 
 // 01, Numbers we answer.
 pub fn summed_number(summed: Summed) -> u8
-    ensures { λ r. ⌜ r ≡ numberOf summed ⌝ }
+    ensures { λ r. ⌜ r ≡ imageSumNumberOf summed ⌝ }
 {
     match summed {
         Summed::Sum(_) => 0,

@@ -12,14 +12,14 @@ ghost use mathlib.Core.Path.{_≡_};
 ghost use Prim.Native.Nat.{_≤_};
 ghost use lib.ListN.{length};
 ghost use Rattle.basis.specs.Left.{left};
-ghost use Rattle.lent.specs.Led.{leads};
+ghost use Rattle.lent.specs.Led.{returnsWritten};
 ghost use Rattle.wire.specs.Codes.{longest};
 ghost use Rattle.receiver_state.specs.Answer.{replyOf};
 ghost use Rattle.receiver_rules.specs.Respond.{replyBytes};
-ghost use Rattle.receiver_rules.specs.Time.{spendOf, timeOf};
+ghost use Rattle.receiver_rules.specs.Time.{receiverSpendOf, receiverTimeOf};
 
 pub fn time(session: Receiver, elapsed: u16, out: &mut [u8]) -> Outcome
-    ensures { λ r. ⌜ left r (now (out .exit)) ≡ timeOf session elapsed (now (out .entry)) ⌝ }
+    ensures { λ r. ⌜ left r (now (out .exit)) ≡ receiverTimeOf session elapsed (now (out .entry)) ⌝ }
 {
     if out.len() < codes::LONGEST {
         return refused(session, Answer::BufferShort);
@@ -29,7 +29,7 @@ pub fn time(session: Receiver, elapsed: u16, out: &mut [u8]) -> Outcome
 
 fn spend(session: Receiver, elapsed: u16, out: &mut [u8]) -> Outcome
     requires { ⌜ longest ≤ length (now out) ⌝ }
-    ensures { λ r. ⌜ left r (now (out .exit)) ≡ spendOf session elapsed (now (out .entry)) ⌝ }
+    ensures { λ r. ⌜ left r (now (out .exit)) ≡ receiverSpendOf session elapsed (now (out .entry)) ⌝ }
 {
     let before = session.phase;
     let settings = session.settings;
@@ -38,9 +38,9 @@ fn spend(session: Receiver, elapsed: u16, out: &mut [u8]) -> Outcome
     let answer = tick.answer;
     let phase = tick.phase;
     let written = prompt(out, identity, session.capacity, answer);
-    let state = moved(session, phase, tick.silence, tick.resends);
+    let session = moved(session, phase, tick.silence, tick.resends);
     Outcome {
-        state,
+        session,
         answer,
         written,
     }
@@ -49,7 +49,7 @@ fn spend(session: Receiver, elapsed: u16, out: &mut [u8]) -> Outcome
 // Most time calls only count: nothing goes out then, and the identity is not looked at.
 fn prompt(out: &mut [u8], identity: Identity, capacity: u32, answer: Answer) -> usize
     requires { ⌜ longest ≤ length (now out) ⌝ }
-    ensures { λ r. ⌜ left r (now (out .exit)) ≡ leads (replyBytes (replyOf identity capacity answer)) (now (out .entry)) ⌝ }
+    ensures { λ r. ⌜ left r (now (out .exit)) ≡ returnsWritten (replyBytes (replyOf identity capacity answer)) (now (out .entry)) ⌝ }
 {
     let Answer::Passed = answer else {
         return respond(out, identity, capacity, answer);

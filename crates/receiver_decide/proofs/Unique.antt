@@ -3,11 +3,11 @@ use Prim.Native.Nat.{ℕ}
 use mathlib.Core.Bool.{Bool}
 use mathlib.Core.Path.{_≡_}
 use Rattle.basis.specs.Only.{only}
-use Rattle.receiver_rules.specs.Decide.{decideOf}
-use Rattle.receiver_rules.specs.Pass.{passOf}
+use Rattle.receiver_rules.specs.Decide.{receiverDecideOf}
 use Rattle.receiver_rules.specs.Range.{outOfRange}
-use Rattle.receiver_state.specs.Answer.{numberOf, replyOf}
-use Rattle.receiver_state.specs.Phase.{nothing, acceptedOf}
+use Rattle.receiver_rules.specs.Tick.{receiverTickOf}
+use Rattle.receiver_state.specs.Answer.{receiverNumberOf, replyOf}
+use Rattle.receiver_state.specs.Phase.{nothingAccepted, acceptedOf}
 use Rattle.receiver_state.specs.declared.answer.Answer.{Answer}
 use Rattle.receiver_state.specs.declared.answer.Reply.{Reply}
 use Rattle.receiver_state.specs.declared.phase.Accepted.{Accepted}
@@ -20,8 +20,8 @@ use Rattle.wire.specs.declared.request.Request.{Request}
 use Rattle.wire.specs.declared.response.Identity.{Identity}
 
 pub one-answer-number : (answer : Answer) (r r′ : ℕ)
-    → r ≡ numberOf answer
-    → r′ ≡ numberOf answer
+    → r ≡ receiverNumberOf answer
+    → r′ ≡ receiverNumberOf answer
     → r ≡ r′
 one-answer-number answer r r′ is is′ = only is is′
 
@@ -32,8 +32,8 @@ pub one-reply : (answer : Answer) (identity : Identity) (capacity : ℕ) (r r′
 one-reply answer identity capacity r r′ is is′ = only is is′
 
 pub one-nothing-accepted : (r r′ : Accepted)
-    → r ≡ nothing
-    → r′ ≡ nothing
+    → r ≡ nothingAccepted
+    → r′ ≡ nothingAccepted
     → r ≡ r′
 one-nothing-accepted r r′ is is′ = only is is′
 
@@ -50,13 +50,13 @@ pub one-out-of-range : (readiness : ℕ) (verdict : Verdict) (r r′ : Bool)
 one-out-of-range readiness verdict r r′ is is′ = only is is′
 
 pub one-decide : (phase : Phase) (request : Request) (capacity readiness : ℕ) (verdict : Verdict) (r r′ : Step)
-    → r ≡ decideOf phase request capacity readiness verdict
-    → r′ ≡ decideOf phase request capacity readiness verdict
+    → r ≡ receiverDecideOf phase request capacity readiness verdict
+    → r′ ≡ receiverDecideOf phase request capacity readiness verdict
     → r ≡ r′
 one-decide phase request capacity readiness verdict r r′ is is′ = only is is′
 
 pub one-pass : (phase : Phase) (silence elapsed resends : ℕ) (settings : Settings) (r r′ : Tick)
-    → r ≡ passOf phase silence elapsed resends settings
-    → r′ ≡ passOf phase silence elapsed resends settings
+    → r ≡ receiverTickOf phase silence elapsed resends settings
+    → r′ ≡ receiverTickOf phase silence elapsed resends settings
     → r ≡ r′
 one-pass phase silence elapsed resends settings r r′ is is′ = only is is′

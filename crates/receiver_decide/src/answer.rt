@@ -7,11 +7,11 @@ use wire::response::Identity;
 use wire::response::Response;
 use wire::status::Status;
 ghost use mathlib.Core.Path.{_≡_};
-ghost use Rattle.receiver_state.specs.Answer.{identified, initiated, receipt, validated, numberOf, replyOf};
+ghost use Rattle.receiver_state.specs.Answer.{identified, initiated, receipt, validated, receiverNumberOf, replyOf};
 
 // 01, Numbers we answer.
 pub fn answer_number(answer: Answer) -> u8
-    ensures { λ r. ⌜ r ≡ numberOf answer ⌝ }
+    ensures { λ r. ⌜ r ≡ receiverNumberOf answer ⌝ }
 {
     match answer {
         Answer::Identified => 0,

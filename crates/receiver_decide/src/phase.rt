@@ -2,10 +2,10 @@
 use receiver_state::phase::Accepted;
 use receiver_state::phase::Phase;
 ghost use mathlib.Core.Path.{_≡_};
-ghost use Rattle.receiver_state.specs.Phase.{nothing, acceptedOf};
+ghost use Rattle.receiver_state.specs.Phase.{nothingAccepted, acceptedOf};
 
 pub fn nothing_accepted() -> Accepted
-    ensures { λ r. ⌜ r ≡ nothing ⌝ }
+    ensures { λ r. ⌜ r ≡ nothingAccepted ⌝ }
 {
     Accepted {
         blocks: 0,

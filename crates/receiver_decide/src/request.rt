@@ -10,7 +10,7 @@ use receiver_state::verdict::Verdict;
 use wire::request::Request;
 ghost use mathlib.Core.Path.{_≡_};
 ghost use Prim.Native.Nat.{_+_, _*_, _≤_, _<_};
-ghost use Rattle.receiver_rules.specs.Decide.{lastNumber, to, offerOf, againOf, initiateOf, passesCapacity, closeOf, takeOf, transferOf, dataOf, judgeOf, validateOf, abortOf, decideOf};
+ghost use Rattle.receiver_rules.specs.Decide.{lastNumber, goesTo, offerOf, initiateAgainOf, receiverInitiateOf, passesCapacity, closeTransferOf, takeBlockOf, receiverTransferOf, receiverDataOf, receiverVerdictOf, receiverValidateOf, receiverAbortOf, receiverDecideOf};
 
 // An image of 1,048,575 bytes has no block above this number (01, Sizes and numbers).
 const LAST_NUMBER: u16 = 4095;
@@ -22,7 +22,7 @@ pub fn decide(
     readiness: u8,
     verdict: Verdict,
 ) -> Step
-    ensures { λ r. ⌜ r ≡ decideOf phase request capacity readiness verdict ⌝ }
+    ensures { λ r. ⌜ r ≡ receiverDecideOf phase request capacity readiness verdict ⌝ }
 {
     match request {
         Request::GetFwId => to(phase, Answer::Identified),
@@ -35,7 +35,7 @@ pub fn decide(
 }
 
 fn to(phase: Phase, answer: Answer) -> Step
-    ensures { λ r. ⌜ r ≡ to phase answer ⌝ }
+    ensures { λ r. ⌜ r ≡ goesTo phase answer ⌝ }
 {
     Step {
         phase,
@@ -45,7 +45,7 @@ fn to(phase: Phase, answer: Answer) -> Step
 }
 
 fn initiate(phase: Phase, readiness: u8) -> Step
-    ensures { λ r. ⌜ r ≡ initiateOf phase readiness ⌝ }
+    ensures { λ r. ⌜ r ≡ receiverInitiateOf phase readiness ⌝ }
 {
     match phase {
         Phase::Idle => offer(Phase::Idle, readiness),
@@ -56,7 +56,7 @@ fn initiate(phase: Phase, readiness: u8) -> Step
 }
 
 fn again(p: Progress, readiness: u8) -> Step
-    ensures { λ r. ⌜ r ≡ againOf p readiness ⌝ }
+    ensures { λ r. ⌜ r ≡ initiateAgainOf p readiness ⌝ }
 {
     if p.accepted.blocks == 0 {
         return offer(Phase::Transfer(p), readiness);
@@ -78,7 +78,7 @@ fn offer(phase: Phase, readiness: u8) -> Step
 }
 
 fn block(phase: Phase, number: u16, size: usize, capacity: u32, readiness: u8) -> Step
-    ensures { λ r. ⌜ r ≡ dataOf phase number size capacity readiness ⌝ }
+    ensures { λ r. ⌜ r ≡ receiverDataOf phase number size capacity readiness ⌝ }
 {
     match phase {
         Phase::Idle => to(Phase::Idle, Answer::UnexpectedData),
@@ -90,7 +90,7 @@ fn block(phase: Phase, number: u16, size: usize, capacity: u32, readiness: u8) -
 
 // 22, 24, 23, in this order.
 fn transfer(p: Progress, number: u16, size: usize, capacity: u32, readiness: u8) -> Step
-    ensures { λ r. ⌜ r ≡ transferOf p number size capacity readiness ⌝ }
+    ensures { λ r. ⌜ r ≡ receiverTransferOf p number size capacity readiness ⌝ }
 {
     let due = p.accepted.blocks;
     if number != due {
@@ -109,7 +109,7 @@ fn transfer(p: Progress, number: u16, size: usize, capacity: u32, readiness: u8)
 }
 
 fn close(accepted: Accepted) -> Step
-    ensures { λ r. ⌜ r ≡ closeOf accepted ⌝ }
+    ensures { λ r. ⌜ r ≡ closeTransferOf accepted ⌝ }
 {
     let number = accepted.blocks;
     if number == 0 {
@@ -131,7 +131,7 @@ fn passes_capacity(number: u16, size: usize, capacity: u32) -> bool
 fn take(number: u16, size: usize, readiness: u8) -> Step
     requires { ⌜ number ≤ lastNumber ⌝ }
     requires { ⌜ 256 * number + size < 4294967296 ⌝ }
-    ensures { λ r. ⌜ r ≡ takeOf number size readiness ⌝ }
+    ensures { λ r. ⌜ r ≡ takeBlockOf number size readiness ⌝ }
 {
     let next = number + 1;
     let bytes = image::place_of(number) + size;
@@ -154,7 +154,7 @@ fn take(number: u16, size: usize, readiness: u8) -> Step
 }
 
 fn validate(phase: Phase, verdict: Verdict) -> Step
-    ensures { λ r. ⌜ r ≡ validateOf phase verdict ⌝ }
+    ensures { λ r. ⌜ r ≡ receiverValidateOf phase verdict ⌝ }
 {
     match phase {
         Phase::Idle => to(Phase::Idle, Answer::UnexpectedValidate),
@@ -165,7 +165,7 @@ fn validate(phase: Phase, verdict: Verdict) -> Step
 }
 
 fn judge(accepted: Accepted, verdict: Verdict) -> Step
-    ensures { λ r. ⌜ r ≡ judgeOf accepted verdict ⌝ }
+    ensures { λ r. ⌜ r ≡ receiverVerdictOf accepted verdict ⌝ }
 {
     match verdict {
         Verdict::Good => to(Phase::Good(accepted), Answer::Success),
@@ -175,7 +175,7 @@ fn judge(accepted: Accepted, verdict: Verdict) -> Step
 }
 
 fn abort(phase: Phase) -> Step
-    ensures { λ r. ⌜ r ≡ abortOf phase ⌝ }
+    ensures { λ r. ⌜ r ≡ receiverAbortOf phase ⌝ }
 {
     match phase {
         Phase::Idle => to(Phase::Idle, Answer::Unexpected),

@@ -5,11 +5,11 @@ use receiver_state::step::Tick;
 use silence::Event;
 use silence::Settings;
 ghost use mathlib.Core.Path.{_≡_};
-ghost use Rattle.receiver_rules.specs.Pass.{after, expireOf, waitOf, passOf};
+ghost use Rattle.receiver_rules.specs.Tick.{tick, receiverExpiryOf, receiverSilenceOf, receiverTickOf};
 
 // Transfer asks for the next number with wait 0, Await repeats the closing answer.
 pub fn pass(phase: Phase, silence: u16, elapsed: u16, resends: u8, settings: Settings) -> Tick
-    ensures { λ r. ⌜ r ≡ passOf phase silence elapsed resends settings ⌝ }
+    ensures { λ r. ⌜ r ≡ receiverTickOf phase silence elapsed resends settings ⌝ }
 {
     match phase {
         Phase::Idle => after(Phase::Idle, silence, resends, Answer::Passed),
@@ -41,7 +41,7 @@ pub fn pass(phase: Phase, silence: u16, elapsed: u16, resends: u8, settings: Set
 }
 
 fn after(phase: Phase, silence: u16, resends: u8, answer: Answer) -> Tick
-    ensures { λ r. ⌜ r ≡ after phase silence resends answer ⌝ }
+    ensures { λ r. ⌜ r ≡ tick phase silence resends answer ⌝ }
 {
     Tick {
         phase,
@@ -59,7 +59,7 @@ fn wait(
     resends: u8,
     settings: Settings,
 ) -> Tick
-    ensures { λ r. ⌜ r ≡ waitOf phase again silence elapsed resends settings ⌝ }
+    ensures { λ r. ⌜ r ≡ receiverSilenceOf phase again silence elapsed resends settings ⌝ }
 {
     let grown = silence::grow(silence, elapsed, resends, settings);
     let event = grown.event;
@@ -67,7 +67,7 @@ fn wait(
 }
 
 fn expire(phase: Phase, again: Answer, silence: u16, resends: u8, event: Event) -> Tick
-    ensures { λ r. ⌜ r ≡ expireOf phase again silence resends event ⌝ }
+    ensures { λ r. ⌜ r ≡ receiverExpiryOf phase again silence resends event ⌝ }
 {
     match event {
         Event::Quiet => after(phase, silence, resends, Answer::Passed),

@@ -14,8 +14,8 @@ use Rattle.silence.proofs.Laws.{made-within}
 use Rattle.wire.specs.declared.response.Identity.{Identity}
 use Rattle.receiver_state.specs.declared.phase.Accepted.{Accepted}
 use Rattle.wire.specs.Codes.{imageSizeMost}
-use Rattle.receiver_rules.specs.Session.{freshOf, startOf}
-use Rattle.receiver_state.specs.Session.{numberOf}
+use Rattle.receiver_rules.specs.Session.{receiverFreshOf, receiverStartOf}
+use Rattle.receiver_state.specs.Session.{receiverStartNumberOf}
 use Rattle.receiver_state.specs.declared.session.Started.{Started}
 use Rattle.receiver_state.specs.declared.session.Started.the-variants as Sta
 use Rattle.receiver_rules.proofs.Beginning.{start-made}
@@ -24,16 +24,16 @@ use Rattle.receiver_flat.specs.Whole.{Standing, Whole}
 use Rattle.receiver_flat.specs.declared.flat.FlatReceiver.{FlatReceiver}
 
 module _ (limit resends : ℕ) (identity : Identity) (capacity : ℕ) where
-  fresh-within : (x : Checked) → silent.settingsOf limit resends ≡ x → numberOf (freshOf x identity capacity) ≡ 0 → Within limit resends
-  unfolding freshOf
+  fresh-within : (x : Checked) → silent.settingsOf limit resends ≡ x → receiverStartNumberOf (receiverFreshOf x identity capacity) ≡ 0 → Within limit resends
+  unfolding receiverFreshOf
   fresh-within (Che.Made s) p e = made-within limit resends s p
   fresh-within Che.Refused p e = absurd (omega arith)
 
   -- What a start takes is within the limits.
-  pub taken-within : numberOf (startOf limit resends identity capacity) ≡ 0 → Within limit resends × (capacity ≤ imageSizeMost)
-  unfolding startOf
+  pub taken-within : receiverStartNumberOf (receiverStartOf limit resends identity capacity) ≡ 0 → Within limit resends × (capacity ≤ imageSizeMost)
+  unfolding receiverStartOf
   taken-within =
-      pick-all (λ (x : Started). numberOf x ≡ 0 → Within limit resends × (capacity ≤ imageSizeMost)) (ltb imageSizeMost capacity) _ _
+      pick-all (λ (x : Started). receiverStartNumberOf x ≡ 0 → Within limit resends × (capacity ≤ imageSizeMost)) (ltb imageSizeMost capacity) _ _
       (λ _ e. absurd (omega arith))
       (λ t e. (fresh-within (silent.settingsOf limit resends) refl e, ltb-false imageSizeMost capacity t))
 

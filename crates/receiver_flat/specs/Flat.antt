@@ -6,12 +6,12 @@ use Rattle.basis.specs.Flag.{byteOf}
 use Rattle.basis.specs.Pick.{pick}
 use Rattle.silence.specs.declared.Settings.{Settings}
 use Rattle.wire.specs.declared.response.Identity.{Identity}
-use Rattle.receiver_state.specs.Phase.{nothing, acceptedOf}
+use Rattle.receiver_state.specs.Phase.{nothingAccepted, acceptedOf}
 use Rattle.receiver_state.specs.declared.phase.Accepted.{Accepted}
 use Rattle.receiver_state.specs.declared.phase.Phase.{Phase}
 use Rattle.receiver_state.specs.declared.phase.Phase.the-variants.{Idle, Transfer, Await, Good}
-use Rattle.receiver_rules.specs.Session.{startOf}
-use Rattle.receiver_state.specs.Session.{numberOf}
+use Rattle.receiver_rules.specs.Session.{receiverStartOf}
+use Rattle.receiver_state.specs.Session.{receiverStartNumberOf}
 use Rattle.receiver_state.specs.declared.session.Receiver.{Receiver}
 use Rattle.receiver_flat.specs.declared.flat.FlatReceiver.{FlatReceiver}
 use Rattle.receiver_flat.specs.declared.pack.Place.{Place}
@@ -81,7 +81,7 @@ standsOf code accepted short =
 -- Numbers of a session: what a start takes, in a phase.
 unfoldable pub isSession : FlatReceiver → Bool
 isSession f =
-    pick (eqb (numberOf (startOf (f .settings .limit) (f .settings .resends) (f .identity) (f .capacity))) 0)
+    pick (eqb (receiverStartNumberOf (receiverStartOf (f .settings .limit) (f .settings .resends) (f .identity) (f .capacity))) 0)
     (standsOf (f .phase) (f .accepted) (f .«last_short»))
     false
 
@@ -102,7 +102,7 @@ none =
       flags4 = 0;
     })
     0
-    nothing
+    nothingAccepted
     0
     0
     0

@@ -13,46 +13,46 @@ use Rattle.wire.specs.declared.request.Parsed.the-variants as Par
 use Rattle.receiver_state.specs.Phase.{acceptedOf}
 use Rattle.receiver_state.specs.declared.answer.Answer.the-variants.{Malformed, OutOfRange, BufferShort, ImageLength}
 use Rattle.receiver_rules.specs.Range.{outOfRange}
-use Rattle.receiver_rules.specs.Decide.{decideOf}
+use Rattle.receiver_rules.specs.Decide.{receiverDecideOf}
 use Rattle.receiver_state.specs.declared.verdict.Verdict.{Verdict}
-use Rattle.receiver_rules.specs.Session.{ends}
-use Rattle.receiver_rules.specs.Request.{effect, doneOf, readOf, requestOf}
-use Rattle.receiver_rules.specs.Sum.{sumOf}
+use Rattle.receiver_rules.specs.Session.{receiverReturns}
+use Rattle.receiver_rules.specs.Request.{effect, requestDone, requestReadOf, receiverRequestOf}
+use Rattle.receiver_rules.specs.Sum.{receiverSumOf}
 use Rattle.receiver_state.specs.declared.session.Receiver.{Receiver}
 use Rattle.receiver_state.specs.declared.sum.Summed.the-variants as Summed
 
 module _ (r : Receiver) (image request : List ℕ) (readiness : ℕ) (verdict : Verdict) (out : List ℕ) where
-  pub answers-28 : (length image ≡ r .capacity → ⊥) → requestOf r image request readiness verdict out ≡ effect (ends r ImageLength 0) image out
-  unfolding requestOf pick
+  pub answers-28 : (length image ≡ r .capacity → ⊥) → receiverRequestOf r image request readiness verdict out ≡ effect (receiverReturns r ImageLength 0) image out
+  unfolding receiverRequestOf pick
   answers-28 h = rw (ne-eqb (length image) (r .capacity) h)
 
   module _ (lent : length image ≡ r .capacity) where
-    pub answers-27 : length out < 260 → requestOf r image request readiness verdict out ≡ effect (ends r BufferShort 0) image out
-    unfolding requestOf pick
+    pub answers-27 : length out < 260 → receiverRequestOf r image request readiness verdict out ≡ effect (receiverReturns r BufferShort 0) image out
+    unfolding receiverRequestOf pick
     answers-27 h = rw (eq-eqb (length image) (r .capacity) lent, lt-ltb (length out) 260 h)
 
     module _ (room : 260 ≤ length out) where
-      pub answers-26 : outOfRange readiness verdict ≡ true → requestOf r image request readiness verdict out ≡ effect (ends r OutOfRange 0) image out
-      unfolding requestOf pick
+      pub answers-26 : outOfRange readiness verdict ≡ true → receiverRequestOf r image request readiness verdict out ≡ effect (receiverReturns r OutOfRange 0) image out
+      unfolding receiverRequestOf pick
       answers-26 h = rw (eq-eqb (length image) (r .capacity) lent, le-ltb (length out) 260 room, h)
 
-      pub answers-20 : outOfRange readiness verdict ≡ false → message.requestOf request ≡ Par.Malformed
-          → requestOf r image request readiness verdict out ≡ effect (ends r Malformed 0) image out
-      unfolding requestOf readOf pick
+      pub answers-20 : outOfRange readiness verdict ≡ false → message.parsedRequestOf request ≡ Par.Malformed
+          → receiverRequestOf r image request readiness verdict out ≡ effect (receiverReturns r Malformed 0) image out
+      unfolding receiverRequestOf requestReadOf pick
       answers-20 h e = rw (eq-eqb (length image) (r .capacity) lent, le-ltb (length out) 260 room, h, e)
 
-      pub answers-step : (q : Request) → outOfRange readiness verdict ≡ false → message.requestOf request ≡ Par.Valid q
-          → requestOf r image request readiness verdict out
-          ≡ doneOf r (decideOf (r .phase) q (r .capacity) readiness verdict) image request out
-      unfolding requestOf readOf pick
+      pub answers-step : (q : Request) → outOfRange readiness verdict ≡ false → message.parsedRequestOf request ≡ Par.Valid q
+          → receiverRequestOf r image request readiness verdict out
+          ≡ requestDone r (receiverDecideOf (r .phase) q (r .capacity) readiness verdict) image request out
+      unfolding receiverRequestOf requestReadOf pick
       answers-step q h e = rw (eq-eqb (length image) (r .capacity) lent, le-ltb (length out) 260 room, h, e)
 
 -- The sum: 28, or the sum of the accepted bytes.
 module _ (r : Receiver) (image : List ℕ) where
-  pub sum-28 : (length image ≡ r .capacity → ⊥) → sumOf r image ≡ Summed.ImageLength
-  unfolding sumOf pick
+  pub sum-28 : (length image ≡ r .capacity → ⊥) → receiverSumOf r image ≡ Summed.ImageLength
+  unfolding receiverSumOf pick
   sum-28 h = rw (ne-eqb (length image) (r .capacity) h)
 
-  pub sum-0 : length image ≡ r .capacity → sumOf r image ≡ Summed.Sum (sums.sumOf (take (acceptedOf (r .phase) .bytes) image))
-  unfolding sumOf pick
+  pub sum-0 : length image ≡ r .capacity → receiverSumOf r image ≡ Summed.Sum (sums.sumOf (take (acceptedOf (r .phase) .bytes) image))
+  unfolding receiverSumOf pick
   sum-0 h = rw (eq-eqb (length image) (r .capacity) h)

@@ -7,7 +7,7 @@ use Rattle.wire.specs.Request as message
 use Rattle.wire.specs.declared.request.Request.{Request}
 use Rattle.wire.specs.declared.request.Request.the-variants as Req
 use Rattle.wire.specs.declared.request.Parsed.the-variants.{Valid}
-use Rattle.receiver_rules.specs.Decide.{decideOf}
+use Rattle.receiver_rules.specs.Decide.{receiverDecideOf}
 use Rattle.receiver_rules.proofs.Owes.{ToGood, ToAwait, Enters, decide-row}
 use Rattle.receiver_state.specs.declared.phase.Accepted.{Accepted}
 use Rattle.receiver_state.specs.declared.phase.Progress.{Progress}
@@ -22,7 +22,7 @@ use Rattle.receiver_rules.proofs.Laws.{next}
 -- Await, and a VALIDATE with a good verdict.
 pub record Validated (before : Phase) (request : List ℕ) (verdict : Verdict) (a : Accepted) : Type 0 where
   pub awaited : before ≡ Await a
-  pub asked : message.requestOf request ≡ Valid Req.Validate
+  pub asked : message.parsedRequestOf request ≡ Valid Req.Validate
   pub good : verdict ≡ Ver.Good
 
 -- Transfer with at least one block accepted, and the empty block that is due.
@@ -30,10 +30,10 @@ pub record Closes (before : Phase) (request : List ℕ) (a : Accepted) : Type 0 
   pub progress : Progress
   pub transfer : before ≡ Transfer progress
   pub same : a ≡ progress .accepted
-  pub asked : message.requestOf request ≡ Valid (Req.Data (a .blocks) 0)
+  pub asked : message.parsedRequestOf request ≡ Valid (Req.Data (a .blocks) 0)
   pub some : 0 < a .blocks
 
-module _ (request : List ℕ) (q : Request) (e : message.requestOf request ≡ Valid q) (a : Accepted) where
+module _ (request : List ℕ) (q : Request) (e : message.parsedRequestOf request ≡ Valid q) (a : Accepted) where
   from-good : (before : Phase) (verdict : Verdict) → ToGood before q verdict a → (before ≡ Good a) ⊎ Validated before request verdict a
   from-good Idle verdict h = absurd h
   from-good (Transfer p) verdict h = absurd h
@@ -51,14 +51,14 @@ module _ (r : Receiver) (image request : List ℕ) (readiness : ℕ) (verdict : 
   abbrev then : Phase
   then = next r image request readiness verdict out .phase
 
-  enters : (q : Request) (phase : Phase) → decideOf (r .phase) q (r .capacity) readiness verdict .phase ≡ phase → Enters (r .phase) q verdict phase
+  enters : (q : Request) (phase : Phase) → receiverDecideOf (r .phase) q (r .capacity) readiness verdict .phase ≡ phase → Enters (r .phase) q verdict phase
   enters q phase e = rw e at (decide-row (r .phase) q (r .capacity) readiness verdict .enters)
 
   -- Good is entered only from Await, by VALIDATE with a good verdict.
   pub good-entered : then ≡ Good a → (r .phase ≡ Good a) ⊎ Validated (r .phase) request verdict a
   good-entered =
       request-walk r image request readiness verdict out
-      (λ x. x .outcome .state .phase ≡ Good a → (r .phase ≡ Good a) ⊎ Validated (r .phase) request verdict a)
+      (λ x. x .outcome .session .phase ≡ Good a → (r .phase ≡ Good a) ⊎ Validated (r .phase) request verdict a)
       inl inl inl inl
       (λ q _ _ e h. from-good request q e a (r .phase) verdict (enters q (Good a) h))
 
@@ -66,6 +66,6 @@ module _ (r : Receiver) (image request : List ℕ) (readiness : ℕ) (verdict : 
   pub await-entered : then ≡ Await a → (r .phase ≡ Await a) ⊎ Closes (r .phase) request a
   await-entered =
       request-walk r image request readiness verdict out
-      (λ x. x .outcome .state .phase ≡ Await a → (r .phase ≡ Await a) ⊎ Closes (r .phase) request a)
+      (λ x. x .outcome .session .phase ≡ Await a → (r .phase ≡ Await a) ⊎ Closes (r .phase) request a)
       inl inl inl inl
       (λ q _ _ e h. from-await request q e a (r .phase) (enters q (Await a) h))

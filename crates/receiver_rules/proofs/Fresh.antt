@@ -11,7 +11,7 @@ use Rattle.silence.specs.declared.Checked.the-variants as Che
 use Rattle.wire.specs.declared.response.Identity.{Identity}
 use Rattle.receiver_state.specs.declared.phase.Phase.the-variants.{Idle}
 use Rattle.wire.specs.Codes.{imageSizeMost}
-use Rattle.receiver_rules.specs.Session.{freshOf, startOf}
+use Rattle.receiver_rules.specs.Session.{receiverFreshOf, receiverStartOf}
 use Rattle.receiver_state.specs.declared.session.Receiver.{Receiver}
 use Rattle.receiver_state.specs.declared.session.Started.{Started}
 use Rattle.receiver_state.specs.declared.session.Started.the-variants.{Made, Refused}
@@ -29,16 +29,16 @@ made-same a b e = cc
 pub refused-made : (r : Receiver) → Refused ≡ Made r → ⊥
 refused-made r e = let z : _≡_ {A = ℕ} 0 1 = cc in omega arith
 
-made-fresh : (identity : Identity) (capacity : ℕ) (r : Receiver) (x : Checked) → capacity ≤ imageSizeMost → freshOf x identity capacity ≡ Made r → Fresh identity capacity r
-unfolding freshOf
+made-fresh : (identity : Identity) (capacity : ℕ) (r : Receiver) (x : Checked) → capacity ≤ imageSizeMost → receiverFreshOf x identity capacity ≡ Made r → Fresh identity capacity r
+unfolding receiverFreshOf
 made-fresh identity capacity r (Che.Made settings) h e =
     let same = made-same _ r e in
     let room = ap (λ x. x .capacity) (sym same) in
     record { idle = ap (λ x. x .phase) (sym same); who = ap (λ x. x .identity) (sym same); room = room; within = omega arith }
 made-fresh identity capacity r Che.Refused h e = absurd (refused-made r e)
 
-pub start-fresh : (limit resends : ℕ) (identity : Identity) (capacity : ℕ) (r : Receiver) → startOf limit resends identity capacity ≡ Made r → Fresh identity capacity r
-unfolding startOf
+pub start-fresh : (limit resends : ℕ) (identity : Identity) (capacity : ℕ) (r : Receiver) → receiverStartOf limit resends identity capacity ≡ Made r → Fresh identity capacity r
+unfolding receiverStartOf
 start-fresh limit resends identity capacity r =
     pick-all (λ (x : Started). x ≡ Made r → Fresh identity capacity r) (ltb imageSizeMost capacity) _ _
     (λ _ e. absurd (refused-made r e))

@@ -10,8 +10,8 @@ use lib.ListN.{length, take, length-append}
 use Rattle.receiver_state.specs.declared.phase.Accepted.{Accepted}
 use Rattle.receiver_state.specs.declared.phase.Phase.{Phase}
 use Rattle.receiver_state.specs.declared.phase.Phase.the-variants.{Idle, Transfer, Await, Good}
-use Rattle.receiver_state.specs.Phase.{nothing}
-use Rattle.receiver_rules.specs.Decide.{progress}
+use Rattle.receiver_state.specs.Phase.{nothingAccepted}
+use Rattle.receiver_rules.specs.Decide.{receiverProgress}
 use Rattle.receiver_rules.specs.History.{inOrder, forgets}
 
 abbrev pub Whole : List (List ℕ) → Type 0
@@ -57,10 +57,10 @@ not-short (block ∷ taken) h e =
     let least = ltb-false (length block) 256 e in
     (omega arith, h .2)
 
-pub nothing-counts : (capacity : ℕ) (image : List ℕ) (taken : List (List ℕ)) → taken ≡ [] → Counts capacity nothing image taken
+pub nothing-counts : (capacity : ℕ) (image : List ℕ) (taken : List (List ℕ)) → taken ≡ [] → Counts capacity nothingAccepted image taken
 nothing-counts capacity image taken e = rw e (record { blocks = refl; bytes = refl; front = refl; sizes = tt; few = omega arith; room = omega arith })
 
-pub nothing-held : (capacity : ℕ) (image : List ℕ) (taken : List (List ℕ)) → taken ≡ [] → Held capacity image taken (Transfer (progress nothing false))
+pub nothing-held : (capacity : ℕ) (image : List ℕ) (taken : List (List ℕ)) → taken ≡ [] → Held capacity image taken (Transfer (receiverProgress nothingAccepted false))
 nothing-held capacity image taken e = (nothing-counts capacity image taken e, rw e refl)
 
 pub none-taken : (taken : List (List ℕ)) → length taken ≡ 0 → taken ≡ []

@@ -6,12 +6,12 @@ use mathlib.Core.List.{List, [], _∷_}
 use native.Mathlib.Omega.{arith}
 use lib.ListN.{length, take, length-append}
 use Rattle.image.specs.Sum as sums
-use Rattle.receiver_state.specs.Phase.{nothing, acceptedOf}
+use Rattle.receiver_state.specs.Phase.{nothingAccepted, acceptedOf}
 use Rattle.receiver_state.specs.declared.phase.Accepted.{Accepted}
 use Rattle.receiver_state.specs.declared.phase.Progress.{Progress}
 use Rattle.receiver_state.specs.declared.phase.Phase.{Phase}
 use Rattle.receiver_state.specs.declared.phase.Phase.the-variants.{Idle, Transfer, Await, Good}
-use Rattle.receiver_rules.specs.Sum.{sumOf}
+use Rattle.receiver_rules.specs.Sum.{receiverSumOf}
 use Rattle.receiver_rules.specs.History.{inOrder, Reached}
 use Rattle.receiver_state.specs.declared.session.Receiver.{Receiver}
 use Rattle.receiver_state.specs.declared.sum.Summed.the-variants.{Sum}
@@ -72,9 +72,9 @@ module _ {r : Receiver} {image : List ℕ} {taken : List (List ℕ)} (h : Reache
   limits = (counts .few, counts .room, reached-capacity h)
 
   -- In Idle nothing is accepted.
-  pub idle-nothing : r .phase ≡ Idle → (accepted ≡ nothing) × (taken ≡ [])
+  pub idle-nothing : r .phase ≡ Idle → (accepted ≡ nothingAccepted) × (taken ≡ [])
   idle-nothing e = (rw e refl, rw e at (reached-holds h))
 
   -- The sum is the accepted blocks' own.
-  pub sum-theirs : length image ≡ r .capacity → sumOf r image ≡ Sum (sums.sumOf (inOrder taken))
+  pub sum-theirs : length image ≡ r .capacity → receiverSumOf r image ≡ Sum (sums.sumOf (inOrder taken))
   sum-theirs lent = sum-0 r image lent ∙ ap (λ x. Sum (sums.sumOf x)) in-place

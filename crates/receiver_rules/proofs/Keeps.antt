@@ -15,8 +15,8 @@ use Rattle.wire.specs.declared.request.Versions.{Versions}
 use Rattle.wire.specs.declared.request.Request.{Request}
 use Rattle.wire.specs.declared.request.Request.the-variants as Req
 use Rattle.wire.specs.declared.request.Parsed.the-variants as Par
-use Rattle.receiver_state.specs.Answer.{numberOf}
-use Rattle.receiver_rules.specs.Decide.{offerOf, againOf, initiateOf, passesCapacity, closeOf, takeOf, transferOf, dataOf, judgeOf, validateOf, abortOf, decideOf}
+use Rattle.receiver_state.specs.Answer.{receiverNumberOf}
+use Rattle.receiver_rules.specs.Decide.{offerOf, initiateAgainOf, receiverInitiateOf, passesCapacity, closeTransferOf, takeBlockOf, receiverTransferOf, receiverDataOf, receiverVerdictOf, receiverValidateOf, receiverAbortOf, receiverDecideOf}
 use Rattle.receiver_rules.proofs.Within.{within}
 use Rattle.receiver_state.specs.declared.phase.Accepted.{Accepted}
 use Rattle.receiver_state.specs.declared.phase.Progress.{Progress}
@@ -25,7 +25,7 @@ use Rattle.receiver_state.specs.declared.phase.Phase.the-variants.{Idle, Transf
 use Rattle.receiver_state.specs.declared.verdict.Verdict.{Verdict}
 use Rattle.receiver_state.specs.declared.verdict.Verdict.the-variants as Ver
 use Rattle.receiver_state.specs.declared.step.Step.{Step}
-use Rattle.receiver_rules.specs.Request.{imageOf}
+use Rattle.receiver_rules.specs.Request.{imageAfter}
 use Rattle.receiver_rules.specs.History.{takenBy, inOrder}
 use Rattle.receiver_rules.proofs.Held.{Held, whole-bytes, not-short, nothing-held, none-taken}
 
@@ -36,10 +36,10 @@ module _ (capacity : ℕ) (image request : List ℕ) (taken : List (List ℕ)) (
   -- After the step s from a phase, by the request q.
   abbrev Then : Phase → Request → Step → Type 0
   Then before q s =
-      Held capacity (imageOf (s .store) image request) (takenBy before (Par.Valid q) (drop 4 request) (numberOf (s .answer)) (s .phase) taken) (s .phase)
+      Held capacity (imageAfter (s .store) image request) (takenBy before (Par.Valid q) (drop 4 request) (receiverNumberOf (s .answer)) (s .phase) taken) (s .phase)
 
-  initiate-keeps : (before : Phase) (v : Versions) → Has before → Then before (Req.Initiate v) (initiateOf before readiness)
-  unfolding initiateOf againOf offerOf imageOf pick
+  initiate-keeps : (before : Phase) (v : Versions) → Has before → Then before (Req.Initiate v) (receiverInitiateOf before readiness)
+  unfolding receiverInitiateOf initiateAgainOf offerOf imageAfter pick
   initiate-keeps Idle v h =
       pick-all (Then Idle (Req.Initiate v)) (eqb readiness 0) _ _ (λ _. nothing-held capacity image taken h) (λ _. refl)
   initiate-keeps (Transfer p) v h =
@@ -55,38 +55,38 @@ module _ (capacity : ℕ) (image request : List ℕ) (taken : List (List ℕ)) (
   initiate-keeps (Await a) v h = h
   initiate-keeps (Good a) v h = h
 
-  judge-keeps : (a : Accepted) (judged : Verdict) → Has (Await a) → Then (Await a) Req.Validate (judgeOf a judged)
-  unfolding judgeOf imageOf pick
+  judge-keeps : (a : Accepted) (judged : Verdict) → Has (Await a) → Then (Await a) Req.Validate (receiverVerdictOf a judged)
+  unfolding receiverVerdictOf imageAfter pick
   judge-keeps a Ver.Good h = h
   judge-keeps a Ver.Bad h = refl
   judge-keeps a (Ver.Later wait) h = h
 
-  validate-keeps : (before : Phase) → Has before → Then before Req.Validate (validateOf before verdict)
-  unfolding validateOf imageOf pick
+  validate-keeps : (before : Phase) → Has before → Then before Req.Validate (receiverValidateOf before verdict)
+  unfolding receiverValidateOf imageAfter pick
   validate-keeps Idle h = refl
   validate-keeps (Transfer p) h = h
   validate-keeps (Await a) h = judge-keeps a verdict h
   validate-keeps (Good a) h = h
 
-  abort-keeps : (before : Phase) → Has before → Then before Req.Abort (abortOf before)
-  unfolding abortOf imageOf pick
+  abort-keeps : (before : Phase) → Has before → Then before Req.Abort (receiverAbortOf before)
+  unfolding receiverAbortOf imageAfter pick
   abort-keeps Idle h = refl
   abort-keeps (Transfer p) h = refl
   abort-keeps (Await a) h = refl
   abort-keeps (Good a) h = h
 
   module _ (p : Progress) (number size : ℕ) (h : Has (Transfer p)) where
-    close-keeps : size ≡ 0 → Then (Transfer p) (Req.Data number size) (closeOf (p .accepted))
-    unfolding closeOf imageOf pick
+    close-keeps : size ≡ 0 → Then (Transfer p) (Req.Data number size) (closeTransferOf (p .accepted))
+    unfolding closeTransferOf imageAfter pick
     close-keeps none =
         rw none
         (pick-all (Then (Transfer p) (Req.Data number 0)) (eqb (p .accepted .blocks) 0) _ _ (λ _. refl)
         (λ t. let some = eqb-false (p .accepted .blocks) 0 t in (h .0, omega arith)))
 
-    module _ (lent : length image ≡ capacity) (e : message.requestOf request ≡ Par.Valid (Req.Data number size)) where
+    module _ (lent : length image ≡ capacity) (e : message.parsedRequestOf request ≡ Par.Valid (Req.Data number size)) where
       take-keeps : number ≡ p .accepted .blocks → p .short ≡ false → 0 < size → passesCapacity number size capacity ≡ false
-          → Then (Transfer p) (Req.Data number size) (takeOf number size readiness)
-      unfolding takeOf imageOf pick
+          → Then (Transfer p) (Req.Data number size) (takeBlockOf number size readiness)
+      unfolding takeBlockOf imageAfter pick
       take-keeps due whole some passed =
           let w = within number size capacity passed in
           let sized = request-sized request (Req.Data number size) e in
@@ -112,8 +112,8 @@ module _ (capacity : ℕ) (image request : List ℕ) (taken : List (List ℕ)) (
             rw (sized .1),
           )
 
-      transfer-keeps : Then (Transfer p) (Req.Data number size) (transferOf p number size capacity readiness)
-      unfolding transferOf imageOf pick
+      transfer-keeps : Then (Transfer p) (Req.Data number size) (receiverTransferOf p number size capacity readiness)
+      unfolding receiverTransferOf imageAfter pick
       transfer-keeps =
           let P : Step → Type 0 = Then (Transfer p) (Req.Data number size) in
           pick-all P (eqb number (p .accepted .blocks)) _ _
@@ -126,17 +126,17 @@ module _ (capacity : ℕ) (image request : List ℕ) (taken : List (List ℕ)) (
           (λ _. h)
 
   module _ (lent : length image ≡ capacity) where
-    data-keeps : (before : Phase) (number size : ℕ) → message.requestOf request ≡ Par.Valid (Req.Data number size) → Has before
-        → Then before (Req.Data number size) (dataOf before number size capacity readiness)
-    unfolding dataOf imageOf pick
+    data-keeps : (before : Phase) (number size : ℕ) → message.parsedRequestOf request ≡ Par.Valid (Req.Data number size) → Has before
+        → Then before (Req.Data number size) (receiverDataOf before number size capacity readiness)
+    unfolding receiverDataOf imageAfter pick
     data-keeps Idle number size e h = refl
     data-keeps (Transfer p) number size e h = transfer-keeps p number size h lent e
     data-keeps (Await a) number size e h = h
     data-keeps (Good a) number size e h = h
 
-    pub decide-keeps : (before : Phase) (q : Request) → message.requestOf request ≡ Par.Valid q → Has before
-        → Then before q (decideOf before q capacity readiness verdict)
-    unfolding decideOf imageOf pick
+    pub decide-keeps : (before : Phase) (q : Request) → message.parsedRequestOf request ≡ Par.Valid q → Has before
+        → Then before q (receiverDecideOf before q capacity readiness verdict)
+    unfolding receiverDecideOf imageAfter pick
     decide-keeps Idle Req.GetFwId e h = refl
     decide-keeps (Transfer p) Req.GetFwId e h = h
     decide-keeps (Await a) Req.GetFwId e h = h

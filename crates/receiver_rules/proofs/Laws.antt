@@ -5,8 +5,8 @@ use mathlib.Core.Path.{_≡_, refl, sym, _∙_}
 use mathlib.Core.List.{List}
 use Rattle.basis.specs.Pick.{when-met}
 use Rattle.wire.specs.declared.request.Request.{Request}
-use Rattle.receiver_state.specs.Answer.{numberOf}
-use Rattle.receiver_rules.specs.Decide.{decideOf}
+use Rattle.receiver_state.specs.Answer.{receiverNumberOf}
+use Rattle.receiver_rules.specs.Decide.{receiverDecideOf}
 use Rattle.receiver_rules.proofs.Owes.{keepsAll, keepsPhase, endsIdle, Stays, Row, decide-row}
 use Rattle.receiver_state.specs.declared.phase.Accepted.{Accepted}
 use Rattle.receiver_state.specs.declared.phase.Phase.{Phase}
@@ -15,13 +15,13 @@ use Rattle.receiver_state.specs.declared.verdict.Verdict.{Verdict}
 use Rattle.receiver_state.specs.declared.step.Store.{Store}
 use Rattle.receiver_state.specs.declared.step.Store.the-variants.{Nowhere}
 use Rattle.receiver_state.specs.declared.step.Step.{Step}
-use Rattle.receiver_rules.specs.Request.{Effect, imageOf, requestOf}
+use Rattle.receiver_rules.specs.Request.{Effect, imageAfter, receiverRequestOf}
 use Rattle.receiver_state.specs.declared.session.Receiver.{Receiver}
 use Rattle.receiver_rules.proofs.Walk.{request-walk}
 
 -- What a step leaves alone is left alone.
-nowhere-keeps : (s : Store) (image request : List ℕ) → s ≡ Nowhere → imageOf s image request ≡ image
-unfolding imageOf
+nowhere-keeps : (s : Store) (image request : List ℕ) → s ≡ Nowhere → imageAfter s image request ≡ image
+unfolding imageAfter
 nowhere-keeps s image request e = rw e
 
 stays-good : (before next : Phase) (a : Accepted) → Stays before next → before ≡ Good a → next ≡ Good a
@@ -29,16 +29,16 @@ stays-good before next a h e = rw e at h
 
 module _ (r : Receiver) (image request : List ℕ) (readiness : ℕ) (verdict : Verdict) (out : List ℕ) where
   abbrev pub after : Effect
-  after = requestOf r image request readiness verdict out
+  after = receiverRequestOf r image request readiness verdict out
 
   abbrev pub number : ℕ
-  number = numberOf (after .outcome .answer)
+  number = receiverNumberOf (after .outcome .answer)
 
   abbrev pub next : Receiver
-  next = after .outcome .state
+  next = after .outcome .session
 
   abbrev step : Request → Step
-  step q = decideOf (r .phase) q (r .capacity) readiness verdict
+  step q = receiverDecideOf (r .phase) q (r .capacity) readiness verdict
 
   row : (q : Request) → Row (r .phase) q (r .capacity) verdict (step q)
   row q = decide-row (r .phase) q (r .capacity) readiness verdict
@@ -47,7 +47,7 @@ module _ (r : Receiver) (image request : List ℕ) (readiness : ℕ) (verdict : 
   pub refused-keeps : keepsAll number ≡ true → (next ≡ r) × (after .image ≡ image) × (after .out ≡ out) × (after .outcome .written ≡ 0)
   refused-keeps =
       request-walk r image request readiness verdict out
-      (λ e. keepsAll (numberOf (e .outcome .answer)) ≡ true → (e .outcome .state ≡ r) × (e .image ≡ image) × (e .out ≡ out) × (e .outcome .written ≡ 0))
+      (λ e. keepsAll (receiverNumberOf (e .outcome .answer)) ≡ true → (e .outcome .session ≡ r) × (e .image ≡ image) × (e .out ≡ out) × (e .outcome .written ≡ 0))
       (λ _. (refl, refl, refl, refl)) (λ _. (refl, refl, refl, refl)) (λ _. (refl, refl, refl, refl)) (λ _. (refl, refl, refl, refl))
       (λ q _ _ _ h. absurd (true≢false (sym h ∙ row q .heard)))
 
@@ -55,30 +55,30 @@ module _ (r : Receiver) (image request : List ℕ) (readiness : ℕ) (verdict : 
   pub phase-kept : keepsPhase number ≡ true → (next .phase ≡ r .phase) × (after .image ≡ image)
   phase-kept =
       request-walk r image request readiness verdict out
-      (λ e. keepsPhase (numberOf (e .outcome .answer)) ≡ true → (e .outcome .state .phase ≡ r .phase) × (e .image ≡ image))
+      (λ e. keepsPhase (receiverNumberOf (e .outcome .answer)) ≡ true → (e .outcome .session .phase ≡ r .phase) × (e .image ≡ image))
       (λ _. (refl, refl)) (λ _. (refl, refl)) (λ _. (refl, refl)) (λ _. (refl, refl))
       (λ q _ _ _ h.
-      let k = when-met (keepsPhase (numberOf (step q .answer))) (row q .keeps) h in
+      let k = when-met (keepsPhase (receiverNumberOf (step q .answer))) (row q .keeps) h in
       (k .0, nowhere-keeps (step q .store) image request (k .1)))
 
   -- 23, 24 and 25 end in Idle and keep the image.
   pub idle-ended : endsIdle number ≡ true → (next .phase ≡ Idle) × (after .image ≡ image)
   idle-ended =
       request-walk r image request readiness verdict out
-      (λ e. endsIdle (numberOf (e .outcome .answer)) ≡ true → (e .outcome .state .phase ≡ Idle) × (e .image ≡ image))
+      (λ e. endsIdle (receiverNumberOf (e .outcome .answer)) ≡ true → (e .outcome .session .phase ≡ Idle) × (e .image ≡ image))
       (λ h. absurd (true≢false (sym h)))
       (λ h. absurd (true≢false (sym h)))
       (λ h. absurd (true≢false (sym h)))
       (λ h. absurd (true≢false (sym h)))
       (λ q _ _ _ h.
-      let k = when-met (endsIdle (numberOf (step q .answer))) (row q .ends) h in
+      let k = when-met (endsIdle (receiverNumberOf (step q .answer))) (row q .ends) h in
       (k .0, nowhere-keeps (step q .store) image request (k .1)))
 
   -- A well-formed request sets silence and resends to zero.
   pub heard-resets : keepsAll number ≡ false → (next .silence ≡ 0) × (next .resends ≡ 0)
   heard-resets =
       request-walk r image request readiness verdict out
-      (λ e. keepsAll (numberOf (e .outcome .answer)) ≡ false → (e .outcome .state .silence ≡ 0) × (e .outcome .state .resends ≡ 0))
+      (λ e. keepsAll (receiverNumberOf (e .outcome .answer)) ≡ false → (e .outcome .session .silence ≡ 0) × (e .outcome .session .resends ≡ 0))
       (λ h. absurd (true≢false h))
       (λ h. absurd (true≢false h))
       (λ h. absurd (true≢false h))
@@ -89,12 +89,12 @@ module _ (r : Receiver) (image request : List ℕ) (readiness : ℕ) (verdict : 
   pub settings-stay : (next .settings ≡ r .settings) × (next .identity ≡ r .identity) × (next .capacity ≡ r .capacity)
   settings-stay =
       request-walk r image request readiness verdict out
-      (λ e. (e .outcome .state .settings ≡ r .settings) × (e .outcome .state .identity ≡ r .identity) × (e .outcome .state .capacity ≡ r .capacity))
+      (λ e. (e .outcome .session .settings ≡ r .settings) × (e .outcome .session .identity ≡ r .identity) × (e .outcome .session .capacity ≡ r .capacity))
       (refl, refl, refl) (refl, refl, refl) (refl, refl, refl) (refl, refl, refl)
       (λ _ _ _ _. (refl, refl, refl))
 
   -- Good is never left by a request.
   pub good-stays : (a : Accepted) → r .phase ≡ Good a → next .phase ≡ Good a
   good-stays a e =
-      request-walk r image request readiness verdict out (λ x. x .outcome .state .phase ≡ Good a) e e e e
+      request-walk r image request readiness verdict out (λ x. x .outcome .session .phase ≡ Good a) e e e e
       (λ q _ _ _. stays-good (r .phase) (step q .phase) a (row q .stays) e)

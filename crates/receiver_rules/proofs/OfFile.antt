@@ -19,18 +19,18 @@ use Rattle.wire.specs.declared.request.Request.{Request}
 use Rattle.wire.specs.declared.request.Request.the-variants as Req
 use Rattle.wire.specs.declared.request.Parsed.the-variants.{Valid}
 use Rattle.receiver_state.specs.Phase.{acceptedOf}
-use Rattle.receiver_state.specs.Answer.{numberOf}
+use Rattle.receiver_state.specs.Answer.{receiverNumberOf}
 use Rattle.receiver_state.specs.declared.phase.Accepted.{Accepted}
 use Rattle.receiver_state.specs.declared.phase.Progress.{Progress}
 use Rattle.receiver_state.specs.declared.phase.Phase.{Phase}
 use Rattle.receiver_state.specs.declared.phase.Phase.the-variants.{Idle, Transfer, Await, Good}
-use Rattle.receiver_rules.specs.Decide.{decideOf}
+use Rattle.receiver_rules.specs.Decide.{receiverDecideOf}
 use Rattle.receiver_rules.proofs.DataOrders.{answers-22}
 use Rattle.receiver_state.specs.declared.verdict.Verdict.{Verdict}
 use Rattle.receiver_state.specs.declared.step.Step.{Step}
 use Rattle.receiver_rules.proofs.Elapsed.{Lasts}
-use Rattle.receiver_rules.specs.Request.{requestOf}
-use Rattle.receiver_rules.specs.Time.{timeOf}
+use Rattle.receiver_rules.specs.Request.{receiverRequestOf}
+use Rattle.receiver_rules.specs.Time.{receiverTimeOf}
 use Rattle.receiver_rules.specs.History.{acceptsBlock, forgets, takenBy, takenAfter, inOrder, Reached, asks, passes}
 use Rattle.receiver_state.specs.declared.session.Receiver.{Receiver}
 use Rattle.receiver_rules.proofs.Walk.{request-walk}
@@ -51,7 +51,7 @@ equal-or a b = by-test a b (eqb a b) refl
 
 module _ (file : List ℕ) where
   abbrev pub Carries : List ℕ → Type 0
-  Carries request = (number size : ℕ) → message.requestOf request ≡ Valid (Req.Data number size) → drop 4 request ≡ blockAt file number
+  Carries request = (number size : ℕ) → message.parsedRequestOf request ≡ Valid (Req.Data number size) → drop 4 request ≡ blockAt file number
 
   -- The accepted blocks, the newest first, are the file's first ones.
   abbrev pub FirstBlocks : List (List ℕ) → Type 0
@@ -87,7 +87,7 @@ module _ (file : List ℕ) where
 
   module _ (block : List ℕ) (taken : List (List ℕ)) (h : FirstBlocks taken) where
     abbrev Then : Phase → Request → Step → Type 0
-    Then before q s = FirstBlocks (pick (acceptsBlock before (Valid q) (numberOf (s .answer))) (block ∷ taken) taken)
+    Then before q s = FirstBlocks (pick (acceptsBlock before (Valid q) (receiverNumberOf (s .answer))) (block ∷ taken) taken)
 
     due-first : (t : Bool) → block ≡ blockAt file (length taken) → FirstBlocks (pick t (block ∷ taken) taken)
     due-first t same = pick-all FirstBlocks t (block ∷ taken) taken (λ _. (same, h)) (λ _. h)
@@ -95,17 +95,17 @@ module _ (file : List ℕ) where
     -- A block is accepted only under the number that is due.
     data-first : (p : Progress) (number size capacity readiness : ℕ) (verdict : Verdict) → p .accepted .blocks ≡ length taken → block ≡ blockAt file number
         → (number ≡ p .accepted .blocks) ⊎ (number ≡ p .accepted .blocks → ⊥)
-        → Then (Transfer p) (Req.Data number size) (decideOf (Transfer p) (Req.Data number size) capacity readiness verdict)
+        → Then (Transfer p) (Req.Data number size) (receiverDecideOf (Transfer p) (Req.Data number size) capacity readiness verdict)
     unfolding pick
     data-first p number size capacity readiness verdict count same (inl due) =
-        due-first (acceptsBlock (Transfer p) (Valid (Req.Data number size)) (numberOf (decideOf (Transfer p) (Req.Data number size) capacity readiness verdict .answer)))
+        due-first (acceptsBlock (Transfer p) (Valid (Req.Data number size)) (receiverNumberOf (receiverDecideOf (Transfer p) (Req.Data number size) capacity readiness verdict .answer)))
         (same ∙ ap (blockAt file) (due ∙ count))
     data-first p number size capacity readiness verdict count same (inr early) = rw (answers-22 p number size capacity readiness verdict early) h
 
     decide-first : (before : Phase) (q : Request) (capacity readiness : ℕ) (verdict : Verdict) (image : List ℕ)
         → Held capacity image taken before
         → ((number size : ℕ) → q ≡ Req.Data number size → block ≡ blockAt file number)
-        → Then before q (decideOf before q capacity readiness verdict)
+        → Then before q (receiverDecideOf before q capacity readiness verdict)
     unfolding pick
     decide-first Idle q capacity readiness verdict image held same = h
     decide-first (Transfer p) Req.GetFwId capacity readiness verdict image held same = h
@@ -122,7 +122,7 @@ module _ (file : List ℕ) where
   closed-at before phase e h = rw e at h
 
   -- The empty block is the file's only where no block is left.
-  empty-closes : (request : List ℕ) (number : ℕ) → Carries request → message.requestOf request ≡ Valid (Req.Data number 0) → length file ≤ 256 * number
+  empty-closes : (request : List ℕ) (number : ℕ) → Carries request → message.parsedRequestOf request ≡ Valid (Req.Data number 0) → length file ≤ 256 * number
   empty-closes request number same e =
       let sized = request-sized request (Req.Data number 0) e .1 in
       let block = ap length (same number 0 e) in
@@ -137,18 +137,18 @@ module _ (file : List ℕ) where
 
   module _ (r : Receiver) (image : List ℕ) (taken : List (List ℕ)) (h : OfFile r image taken) where
     module _ (request : List ℕ) (readiness : ℕ) (verdict : Verdict) (out : List ℕ) (same : Carries request) where
-      refused : (number : ℕ) → eqb number 0 ≡ false → FirstBlocks (takenBy (r .phase) (message.requestOf request) (drop 4 request) number (r .phase) taken)
+      refused : (number : ℕ) → eqb number 0 ≡ false → FirstBlocks (takenBy (r .phase) (message.parsedRequestOf request) (drop 4 request) number (r .phase) taken)
       unfolding pick
-      refused number n = rw (refused-accepts (r .phase) (message.requestOf request) number n) (forgets-first (r .phase) taken (h .blocks))
+      refused number n = rw (refused-accepts (r .phase) (message.parsedRequestOf request) number n) (forgets-first (r .phase) taken (h .blocks))
 
       asks-first : FirstBlocks (takenAfter r request (after r image request readiness verdict out .outcome) taken)
       asks-first =
           request-walk r image request readiness verdict out (λ x. FirstBlocks (takenAfter r request (x .outcome) taken))
           (refused 28 refl) (refused 27 refl) (refused 26 refl) (refused 20 refl)
           (λ q _ _ e.
-          let s = decideOf (r .phase) q (r .capacity) readiness verdict in
+          let s = receiverDecideOf (r .phase) q (r .capacity) readiness verdict in
           rw e
-          (forgets-first (s .phase) (pick (acceptsBlock (r .phase) (Valid q) (numberOf (s .answer))) (drop 4 request ∷ taken) taken)
+          (forgets-first (s .phase) (pick (acceptsBlock (r .phase) (Valid q) (receiverNumberOf (s .answer))) (drop 4 request ∷ taken) taken)
           (decide-first (drop 4 request) taken (h .blocks) (r .phase) q (r .capacity) readiness verdict image (reached-holds (h .reached))
           (λ number size e′. same number size (e ∙ ap (λ x. Valid x) e′)))))
 
@@ -175,11 +175,11 @@ module _ (file : List ℕ) where
       }
 
     pub time-of-file : (elapsed : ℕ) (out : List ℕ)
-        → OfFile (timeOf r elapsed out .answer .state) image (forgets (timeOf r elapsed out .answer .state .phase) taken)
+        → OfFile (receiverTimeOf r elapsed out .answer .session) image (forgets (receiverTimeOf r elapsed out .answer .session .phase) taken)
     time-of-file elapsed out = record {
       reached = passes (h .reached) elapsed out;
-      blocks = forgets-first (timeOf r elapsed out .answer .state .phase) taken (h .blocks);
-      closed = lasts-closed (r .phase) (timeOf r elapsed out .answer .state .phase) (time-lasts r elapsed out) (h .closed);
+      blocks = forgets-first (receiverTimeOf r elapsed out .answer .session .phase) taken (h .blocks);
+      closed = lasts-closed (r .phase) (receiverTimeOf r elapsed out .answer .session .phase) (time-lasts r elapsed out) (h .closed);
     }
 
     -- What is marked good is the file, in length and in every byte.

@@ -8,10 +8,10 @@ use lib.Dec.{ltb, eqb}
 use Rattle.basis.specs.Pick.{pick-all, When}
 use Rattle.wire.specs.declared.request.Request.{Request}
 use Rattle.wire.specs.declared.request.Request.the-variants as Req
-use Rattle.receiver_state.specs.Answer.{numberOf}
+use Rattle.receiver_state.specs.Answer.{receiverNumberOf}
 use Rattle.receiver_state.specs.Phase.{accepts}
 use Rattle.receiver_state.proofs.Truth.{Tells}
-use Rattle.receiver_rules.specs.Decide.{progress, offerOf, againOf, initiateOf, passesCapacity, closeOf, takeOf, transferOf, dataOf, judgeOf, validateOf, abortOf, decideOf}
+use Rattle.receiver_rules.specs.Decide.{receiverProgress, offerOf, initiateAgainOf, receiverInitiateOf, passesCapacity, closeTransferOf, takeBlockOf, receiverTransferOf, receiverDataOf, receiverVerdictOf, receiverValidateOf, receiverAbortOf, receiverDecideOf}
 use Rattle.receiver_state.specs.declared.phase.Accepted.{Accepted}
 use Rattle.receiver_state.specs.declared.phase.Progress.{Progress}
 use Rattle.receiver_state.specs.declared.phase.Phase.{Phase}
@@ -69,7 +69,7 @@ pub record Taken (p : Progress) (q : Request) (capacity number : ℕ) (next : Ph
   pub some : 0 < size
   pub low : number ≤ 4095
   pub fits : 256 * number + size ≤ capacity
-  pub counted : next ≡ Transfer (progress (accepts (number + 1) (256 * number + size)) (ltb size 256))
+  pub counted : next ≡ Transfer (receiverProgress (accepts (number + 1) (256 * number + size)) (ltb size 256))
 
 abbrev pub Puts : Phase → Request → ℕ → Phase → Store → Type 0
 Puts before q capacity next Nowhere = Unit
@@ -79,32 +79,32 @@ Puts (Await a) q capacity next (At number) = ⊥
 Puts (Good a) q capacity next (At number) = ⊥
 
 pub record Row (before : Phase) (q : Request) (capacity : ℕ) (verdict : Verdict) (s : Step) : Type 0 where
-  pub heard : keepsAll (numberOf (s .answer)) ≡ false
-  pub keeps : When (keepsPhase (numberOf (s .answer))) ((s .phase ≡ before) × (s .store ≡ Nowhere))
-  pub ends : When (endsIdle (numberOf (s .answer))) ((s .phase ≡ Idle) × (s .store ≡ Nowhere))
+  pub heard : keepsAll (receiverNumberOf (s .answer)) ≡ false
+  pub keeps : When (keepsPhase (receiverNumberOf (s .answer))) ((s .phase ≡ before) × (s .store ≡ Nowhere))
+  pub ends : When (endsIdle (receiverNumberOf (s .answer))) ((s .phase ≡ Idle) × (s .store ≡ Nowhere))
   pub stays : Stays before (s .phase)
   pub enters : Enters before q verdict (s .phase)
   pub puts : Puts before q capacity (s .phase) (s .store)
   pub tells : Tells (s .answer) (s .phase)
 
 module _ (capacity : ℕ) (verdict : Verdict) where
-  initiate-row : (before : Phase) (q : Request) (readiness : ℕ) → Row before q capacity verdict (initiateOf before readiness)
-  unfolding initiateOf againOf offerOf
+  initiate-row : (before : Phase) (q : Request) (readiness : ℕ) → Row before q capacity verdict (receiverInitiateOf before readiness)
+  unfolding receiverInitiateOf initiateAgainOf offerOf
   initiate-row Idle q readiness = search (pick-all (Row Idle q capacity verdict))
   initiate-row (Transfer p) q readiness = search (pick-all (Row (Transfer p) q capacity verdict)) depth 8
   initiate-row (Await a) q readiness = search
   initiate-row (Good a) q readiness = search
 
-  abort-row : (before : Phase) (q : Request) → Row before q capacity verdict (abortOf before)
-  unfolding abortOf
+  abort-row : (before : Phase) (q : Request) → Row before q capacity verdict (receiverAbortOf before)
+  unfolding receiverAbortOf
   abort-row Idle q = search
   abort-row (Transfer p) q = search
   abort-row (Await a) q = search
   abort-row (Good a) q = search
 
   take-row : (p : Progress) (number size readiness : ℕ) → number ≡ p .accepted .blocks → p .short ≡ false → 0 < size → passesCapacity number size capacity ≡ false
-      → Row (Transfer p) (Req.Data number size) capacity verdict (takeOf number size readiness)
-  unfolding takeOf
+      → Row (Transfer p) (Req.Data number size) capacity verdict (takeBlockOf number size readiness)
+  unfolding takeBlockOf
   take-row p number size readiness due whole some passed =
       let w = within number size capacity passed in
       record {
@@ -117,16 +117,16 @@ module _ (capacity : ℕ) (verdict : Verdict) where
         puts = record { size = size; asked = refl; due = due; whole = whole; some = some; low = w .0; fits = w .1; counted = refl };
       }
 
-  close-row : (p : Progress) (number : ℕ) → number ≡ p .accepted .blocks → Row (Transfer p) (Req.Data number 0) capacity verdict (closeOf (p .accepted))
-  unfolding closeOf
+  close-row : (p : Progress) (number : ℕ) → number ≡ p .accepted .blocks → Row (Transfer p) (Req.Data number 0) capacity verdict (closeTransferOf (p .accepted))
+  unfolding closeTransferOf
   close-row p number due =
       pick-all (Row (Transfer p) (Req.Data number 0) capacity verdict) (eqb (p .accepted .blocks) 0) _ _ (λ _. search)
       (λ t.
       let some = eqb-false (p .accepted .blocks) 0 t in
       record { heard = refl; keeps = tt; ends = tt; stays = tt; enters = (refl, rw due, omega arith); puts = tt; tells = tt })
 
-  transfer-row : (p : Progress) (number size readiness : ℕ) → Row (Transfer p) (Req.Data number size) capacity verdict (transferOf p number size capacity readiness)
-  unfolding transferOf
+  transfer-row : (p : Progress) (number size readiness : ℕ) → Row (Transfer p) (Req.Data number size) capacity verdict (receiverTransferOf p number size capacity readiness)
+  unfolding receiverTransferOf
   transfer-row p number size readiness =
       let P : Step → Type 0 = Row (Transfer p) (Req.Data number size) capacity verdict in
       pick-all P (eqb number (p .accepted .blocks)) _ _
@@ -139,29 +139,29 @@ module _ (capacity : ℕ) (verdict : Verdict) where
       (λ passed. take-row p number size readiness due whole (omega arith) passed))))
       (λ _. search)
 
-  data-row : (before : Phase) (number size readiness : ℕ) → Row before (Req.Data number size) capacity verdict (dataOf before number size capacity readiness)
-  unfolding dataOf
+  data-row : (before : Phase) (number size readiness : ℕ) → Row before (Req.Data number size) capacity verdict (receiverDataOf before number size capacity readiness)
+  unfolding receiverDataOf
   data-row Idle number size readiness = search
   data-row (Transfer p) number size readiness = transfer-row p number size readiness
   data-row (Await a) number size readiness = search
   data-row (Good a) number size readiness = search
 
 module _ (capacity : ℕ) where
-  judge-row : (a : Accepted) (verdict : Verdict) → Row (Await a) Req.Validate capacity verdict (judgeOf a verdict)
-  unfolding judgeOf
+  judge-row : (a : Accepted) (verdict : Verdict) → Row (Await a) Req.Validate capacity verdict (receiverVerdictOf a verdict)
+  unfolding receiverVerdictOf
   judge-row a Ver.Good = search
   judge-row a Ver.Bad = search
   judge-row a (Ver.Later wait) = search
 
-  validate-row : (before : Phase) (verdict : Verdict) → Row before Req.Validate capacity verdict (validateOf before verdict)
-  unfolding validateOf
+  validate-row : (before : Phase) (verdict : Verdict) → Row before Req.Validate capacity verdict (receiverValidateOf before verdict)
+  unfolding receiverValidateOf
   validate-row Idle verdict = search
   validate-row (Transfer p) verdict = search
   validate-row (Await a) verdict = judge-row a verdict
   validate-row (Good a) verdict = search
 
-pub decide-row : (before : Phase) (q : Request) (capacity readiness : ℕ) (verdict : Verdict) → Row before q capacity verdict (decideOf before q capacity readiness verdict)
-unfolding decideOf
+pub decide-row : (before : Phase) (q : Request) (capacity readiness : ℕ) (verdict : Verdict) → Row before q capacity verdict (receiverDecideOf before q capacity readiness verdict)
+unfolding receiverDecideOf
 decide-row Idle Req.GetFwId capacity readiness verdict = search
 decide-row (Transfer p) Req.GetFwId capacity readiness verdict = search
 decide-row (Await a) Req.GetFwId capacity readiness verdict = search

@@ -14,8 +14,8 @@ use Rattle.receiver_rules.proofs.Elapsed.{Lasts}
 use Rattle.receiver_state.specs.declared.phase.Phase.{Phase}
 use Rattle.receiver_state.specs.declared.phase.Phase.the-variants.{Idle, Transfer, Await, Good}
 use Rattle.receiver_state.specs.declared.verdict.Verdict.{Verdict}
-use Rattle.receiver_rules.specs.Request.{requestOf}
-use Rattle.receiver_rules.specs.Time.{timeOf}
+use Rattle.receiver_rules.specs.Request.{receiverRequestOf}
+use Rattle.receiver_rules.specs.Time.{receiverTimeOf}
 use Rattle.receiver_rules.specs.History.{carried, acceptsBlock, forgets, takenBy, takenAfter, Reached, starts, asks, passes}
 use Rattle.receiver_state.specs.declared.session.Receiver.{Receiver}
 use Rattle.receiver_rules.proofs.Walk.{request-walk}
@@ -57,21 +57,21 @@ abbrev Holds : Receiver → List ℕ → List (List ℕ) → Type 0
 Holds r image taken = Held (r .capacity) image taken (r .phase)
 
 module _ (r : Receiver) (image : List ℕ) (taken : List (List ℕ)) (h : Holds r image taken) where
-  refused : (request : List ℕ) (number : ℕ) → eqb number 0 ≡ false → Holds r image (takenBy (r .phase) (message.requestOf request) (drop 4 request) number (r .phase) taken)
-  refused request number n = refused-holds (r .capacity) image taken (r .phase) (message.requestOf request) (drop 4 request) number n h
+  refused : (request : List ℕ) (number : ℕ) → eqb number 0 ≡ false → Holds r image (takenBy (r .phase) (message.parsedRequestOf request) (drop 4 request) number (r .phase) taken)
+  refused request number n = refused-holds (r .capacity) image taken (r .phase) (message.parsedRequestOf request) (drop 4 request) number n h
 
   asks-holds : (request : List ℕ) (readiness : ℕ) (verdict : Verdict) (out : List ℕ)
-      → Holds (requestOf r image request readiness verdict out .outcome .state) (requestOf r image request readiness verdict out .image)
-      (takenAfter r request (requestOf r image request readiness verdict out .outcome) taken)
+      → Holds (receiverRequestOf r image request readiness verdict out .outcome .session) (receiverRequestOf r image request readiness verdict out .image)
+      (takenAfter r request (receiverRequestOf r image request readiness verdict out .outcome) taken)
   asks-holds request readiness verdict out =
-      request-walk r image request readiness verdict out (λ x. Holds (x .outcome .state) (x .image) (takenAfter r request (x .outcome) taken))
+      request-walk r image request readiness verdict out (λ x. Holds (x .outcome .session) (x .image) (takenAfter r request (x .outcome) taken))
       (refused request 28 refl) (refused request 27 refl) (refused request 26 refl) (refused request 20 refl)
       (λ q lent _ e. rw e (decide-keeps (r .capacity) image request taken readiness verdict lent (r .phase) q e h))
 
-  passes-holds : (elapsed : ℕ) (out : List ℕ) → Holds (timeOf r elapsed out .answer .state) image (forgets (timeOf r elapsed out .answer .state .phase) taken)
+  passes-holds : (elapsed : ℕ) (out : List ℕ) → Holds (receiverTimeOf r elapsed out .answer .session) image (forgets (receiverTimeOf r elapsed out .answer .session .phase) taken)
   passes-holds elapsed out =
       rw (time-settings r elapsed out .2)
-      (lasts-holds (r .capacity) image taken (r .phase) (timeOf r elapsed out .answer .state .phase) (time-lasts r elapsed out) h)
+      (lasts-holds (r .capacity) image taken (r .phase) (receiverTimeOf r elapsed out .answer .session .phase) (time-lasts r elapsed out) h)
 
 pub reached-holds : {r : Receiver} {image : List ℕ} {taken : List (List ℕ)} → Reached r image taken → Held (r .capacity) image taken (r .phase)
 reached-holds (starts limit resends identity capacity r image e) = rw (start-fresh limit resends identity capacity r e .idle) refl

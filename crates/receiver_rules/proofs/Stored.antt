@@ -14,7 +14,7 @@ use Rattle.wire.specs.declared.request.Request.{Request}
 use Rattle.wire.specs.declared.request.Request.the-variants as Req
 use Rattle.wire.specs.declared.request.Parsed.the-variants.{Valid}
 use Rattle.receiver_state.specs.Phase.{accepts}
-use Rattle.receiver_rules.specs.Decide.{progress, decideOf}
+use Rattle.receiver_rules.specs.Decide.{receiverProgress, receiverDecideOf}
 use Rattle.receiver_rules.proofs.Owes.{Taken, Puts, decide-row}
 use Rattle.receiver_state.specs.declared.phase.Progress.{Progress}
 use Rattle.receiver_state.specs.declared.phase.Phase.{Phase}
@@ -22,7 +22,7 @@ use Rattle.receiver_state.specs.declared.phase.Phase.the-variants.{Idle, Transf
 use Rattle.receiver_state.specs.declared.verdict.Verdict.{Verdict}
 use Rattle.receiver_state.specs.declared.step.Store.{Store}
 use Rattle.receiver_state.specs.declared.step.Store.the-variants.{Nowhere, At}
-use Rattle.receiver_rules.specs.Request.{imageOf}
+use Rattle.receiver_rules.specs.Request.{imageAfter}
 use Rattle.receiver_state.specs.declared.session.Receiver.{Receiver}
 use Rattle.receiver_rules.proofs.Walk.{request-walk}
 use Rattle.receiver_rules.proofs.Laws.{after, next}
@@ -33,7 +33,7 @@ pub record Stored (before : Phase) (capacity : ℕ) (request image image′ : Li
   pub transfer : before ≡ Transfer p
   pub number : ℕ
   pub size : ℕ
-  pub asked : message.requestOf request ≡ Valid (Req.Data number size)
+  pub asked : message.parsedRequestOf request ≡ Valid (Req.Data number size)
   pub sized : length (drop 4 request) ≡ size
   pub due : number ≡ p .accepted .blocks
   pub whole : p .short ≡ false
@@ -44,14 +44,14 @@ pub record Stored (before : Phase) (capacity : ℕ) (request image image′ : Li
   pub fits : 256 * number + size ≤ capacity
   pub there : take (256 * number + size) image′ ≡ take (256 * number) image ++ drop 4 request
   pub behind : drop (256 * number + size) image′ ≡ drop (256 * number + size) image
-  pub counted : then ≡ Transfer (progress (accepts (number + 1) (256 * number + size)) (ltb size 256))
+  pub counted : then ≡ Transfer (receiverProgress (accepts (number + 1) (256 * number + size)) (ltb size 256))
 
 module _ (image request : List ℕ) (capacity : ℕ) (room : length image ≡ capacity) where
-  pub taken-stored : (p : Progress) (q : Request) (number : ℕ) (then : Phase) → message.requestOf request ≡ Valid q → Taken p q capacity number then
-      → Stored (Transfer p) capacity request image (imageOf (At number) image request) then
-  unfolding imageOf
+  pub taken-stored : (p : Progress) (q : Request) (number : ℕ) (then : Phase) → message.parsedRequestOf request ≡ Valid q → Taken p q capacity number then
+      → Stored (Transfer p) capacity request image (imageAfter (At number) image request) then
+  unfolding imageAfter
   taken-stored p q number then e t =
-      let asked : message.requestOf request ≡ Valid (Req.Data number (t .size)) = e ∙ ap (λ x. Valid x) (t .asked) in
+      let asked : message.parsedRequestOf request ≡ Valid (Req.Data number (t .size)) = e ∙ ap (λ x. Valid x) (t .asked) in
       let size = request-sized request (Req.Data number (t .size)) asked in
       let fits = t .fits in
       let at : 256 * number ≤ length image = omega arith in
@@ -76,17 +76,17 @@ module _ (image request : List ℕ) (capacity : ℕ) (room : length image ≡ ca
         counted = t .counted;
       })
 
-  store-image : (before : Phase) (q : Request) (then : Phase) (s : Store) → message.requestOf request ≡ Valid q → Puts before q capacity then s
-      → (imageOf s image request ≡ image) ⊎ Stored before capacity request image (imageOf s image request) then
-  unfolding imageOf
+  store-image : (before : Phase) (q : Request) (then : Phase) (s : Store) → message.parsedRequestOf request ≡ Valid q → Puts before q capacity then s
+      → (imageAfter s image request ≡ image) ⊎ Stored before capacity request image (imageAfter s image request) then
+  unfolding imageAfter
   store-image before q then Nowhere e h = inl refl
   store-image Idle q then (At number) e h = absurd h
   store-image (Transfer p) q then (At number) e h = inr (taken-stored p q number then e h)
   store-image (Await a) q then (At number) e h = absurd h
   store-image (Good a) q then (At number) e h = absurd h
 
-store-length : (image request : List ℕ) (s : Store) → length (imageOf s image request) ≡ length image
-unfolding imageOf
+store-length : (image request : List ℕ) (s : Store) → length (imageAfter s image request) ≡ length image
+unfolding imageAfter
 store-length image request Nowhere = refl
 store-length image request (At number) = put-length image (256 * number) (drop 4 request)
 
@@ -96,10 +96,10 @@ module _ (r : Receiver) (image request : List ℕ) (readiness : ℕ) (verdict : 
       ⊎ Stored (r .phase) (r .capacity) request image (after r image request readiness verdict out .image) (next r image request readiness verdict out .phase)
   image-changes =
       request-walk r image request readiness verdict out
-      (λ x. (x .image ≡ image) ⊎ Stored (r .phase) (r .capacity) request image (x .image) (x .outcome .state .phase))
+      (λ x. (x .image ≡ image) ⊎ Stored (r .phase) (r .capacity) request image (x .image) (x .outcome .session .phase))
       (inl refl) (inl refl) (inl refl) (inl refl)
       (λ q room _ e.
-      let s = decideOf (r .phase) q (r .capacity) readiness verdict in
+      let s = receiverDecideOf (r .phase) q (r .capacity) readiness verdict in
       store-image image request (r .capacity) room (r .phase) q (s .phase) (s .store) e (decide-row (r .phase) q (r .capacity) readiness verdict .puts))
 
   -- The image is neither longer nor shorter afterwards.
@@ -107,4 +107,4 @@ module _ (r : Receiver) (image request : List ℕ) (readiness : ℕ) (verdict : 
   image-length =
       request-walk r image request readiness verdict out (λ x. length (x .image) ≡ length image)
       refl refl refl refl
-      (λ q _ _ _. store-length image request (decideOf (r .phase) q (r .capacity) readiness verdict .store))
+      (λ q _ _ _. store-length image request (receiverDecideOf (r .phase) q (r .capacity) readiness verdict .store))

@@ -6,7 +6,7 @@ use mathlib.Core.List.{List}
 use lib.ListN.{take}
 use Rattle.basis.specs.Pick.{pick}
 use Rattle.wire.specs.Header.{headed}
-use Rattle.wire.specs.Response.{identifiedOf, initiatedOf, receiptOf, validatedOf, typedOf, responseOf}
+use Rattle.wire.specs.Response.{identifiedIn, initiatedIn, receiptIn, validatedIn, responseOfType, parsedResponseOf}
 use Rattle.wire.specs.Written.{responseBytes, identifiedBytes, initiatedBytes, receiptBytes, validatedBytes}
 use Rattle.wire.specs.declared.response.Response.the-variants as Res
 use Rattle.wire.specs.declared.response.Parsed.{Parsed}
@@ -18,14 +18,14 @@ use Rattle.receiver_state.specs.declared.phase.Accepted.{Accepted}
 use Rattle.receiver_state.specs.declared.phase.Phase.{Phase}
 use Rattle.receiver_state.specs.declared.phase.Phase.the-variants.{Idle, Transfer, Await, Good}
 use Rattle.receiver_state.proofs.Truth.{IsGood, Tells}
-use Rattle.receiver_rules.specs.Decide.{decideOf}
+use Rattle.receiver_rules.specs.Decide.{receiverDecideOf}
 use Rattle.receiver_state.specs.declared.verdict.Verdict.{Verdict}
 use Rattle.receiver_rules.proofs.Owes.{decide-row}
-use Rattle.receiver_rules.specs.Pass.{passOf}
+use Rattle.receiver_rules.specs.Tick.{receiverTickOf}
 use Rattle.receiver_rules.proofs.Elapsed.{pass-ticks}
-use Rattle.receiver_rules.specs.Request.{requestOf}
-use Rattle.receiver_rules.specs.Respond.{replyBytes, bytesOf}
-use Rattle.receiver_rules.specs.Time.{timeOf}
+use Rattle.receiver_rules.specs.Request.{receiverRequestOf}
+use Rattle.receiver_rules.specs.Respond.{replyBytes, receiverBytesOf}
+use Rattle.receiver_rules.specs.Time.{receiverTimeOf}
 use Rattle.receiver_state.specs.declared.session.Receiver.{Receiver}
 use Rattle.receiver_rules.proofs.Walk.{request-walk, time-walk}
 use Rattle.receiver_rules.proofs.Laws.{good-stays}
@@ -43,11 +43,11 @@ Succeeds Par.Malformed = ⊥
 
 -- What a reader may believe of a message from a receiver in this phase.
 abbrev pub Truthful : Phase → List ℕ → Type 0
-Truthful phase m = Succeeds (responseOf m) → IsGood phase
+Truthful phase m = Succeeds (parsedResponseOf m) → IsGood phase
 
 module _ (r : Receiver) (phase : Phase) where
-  bytes-truthful : (answer : Answer) → Tells answer phase → Truthful phase (bytesOf r answer)
-  unfolding replyBytes replyOf identified initiated receipt validated responseBytes identifiedBytes initiatedBytes receiptBytes validatedBytes responseOf headed typedOf identifiedOf initiatedOf receiptOf validatedOf pick
+  bytes-truthful : (answer : Answer) → Tells answer phase → Truthful phase (receiverBytesOf r answer)
+  unfolding replyBytes replyOf identified initiated receipt validated responseBytes identifiedBytes initiatedBytes receiptBytes validatedBytes parsedResponseOf headed responseOfType identifiedIn initiatedIn receiptIn validatedIn pick
   bytes-truthful Identified h e = absurd e
   bytes-truthful (Offered wait) h e = absurd e
   bytes-truthful (Asking wait number) h e = absurd e
@@ -77,20 +77,20 @@ good-carried (Good a) next h g = rw (h a refl) tt
 
 module _ (r : Receiver) (image request : List ℕ) (readiness : ℕ) (verdict : Verdict) (out : List ℕ) where
   abbrev then : Phase
-  then = requestOf r image request readiness verdict out .outcome .state .phase
+  then = receiverRequestOf r image request readiness verdict out .outcome .session .phase
 
-  answer-truthful : Truthful then (bytesOf r (requestOf r image request readiness verdict out .outcome .answer))
+  answer-truthful : Truthful then (receiverBytesOf r (receiverRequestOf r image request readiness verdict out .outcome .answer))
   answer-truthful =
-      request-walk r image request readiness verdict out (λ x. Truthful (x .outcome .state .phase) (bytesOf r (x .outcome .answer)))
+      request-walk r image request readiness verdict out (λ x. Truthful (x .outcome .session .phase) (receiverBytesOf r (x .outcome .answer)))
       (bytes-truthful r (r .phase) ImageLength tt)
       (bytes-truthful r (r .phase) BufferShort tt)
       (bytes-truthful r (r .phase) OutOfRange tt)
       (bytes-truthful r (r .phase) Malformed tt)
       (λ q _ _ _.
-      let s = decideOf (r .phase) q (r .capacity) readiness verdict in
+      let s = receiverDecideOf (r .phase) q (r .capacity) readiness verdict in
       bytes-truthful r (s .phase) (s .answer) (decide-row (r .phase) q (r .capacity) readiness verdict .tells))
 
-  pub request-truthful : Truthful then (take (requestOf r image request readiness verdict out .outcome .written) (requestOf r image request readiness verdict out .out))
+  pub request-truthful : Truthful then (take (receiverRequestOf r image request readiness verdict out .outcome .written) (receiverRequestOf r image request readiness verdict out .out))
   request-truthful = rw (first-bytes r out _ _ (request-leads r image request readiness verdict out)) answer-truthful
 
   -- What was told once stays true: Good is never left.
@@ -99,17 +99,17 @@ module _ (r : Receiver) (image request : List ℕ) (readiness : ℕ) (verdict : 
 
 module _ (r : Receiver) (elapsed : ℕ) (out : List ℕ) where
   abbrev passed : Phase
-  passed = timeOf r elapsed out .answer .state .phase
+  passed = receiverTimeOf r elapsed out .answer .session .phase
 
-  tick-truthful : Truthful passed (bytesOf r (timeOf r elapsed out .answer .answer))
+  tick-truthful : Truthful passed (receiverBytesOf r (receiverTimeOf r elapsed out .answer .answer))
   tick-truthful =
-      time-walk r elapsed out (λ x. Truthful (x .answer .state .phase) (bytesOf r (x .answer .answer)))
+      time-walk r elapsed out (λ x. Truthful (x .answer .session .phase) (receiverBytesOf r (x .answer .answer)))
       (bytes-truthful r (r .phase) BufferShort tt)
       (λ _.
-      let t = passOf (r .phase) (r .silence) elapsed (r .resends) (r .settings) in
+      let t = receiverTickOf (r .phase) (r .silence) elapsed (r .resends) (r .settings) in
       bytes-truthful r (t .phase) (t .answer) (pass-ticks (r .phase) (r .silence) elapsed (r .resends) (r .settings) .tells))
 
-  pub time-truthful : Truthful passed (take (timeOf r elapsed out .answer .written) (timeOf r elapsed out .memory))
+  pub time-truthful : Truthful passed (take (receiverTimeOf r elapsed out .answer .written) (receiverTimeOf r elapsed out .memory))
   time-truthful = rw (first-bytes r out _ _ (time-leads r elapsed out)) tick-truthful
 
   pub time-stays-good : IsGood (r .phase) → IsGood passed

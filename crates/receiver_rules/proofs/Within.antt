@@ -6,11 +6,11 @@ use native.Mathlib.Omega.{arith}
 use borrow.Author.Tests.{lt-ltb, le-ltb, ltb-true, ltb-false}
 use lib.Dec.{ltb}
 use Rattle.basis.specs.Pick.{pick-all}
-use Rattle.image.specs.Blocks.{passesOf}
+use Rattle.image.specs.Blocks.{blockPassesOf}
 use Rattle.receiver_rules.specs.Decide.{lastNumber, passesCapacity}
 
 pub within : (number size capacity : ℕ) → passesCapacity number size capacity ≡ false → (number ≤ lastNumber) × (256 * number + size ≤ capacity)
-unfolding passesCapacity passesOf
+unfolding passesCapacity blockPassesOf
 within number size capacity =
     pick-all (λ (t : Bool). t ≡ false → (number ≤ lastNumber) × (256 * number + size ≤ capacity)) (ltb lastNumber number) _ _
     (λ _ e. absurd (true≢false e))
@@ -24,11 +24,11 @@ module _ (number size capacity : ℕ) where
       (λ t. let low = ltb-false lastNumber number t in absurd (omega arith))
 
   pub end-passes : capacity < 256 * number + size → passesCapacity number size capacity ≡ true
-  unfolding passesCapacity passesOf
+  unfolding passesCapacity blockPassesOf
   end-passes h = pick-all (λ (t : Bool). t ≡ true) (ltb lastNumber number) _ _ (λ _. refl) (λ _. lt-ltb capacity (256 * number + size) h)
 
   pub none-passes : number ≤ 4095 → 256 * number + size ≤ capacity → passesCapacity number size capacity ≡ false
-  unfolding passesCapacity passesOf
+  unfolding passesCapacity blockPassesOf
   none-passes low fits =
       pick-all (λ (t : Bool). t ≡ false) (ltb lastNumber number) _ _
       (λ t. let high = ltb-true lastNumber number t in absurd (omega arith))

@@ -14,13 +14,13 @@ use Rattle.wire.specs.declared.request.Request.the-variants as Req
 use Rattle.wire.specs.declared.request.Parsed.{Parsed}
 use Rattle.wire.specs.declared.request.Parsed.the-variants as Par
 use Rattle.wire.specs.declared.response.Identity.{Identity}
-use Rattle.receiver_state.specs.Answer.{numberOf}
+use Rattle.receiver_state.specs.Answer.{receiverNumberOf}
 use Rattle.receiver_state.specs.declared.phase.Phase.{Phase}
 use Rattle.receiver_state.specs.declared.phase.Phase.the-variants.{Idle, Transfer, Await, Good}
 use Rattle.receiver_state.specs.declared.verdict.Verdict.{Verdict}
-use Rattle.receiver_rules.specs.Session.{startOf}
-use Rattle.receiver_rules.specs.Request.{requestOf}
-use Rattle.receiver_rules.specs.Time.{timeOf}
+use Rattle.receiver_rules.specs.Session.{receiverStartOf}
+use Rattle.receiver_rules.specs.Request.{receiverRequestOf}
+use Rattle.receiver_rules.specs.Time.{receiverTimeOf}
 use Rattle.receiver_state.specs.declared.session.Receiver.{Receiver}
 use Rattle.receiver_state.specs.declared.session.Outcome.{Outcome}
 use Rattle.receiver_state.specs.declared.session.Started.the-variants.{Made}
@@ -64,12 +64,12 @@ inOrder (block ∷ taken) = inOrder taken ++ block
 -- What a request leaves of the accepted blocks.
 abbrev pub takenAfter : Receiver → List ℕ → Outcome → List (List ℕ) → List (List ℕ)
 takenAfter r request outcome taken =
-    takenBy (r .phase) (message.requestOf request) (drop dataHead request) (numberOf (outcome .answer)) (outcome .state .phase) taken
+    takenBy (r .phase) (message.parsedRequestOf request) (drop dataHead request) (receiverNumberOf (outcome .answer)) (outcome .session .phase) taken
 
 pub data Reached : Receiver → List ℕ → List (List ℕ) → Type 0 where
-  starts : (limit resends : ℕ) (identity : Identity) (capacity : ℕ) (r : Receiver) (image : List ℕ) → startOf limit resends identity capacity ≡ Made r → Reached r image []
+  starts : (limit resends : ℕ) (identity : Identity) (capacity : ℕ) (r : Receiver) (image : List ℕ) → receiverStartOf limit resends identity capacity ≡ Made r → Reached r image []
   asks : {r : Receiver} {image : List ℕ} {taken : List (List ℕ)} → Reached r image taken → (request : List ℕ) (readiness : ℕ) (verdict : Verdict) (out : List ℕ)
-      → Reached (requestOf r image request readiness verdict out .outcome .state) (requestOf r image request readiness verdict out .image)
-      (takenAfter r request (requestOf r image request readiness verdict out .outcome) taken)
+      → Reached (receiverRequestOf r image request readiness verdict out .outcome .session) (receiverRequestOf r image request readiness verdict out .image)
+      (takenAfter r request (receiverRequestOf r image request readiness verdict out .outcome) taken)
   passes : {r : Receiver} {image : List ℕ} {taken : List (List ℕ)} → Reached r image taken → (elapsed : ℕ) (out : List ℕ)
-      → Reached (timeOf r elapsed out .answer .state) image (forgets (timeOf r elapsed out .answer .state .phase) taken)
+      → Reached (receiverTimeOf r elapsed out .answer .session) image (forgets (receiverTimeOf r elapsed out .answer .session .phase) taken)

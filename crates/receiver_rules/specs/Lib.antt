@@ -1,6 +1,6 @@
 pub mod Range
 pub mod Decide
-pub mod Pass
+pub mod Tick
 pub mod Session
 pub mod Respond
 pub mod Request

@@ -4,22 +4,22 @@ use mathlib.Core.List.{List}
 use lib.Dec.{ltb, eqb}
 use lib.ListN.{length, drop}
 use Rattle.basis.specs.Pick.{pick}
-use Rattle.lent.specs.Led.{led}
+use Rattle.lent.specs.Led.{writtenInto}
 use Rattle.image.specs.Blocks.{putBlockOf}
 use Rattle.wire.specs.Codes.{longest, dataHead}
 use Rattle.wire.specs.Request as message
 use Rattle.wire.specs.declared.request.Parsed.{Parsed}
 use Rattle.wire.specs.declared.request.Parsed.the-variants as Par
 use Rattle.receiver_rules.specs.Range.{outOfRange}
-use Rattle.receiver_rules.specs.Decide.{decideOf}
+use Rattle.receiver_rules.specs.Decide.{receiverDecideOf}
 use Rattle.receiver_state.specs.declared.verdict.Verdict.{Verdict}
 use Rattle.receiver_state.specs.declared.answer.Answer.{Answer}
 use Rattle.receiver_state.specs.declared.answer.Answer.the-variants.{Malformed, OutOfRange, BufferShort, ImageLength}
 use Rattle.receiver_state.specs.declared.step.Store.{Store}
 use Rattle.receiver_state.specs.declared.step.Store.the-variants.{Nowhere, At}
 use Rattle.receiver_state.specs.declared.step.Step.{Step}
-use Rattle.receiver_rules.specs.Session.{ends, moved}
-use Rattle.receiver_rules.specs.Respond.{bytesOf}
+use Rattle.receiver_rules.specs.Session.{receiverReturns, receiverMoved}
+use Rattle.receiver_rules.specs.Respond.{receiverBytesOf}
 use Rattle.receiver_state.specs.declared.session.Receiver.{Receiver}
 use Rattle.receiver_state.specs.declared.session.Outcome.{Outcome}
 
@@ -33,37 +33,37 @@ abbrev pub effect : Outcome → List ℕ → List ℕ → Effect
 effect outcome image out = record { outcome = outcome; image = image; out = out }
 
 -- Kept: nothing changes.
-abbrev pub kept : Receiver → Answer → List ℕ → List ℕ → Effect
-kept r answer image out = effect (ends r answer 0) image out
+abbrev pub requestKept : Receiver → Answer → List ℕ → List ℕ → Effect
+requestKept r answer image out = effect (receiverReturns r answer 0) image out
 
 -- The block is the part of the request from its fifth byte.
-unfoldable pub imageOf : Store → List ℕ → List ℕ → List ℕ
-imageOf Nowhere image request = image
-imageOf (At number) image request = putBlockOf image number (drop dataHead request) .memory
+unfoldable pub imageAfter : Store → List ℕ → List ℕ → List ℕ
+imageAfter Nowhere image request = image
+imageAfter (At number) image request = putBlockOf image number (drop dataHead request) .memory
 
 -- A request whose block is put somewhere has one.
-abbrev pub Long : Store → List ℕ → Type 0
-Long Nowhere request = Unit
-Long (At number) request = dataHead ≤ length request
+abbrev pub HasBlock : Store → List ℕ → Type 0
+HasBlock Nowhere request = Unit
+HasBlock (At number) request = dataHead ≤ length request
 
 -- A well-formed request sets silence and resends to zero.
-abbrev pub doneOf : Receiver → Step → List ℕ → List ℕ → List ℕ → Effect
-doneOf r step image request out =
-    effect (ends (moved r (step .phase) 0 0) (step .answer) (length (bytesOf r (step .answer))))
-    (imageOf (step .store) image request)
-    (led (bytesOf r (step .answer)) out)
+abbrev pub requestDone : Receiver → Step → List ℕ → List ℕ → List ℕ → Effect
+requestDone r step image request out =
+    effect (receiverReturns (receiverMoved r (step .phase) 0 0) (step .answer) (length (receiverBytesOf r (step .answer))))
+    (imageAfter (step .store) image request)
+    (writtenInto (receiverBytesOf r (step .answer)) out)
 
 -- 20, and then what the request asks for
-unfoldable pub readOf : Receiver → Parsed → List ℕ → List ℕ → ℕ → Verdict → List ℕ → Effect
-readOf r Par.Malformed image request readiness verdict out = kept r Malformed image out
-readOf r (Par.Valid valid) image request readiness verdict out =
-    doneOf r (decideOf (r .phase) valid (r .capacity) readiness verdict) image request out
+unfoldable pub requestReadOf : Receiver → Parsed → List ℕ → List ℕ → ℕ → Verdict → List ℕ → Effect
+requestReadOf r Par.Malformed image request readiness verdict out = requestKept r Malformed image out
+requestReadOf r (Par.Valid valid) image request readiness verdict out =
+    requestDone r (receiverDecideOf (r .phase) valid (r .capacity) readiness verdict) image request out
 
 -- 28, 27, 26, 20, and then what the request asks for
-unfoldable pub requestOf : Receiver → List ℕ → List ℕ → ℕ → Verdict → List ℕ → Effect
-requestOf r image request readiness verdict out =
+unfoldable pub receiverRequestOf : Receiver → List ℕ → List ℕ → ℕ → Verdict → List ℕ → Effect
+receiverRequestOf r image request readiness verdict out =
     pick (eqb (length image) (r .capacity))
-    (pick (ltb (length out) longest) (kept r BufferShort image out)
-    (pick (outOfRange readiness verdict) (kept r OutOfRange image out)
-    (readOf r (message.requestOf request) image request readiness verdict out)))
-    (kept r ImageLength image out)
+    (pick (ltb (length out) longest) (requestKept r BufferShort image out)
+    (pick (outOfRange readiness verdict) (requestKept r OutOfRange image out)
+    (requestReadOf r (message.parsedRequestOf request) image request readiness verdict out)))
+    (requestKept r ImageLength image out)

@@ -12,5 +12,5 @@ unfoldable pub replyBytes : Reply → List ℕ
 replyBytes Nothing = []
 replyBytes (Sends response) = responseBytes response
 
-abbrev pub bytesOf : Receiver → Answer → List ℕ
-bytesOf r answer = replyBytes (replyOf (r .identity) (r .capacity) answer)
+abbrev pub receiverBytesOf : Receiver → Answer → List ℕ
+receiverBytesOf r answer = replyBytes (replyOf (r .identity) (r .capacity) answer)

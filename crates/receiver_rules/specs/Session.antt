@@ -15,22 +15,22 @@ use Rattle.receiver_state.specs.declared.session.Outcome.{Outcome}
 use Rattle.receiver_state.specs.declared.session.Started.{Started}
 use Rattle.receiver_state.specs.declared.session.Started.the-variants.{Made, Refused}
 
-unfoldable pub freshOf : Checked → Identity → ℕ → Started
-freshOf (Che.Made settings) identity capacity =
+unfoldable pub receiverFreshOf : Checked → Identity → ℕ → Started
+receiverFreshOf (Che.Made settings) identity capacity =
     Made (record { settings = settings; identity = identity; capacity = capacity; phase = Idle; silence = 0; resends = 0 })
-freshOf Che.Refused identity capacity = Refused
+receiverFreshOf Che.Refused identity capacity = Refused
 
 -- Capacity is the lent image memory's length; above 1,048,575: 29; 0 is allowed (01, Sizes and numbers).
-unfoldable pub startOf : ℕ → ℕ → Identity → ℕ → Started
-startOf limit resends identity capacity =
-    pick (ltb imageSizeMost capacity) Refused (freshOf (settingsOf limit resends) identity capacity)
+unfoldable pub receiverStartOf : ℕ → ℕ → Identity → ℕ → Started
+receiverStartOf limit resends identity capacity =
+    pick (ltb imageSizeMost capacity) Refused (receiverFreshOf (settingsOf limit resends) identity capacity)
 
-abbrev pub ends : Receiver → Answer → ℕ → Outcome
-ends r answer written = record { state = r; answer = answer; written = written }
+abbrev pub receiverReturns : Receiver → Answer → ℕ → Outcome
+receiverReturns r answer written = record { session = r; answer = answer; written = written }
 
 -- The session with another phase, silence and count of resends.
-abbrev pub moved : Receiver → Phase → ℕ → ℕ → Receiver
-moved r phase silence resends = record {
+abbrev pub receiverMoved : Receiver → Phase → ℕ → ℕ → Receiver
+receiverMoved r phase silence resends = record {
   settings = r .settings;
   identity = r .identity;
   capacity = r .capacity;

@@ -10,7 +10,7 @@ use Rattle.receiver_state.specs.declared.session.Receiver.{Receiver}
 use Rattle.receiver_state.specs.declared.sum.Summed.{Summed}
 use Rattle.receiver_state.specs.declared.sum.Summed.the-variants.{Sum, ImageLength}
 
-unfoldable pub sumOf : Receiver → List ℕ → Summed
-sumOf r image =
+unfoldable pub receiverSumOf : Receiver → List ℕ → Summed
+receiverSumOf r image =
     pick (eqb (length image) (r .capacity)) (Sum (sums.sumOf (take (acceptedOf (r .phase) .bytes) image)))
     ImageLength

@@ -5,24 +5,24 @@ use lib.Dec.{ltb}
 use lib.ListN.{length}
 use Rattle.basis.specs.Pick.{pick}
 use Rattle.basis.specs.Left.{Left, left}
-use Rattle.lent.specs.Led.{led}
+use Rattle.lent.specs.Led.{writtenInto}
 use Rattle.wire.specs.Codes.{longest}
-use Rattle.receiver_rules.specs.Pass.{passOf}
+use Rattle.receiver_rules.specs.Tick.{receiverTickOf}
 use Rattle.receiver_state.specs.declared.answer.Answer.the-variants.{BufferShort}
 use Rattle.receiver_state.specs.declared.step.Tick.{Tick}
-use Rattle.receiver_rules.specs.Session.{ends, moved}
-use Rattle.receiver_rules.specs.Respond.{bytesOf}
+use Rattle.receiver_rules.specs.Session.{receiverReturns, receiverMoved}
+use Rattle.receiver_rules.specs.Respond.{receiverBytesOf}
 use Rattle.receiver_state.specs.declared.session.Receiver.{Receiver}
 use Rattle.receiver_state.specs.declared.session.Outcome.{Outcome}
 
-abbrev pub tickedOf : Receiver → Tick → List ℕ → Left Outcome
-tickedOf r tick out =
-    left (ends (moved r (tick .phase) (tick .silence) (tick .resends)) (tick .answer) (length (bytesOf r (tick .answer))))
-    (led (bytesOf r (tick .answer)) out)
+abbrev pub receiverTickedOf : Receiver → Tick → List ℕ → Left Outcome
+receiverTickedOf r tick out =
+    left (receiverReturns (receiverMoved r (tick .phase) (tick .silence) (tick .resends)) (tick .answer) (length (receiverBytesOf r (tick .answer))))
+    (writtenInto (receiverBytesOf r (tick .answer)) out)
 
-unfoldable pub spendOf : Receiver → ℕ → List ℕ → Left Outcome
-spendOf r elapsed out = tickedOf r (passOf (r .phase) (r .silence) elapsed (r .resends) (r .settings)) out
+unfoldable pub receiverSpendOf : Receiver → ℕ → List ℕ → Left Outcome
+receiverSpendOf r elapsed out = receiverTickedOf r (receiverTickOf (r .phase) (r .silence) elapsed (r .resends) (r .settings)) out
 
 -- 27, and then what time does
-unfoldable pub timeOf : Receiver → ℕ → List ℕ → Left Outcome
-timeOf r elapsed out = pick (ltb (length out) longest) (left (ends r BufferShort 0) out) (spendOf r elapsed out)
+unfoldable pub receiverTimeOf : Receiver → ℕ → List ℕ → Left Outcome
+receiverTimeOf r elapsed out = pick (ltb (length out) longest) (left (receiverReturns r BufferShort 0) out) (receiverSpendOf r elapsed out)

@@ -5,8 +5,8 @@ use mathlib.Core.Path.{_≡_, refl}
 use mathlib.Core.List.{[], _∷_, map}
 use Rattle.wire.specs.declared.response.Identity.{Identity}
 use Rattle.wire.specs.declared.response.Response.the-variants as Res
-use Rattle.receiver_state.specs.Phase.{nothing, acceptedOf}
-use Rattle.receiver_state.specs.Answer.{numberOf, replyOf, identified, initiated, receipt, validated}
+use Rattle.receiver_state.specs.Phase.{nothingAccepted, acceptedOf}
+use Rattle.receiver_state.specs.Answer.{receiverNumberOf, replyOf, identified, initiated, receipt, validated}
 use Rattle.receiver_state.specs.declared.answer.Answer.{Answer}
 use Rattle.receiver_state.specs.declared.answer.Answer.the-variants.{Identified, Offered, Asking, Closed, Success, Later, Aborted, Passed, Malformed, UnexpectedInitiate, UnexpectedData, UnexpectedValidate, Unexpected, NotDue, PassesCapacity, WrongFile, VerdictBad, OutOfRange, BufferShort, ImageLength}
 use Rattle.receiver_state.specs.declared.answer.Reply.{Reply}
@@ -22,7 +22,7 @@ use Rattle.receiver_state.specs.declared.sum.Summed.the-variants as Summ
 
 module _ (identity : Identity) (capacity : ℕ) where
   abbrev row : Answer → ℕ × Reply
-  row a = (numberOf a, replyOf identity capacity a)
+  row a = (receiverNumberOf a, replyOf identity capacity a)
 
   -- 0: taken
   pub taken-rows : (wait number : ℕ) →
@@ -91,16 +91,16 @@ module _ (identity : Identity) (capacity : ℕ) where
   not-ok-unable ImageLength = tt
 
 -- Going to Idle sets accepted to zero, and with nothing accepted INITIATE starts (01, The receiver's phases).
-pub nothing-zero : (nothing .blocks ≡ 0) × (nothing .bytes ≡ 0)
+pub nothing-zero : (nothingAccepted .blocks ≡ 0) × (nothingAccepted .bytes ≡ 0)
 nothing-zero = (refl, refl)
 
 -- The counts of blocks and bytes accepted are kept in Await and Good too.
-pub accepted-rows : (p : Progress) (a : Accepted) → map acceptedOf (Idle ∷ Transfer p ∷ Await a ∷ Good a ∷ []) ≡ nothing ∷ p .accepted ∷ a ∷ a ∷ []
+pub accepted-rows : (p : Progress) (a : Accepted) → map acceptedOf (Idle ∷ Transfer p ∷ Await a ∷ Good a ∷ []) ≡ nothingAccepted ∷ p .accepted ∷ a ∷ a ∷ []
 accepted-rows p a = refl
 
 -- 29, and 28 of a sum
-pub started-rows : (r : Receiver) → map start.numberOf (Made r ∷ Refused ∷ []) ≡ 0 ∷ 29 ∷ []
+pub started-rows : (r : Receiver) → map start.receiverStartNumberOf (Made r ∷ Refused ∷ []) ≡ 0 ∷ 29 ∷ []
 started-rows r = refl
 
-pub summed-rows : (s : ℕ) → map sum.numberOf (Summed.Sum s ∷ Summed.ImageLength ∷ []) ≡ 0 ∷ 28 ∷ []
+pub summed-rows : (s : ℕ) → map sum.imageSumNumberOf (Summed.Sum s ∷ Summed.ImageLength ∷ []) ≡ 0 ∷ 28 ∷ []
 summed-rows s = refl

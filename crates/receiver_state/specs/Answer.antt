@@ -12,27 +12,27 @@ use Rattle.receiver_state.specs.declared.answer.Answer.the-variants.{Ide
 use Rattle.receiver_state.specs.declared.answer.Reply.{Reply}
 use Rattle.receiver_state.specs.declared.answer.Reply.the-variants.{Nothing, Sends}
 
-abbrev pub numberOf : Answer → ℕ
-numberOf Identified = 0
-numberOf (Offered wait) = 0
-numberOf (Asking wait number) = 0
-numberOf (Closed number) = 0
-numberOf Success = 0
-numberOf (Later wait) = 0
-numberOf Aborted = 0
-numberOf Passed = 0
-numberOf Malformed = 20
-numberOf UnexpectedInitiate = 21
-numberOf UnexpectedData = 21
-numberOf UnexpectedValidate = 21
-numberOf Unexpected = 21
-numberOf (NotDue due) = 22
-numberOf PassesCapacity = 23
-numberOf WrongFile = 24
-numberOf VerdictBad = 25
-numberOf OutOfRange = 26
-numberOf BufferShort = 27
-numberOf ImageLength = 28
+abbrev pub receiverNumberOf : Answer → ℕ
+receiverNumberOf Identified = 0
+receiverNumberOf (Offered wait) = 0
+receiverNumberOf (Asking wait number) = 0
+receiverNumberOf (Closed number) = 0
+receiverNumberOf Success = 0
+receiverNumberOf (Later wait) = 0
+receiverNumberOf Aborted = 0
+receiverNumberOf Passed = 0
+receiverNumberOf Malformed = 20
+receiverNumberOf UnexpectedInitiate = 21
+receiverNumberOf UnexpectedData = 21
+receiverNumberOf UnexpectedValidate = 21
+receiverNumberOf Unexpected = 21
+receiverNumberOf (NotDue due) = 22
+receiverNumberOf PassesCapacity = 23
+receiverNumberOf WrongFile = 24
+receiverNumberOf VerdictBad = 25
+receiverNumberOf OutOfRange = 26
+receiverNumberOf BufferShort = 27
+receiverNumberOf ImageLength = 28
 
 -- 001 T5-18, T5-20, T5-22, T5-24
 unfoldable pub identified : Identity → Reply

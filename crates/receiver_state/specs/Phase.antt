@@ -8,12 +8,12 @@ use Rattle.receiver_state.specs.declared.phase.Phase.the-variants.{Idle,
 abbrev pub accepts : ℕ → ℕ → Accepted
 accepts blocks bytes = record { blocks = blocks; bytes = bytes }
 
-abbrev pub nothing : Accepted
-nothing = accepts 0 0
+abbrev pub nothingAccepted : Accepted
+nothingAccepted = accepts 0 0
 
 -- Going to Idle sets accepted to zero.
 abbrev pub acceptedOf : Phase → Accepted
-acceptedOf Idle = nothing
+acceptedOf Idle = nothingAccepted
 acceptedOf (Transfer p) = p .accepted
 acceptedOf (Await a) = a
 acceptedOf (Good a) = a

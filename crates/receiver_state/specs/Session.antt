@@ -3,6 +3,6 @@ use Prim.Native.Nat.{ℕ}
 use Rattle.receiver_state.specs.declared.session.Started.{Started}
 use Rattle.receiver_state.specs.declared.session.Started.the-variants.{Made, Refused}
 
-abbrev pub numberOf : Started → ℕ
-numberOf (Made r) = 0
-numberOf Refused = 29
+abbrev pub receiverStartNumberOf : Started → ℕ
+receiverStartNumberOf (Made r) = 0
+receiverStartNumberOf Refused = 29

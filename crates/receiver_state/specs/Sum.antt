@@ -3,6 +3,6 @@ use Prim.Native.Nat.{ℕ}
 use Rattle.receiver_state.specs.declared.sum.Summed.{Summed}
 use Rattle.receiver_state.specs.declared.sum.Summed.the-variants.{Sum, ImageLength}
 
-abbrev pub numberOf : Summed → ℕ
-numberOf (Sum s) = 0
-numberOf ImageLength = 28
+abbrev pub imageSumNumberOf : Summed → ℕ
+imageSumNumberOf (Sum s) = 0
+imageSumNumberOf ImageLength = 28

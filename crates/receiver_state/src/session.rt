@@ -21,7 +21,7 @@ pub enum Started {
 
 // What a request and a time call answer: the session as it then stands, and how many bytes of the output buffer were written.
 pub struct Outcome {
-    pub state: Receiver,
+    pub session: Receiver,
     pub answer: Answer,
     pub written: usize,
 }

@@ -9,8 +9,8 @@ use lib.Dec.{eqb, ltb, leb}
 use lib.ListN.{length}
 use Rattle.basis.specs.Pick.{pick-all}
 use Rattle.basis.specs.Bytes.{byteAt}
-use Rattle.recording.specs.Reading.{controlAt, changeAt, whole, nextOf}
-use Rattle.recording.specs.Writing.{bytesOf}
+use Rattle.recording.specs.Reading.{controlAt, changeAt, whole, nextRecordOf}
+use Rattle.recording.specs.Writing.{recordBytesOf}
 use Rattle.recording.specs.declared.record.Record.{Record}
 use Rattle.recording.specs.declared.record.Record.the-variants.{Control, Success, Failure}
 use Rattle.recording.specs.declared.reader.Read.{Read}
@@ -38,8 +38,8 @@ pub next-all : (P : Read → Type 0) (s : List ℕ) (at : ℕ)
     → (byteAt s at ≡ 2 → at + 4 ≤ length s → P (Found (changeAt s (at + 1)) (at + 4)))
     → (byteAt s at ≡ 3 → at + 2 ≤ length s → P (Found (Success (byteAt s (at + 1))) (at + 2)))
     → (byteAt s at ≡ 4 → at + 1 ≤ length s → P (Found Failure (at + 1)))
-    → P (nextOf s at)
-unfolding nextOf
+    → P (nextRecordOf s at)
+unfolding nextRecordOf
 next-all P s at end cut unknown control change success failure =
     pick-all P (leb (length s) at) _ _ (λ t. end (leb-true (length s) at t))
     (λ t. let h = leb-false (length s) at t in
@@ -59,16 +59,16 @@ next-all P s at end cut unknown control change success failure =
 
 -- A record that is found is one byte long at least, ends within the recording, and the place behind it is past its own bytes.
 abbrev pub Past : List ℕ → ℕ → Read → Type 0
-Past s at (Found r next) = (next ≡ at + length (bytesOf r)) × (at < next) × (next ≤ length s)
+Past s at (Found r next) = (next ≡ at + length (recordBytesOf r)) × (at < next) × (next ≤ length s)
 Past s at (Ended e) = Unit
 
-pub next-past : (s : List ℕ) (at : ℕ) → Past s at (nextOf s at)
-unfolding bytesOf
+pub next-past : (s : List ℕ) (at : ℕ) → Past s at (nextRecordOf s at)
+unfolding recordBytesOf
 next-past s at =
     next-all (Past s at) s at (λ _. tt) (λ _ _. tt) (λ _ _. tt)
     (λ _ h. (refl, omega arith, h)) (λ _ h. (refl, omega arith, h)) (λ _ h. (refl, omega arith, h)) (λ _ h. (refl, omega arith, h))
 
-pub found-past : (s : List ℕ) (at : ℕ) (r : Record) (next : ℕ) → nextOf s at ≡ Found r next → Past s at (Found r next)
+pub found-past : (s : List ℕ) (at : ℕ) (r : Record) (next : ℕ) → nextRecordOf s at ≡ Found r next → Past s at (Found r next)
 found-past s at r next e = subst (Past s at) e (next-past s at)
 
 -- What is left of a recording that is whole is nothing, and of a cut record at most 8 bytes: the longest has 9.
@@ -78,7 +78,7 @@ Short s at (Ended Whole) = length s - at ≤ 0
 Short s at (Ended Cut) = length s - at ≤ 8
 Short s at (Ended UnknownKind) = Unit
 
-pub next-short : (s : List ℕ) (at : ℕ) → Short s at (nextOf s at)
+pub next-short : (s : List ℕ) (at : ℕ) → Short s at (nextRecordOf s at)
 next-short s at =
     next-all (Short s at) s at (λ h. omega arith) (λ h k. omega arith) (λ _ _. tt)
     (λ _ _. tt) (λ _ _. tt) (λ _ _. tt) (λ _ _. tt)

@@ -11,7 +11,7 @@ use lib.ListN.{length, drop, length-drop, length-append, List·getD-append}
 use lib.Seq.{getD-drop}
 use Rattle.basis.specs.Pick.{pick}
 use Rattle.basis.specs.Bytes.{byteAt}
-use Rattle.recording.specs.Reading.{controlAt, changeAt, nextOf}
+use Rattle.recording.specs.Reading.{controlAt, changeAt, nextRecordOf}
 use Rattle.recording.proofs.Cases.{next-all}
 use Rattle.recording.proofs.ByKind.{kind-1, kind-2, kind-3, kind-4, kind-unknown}
 use Rattle.recording.specs.declared.record.Record.{Record}
@@ -67,8 +67,8 @@ module _ (s : List ℕ) (at : ℕ) where
   change-moved : changeAt (drop at s) 1 ≡ changeAt s (at + 1)
   change-moved = rw (byte-moved 1, further 1 1, further 1 2)
 
-  pub next-drop : nextOf s at ≡ moved at (nextOf (drop at s) 0)
-  unfolding nextOf rows
+  pub next-drop : nextRecordOf s at ≡ moved at (nextRecordOf (drop at s) 0)
+  unfolding nextRecordOf rows
   next-drop =
       let first : byteAt (drop at s) 0 ≡ byteAt s at = byte-moved 0 ∙ ap (byteAt s) (add-zero at) in
       let left : length (drop at s) - 0 ≡ length s - at = sub-zero (length (drop at s)) ∙ length-drop at s in
@@ -80,15 +80,15 @@ module _ (s : List ℕ) (at : ℕ) where
 -- A record that is found is found there whatever follows, and an unknown kind stays unknown.
 module _ (s t : List ℕ) (at : ℕ) where
   Stays : Read → Type 0
-  Stays (Found r next) = nextOf (s ++ t) at ≡ Found r next
+  Stays (Found r next) = nextRecordOf (s ++ t) at ≡ Found r next
   Stays (Ended Whole) = Unit
   Stays (Ended Cut) = Unit
-  Stays (Ended UnknownKind) = nextOf (s ++ t) at ≡ Ended UnknownKind
+  Stays (Ended UnknownKind) = nextRecordOf (s ++ t) at ≡ Ended UnknownKind
 
   same : (i : ℕ) → i < length s → byteAt (s ++ t) i ≡ byteAt s i
   same i h = List·getD-append s t 0 i h
 
-  next-stays : Stays (nextOf s at)
+  next-stays : Stays (nextRecordOf s at)
   unfolding Stays
   next-stays = next-all Stays s at (λ _. tt) (λ _ _. tt)
       (λ h k. kind-unknown (s ++ t) at (simp length-append (omega arith)) (rw (same at h) k))
@@ -108,10 +108,10 @@ module _ (s t : List ℕ) (at : ℕ) where
       (λ k h. kind-3 (s ++ t) at (same at (omega arith) ∙ k) (simp length-append (omega arith)) ∙ rw (same (at + 1) (omega arith)))
       (λ k h. kind-4 (s ++ t) at (same at (omega arith) ∙ k) (simp length-append (omega arith)))
 
-  pub found-stays : (r : Record) (next : ℕ) → nextOf s at ≡ Found r next → nextOf (s ++ t) at ≡ Found r next
+  pub found-stays : (r : Record) (next : ℕ) → nextRecordOf s at ≡ Found r next → nextRecordOf (s ++ t) at ≡ Found r next
   unfolding Stays
   found-stays r next e = subst Stays e next-stays
 
-  pub unknown-stays : nextOf s at ≡ Ended UnknownKind → nextOf (s ++ t) at ≡ Ended UnknownKind
+  pub unknown-stays : nextRecordOf s at ≡ Ended UnknownKind → nextRecordOf (s ++ t) at ≡ Ended UnknownKind
   unfolding Stays
   unknown-stays e = subst Stays e next-stays

@@ -7,8 +7,8 @@ use lib.ListN.{length, drop}
 use lib.Seq.{drop-append-seam, drop-drop, getD-drop}
 use Rattle.basis.specs.Lists.{spell, spelled}
 use Rattle.basis.specs.Bytes.{byteAt, Bytes}
-use Rattle.recording.specs.Reading.{nextOf, pairOf}
-use Rattle.recording.specs.Writing.{bytesOf}
+use Rattle.recording.specs.Reading.{nextRecordOf, pairOf}
+use Rattle.recording.specs.Writing.{recordBytesOf}
 use Rattle.recording.proofs.ByKind.{kind-1, kind-2, kind-3, kind-4}
 use Rattle.recording.proofs.Moved.{moved, next-drop}
 use Rattle.recording.proofs.Cases.{next-all}
@@ -21,29 +21,29 @@ use Rattle.recording.specs.declared.reader.Read.the-variants.{Found, End
 halves : (reason : ℕ) → pairOf (reason % 256) (reason / 256) ≡ reason
 halves reason = omega arith
 
-pub read-back : (r : Record) (behind : List ℕ) → nextOf (bytesOf r ++ behind) 0 ≡ Found r (length (bytesOf r))
-unfolding bytesOf
-read-back (Control c) behind = kind-1 (bytesOf (Control c) ++ behind) 0 refl (omega arith)
-read-back (Change connector reason) behind = kind-2 (bytesOf (Change connector reason) ++ behind) 0 refl (omega arith) ∙ rw (halves reason)
-read-back (Success n) behind = kind-3 (bytesOf (Success n) ++ behind) 0 refl (omega arith)
-read-back Failure behind = kind-4 (bytesOf Failure ++ behind) 0 refl (omega arith)
+pub read-back : (r : Record) (behind : List ℕ) → nextRecordOf (recordBytesOf r ++ behind) 0 ≡ Found r (length (recordBytesOf r))
+unfolding recordBytesOf
+read-back (Control c) behind = kind-1 (recordBytesOf (Control c) ++ behind) 0 refl (omega arith)
+read-back (Change connector reason) behind = kind-2 (recordBytesOf (Change connector reason) ++ behind) 0 refl (omega arith) ∙ rw (halves reason)
+read-back (Success n) behind = kind-3 (recordBytesOf (Success n) ++ behind) 0 refl (omega arith)
+read-back Failure behind = kind-4 (recordBytesOf Failure ++ behind) 0 refl (omega arith)
 
 -- At any place.
 pub written-reads : (before : List ℕ) (r : Record) (behind : List ℕ)
-    → nextOf (before ++ (bytesOf r ++ behind)) (length before) ≡ Found r (length before + length (bytesOf r))
+    → nextRecordOf (before ++ (recordBytesOf r ++ behind)) (length before) ≡ Found r (length before + length (recordBytesOf r))
 written-reads before r behind =
-    next-drop (before ++ (bytesOf r ++ behind)) (length before)
-    ∙ ap (λ (s : List ℕ). moved (length before) (nextOf s 0)) (drop-append-seam before (bytesOf r ++ behind))
+    next-drop (before ++ (recordBytesOf r ++ behind)) (length before)
+    ∙ ap (λ (s : List ℕ). moved (length before) (nextRecordOf s 0)) (drop-append-seam before (recordBytesOf r ++ behind))
     ∙ ap (moved (length before)) (read-back r behind)
 
 -- A record's bytes are consumed exactly: from its place on stand its own bytes, and then what is behind it.
 abbrev pub Consumes : List ℕ → ℕ → Read → Type 0
-Consumes s at (Found r next) = drop at s ≡ bytesOf r ++ drop next s
+Consumes s at (Found r next) = drop at s ≡ recordBytesOf r ++ drop next s
 Consumes s at (Ended e) = Unit
 
 -- Read at the start, where every place is a number.
-first : (s : List ℕ) → Bytes s → Consumes s 0 (nextOf s 0)
-unfolding bytesOf spell
+first : (s : List ℕ) → Bytes s → Consumes s 0 (nextRecordOf s 0)
+unfolding recordBytesOf spell
 first s b =
     next-all (Consumes s 0) s 0 (λ _. tt) (λ _ _. tt) (λ _ _. tt)
     (λ k h. spelled 0 9 s 0 9 refl h ∙ rw k)
@@ -53,11 +53,11 @@ first s b =
     (λ k h. spelled 0 2 s 0 2 refl h ∙ rw k)
     (λ k h. spelled 0 1 s 0 1 refl h ∙ rw k)
 
-pub consumed : (s : List ℕ) (at : ℕ) → Bytes s → Consumes s at (nextOf s at)
+pub consumed : (s : List ℕ) (at : ℕ) → Bytes s → Consumes s at (nextRecordOf s at)
 consumed s at b =
     subst (Consumes s at) (sym (next-drop s at))
-    (onward (nextOf (drop at s) 0) (first (drop at s) (λ i. rw (getD-drop at s i 0) (b (at + i)))))
+    (onward (nextRecordOf (drop at s) 0) (first (drop at s) (λ i. rw (getD-drop at s i 0) (b (at + i)))))
   where
     onward : (x : Read) → Consumes (drop at s) 0 x → Consumes s at (moved at x)
-    onward (Found r next) e = e ∙ ap (λ (l : List ℕ). bytesOf r ++ l) (drop-drop next at s)
+    onward (Found r next) e = e ∙ ap (λ (l : List ℕ). recordBytesOf r ++ l) (drop-drop next at s)
     onward (Ended ending) e = tt

@@ -2,13 +2,13 @@
 use Prim.Native.Nat.{_≤_}
 use native.Mathlib.Omega.{arith}
 use lib.ListN.{length}
-use Rattle.recording.specs.Writing.{bytesOf, roomLeast}
+use Rattle.recording.specs.Writing.{recordBytesOf, roomLeast}
 use Rattle.recording.specs.declared.record.Record.{Record}
 use Rattle.recording.specs.declared.record.Record.the-variants.{Control, Change, Success, Failure}
 
 -- A kind at least, and never more than the writer asks room for.
-pub record-sized : (r : Record) → (1 ≤ length (bytesOf r)) × (length (bytesOf r) ≤ roomLeast)
-unfolding bytesOf
+pub record-sized : (r : Record) → (1 ≤ length (recordBytesOf r)) × (length (recordBytesOf r) ≤ roomLeast)
+unfolding recordBytesOf
 record-sized (Control c) = (omega arith, omega arith)
 record-sized (Change connector reason) = (omega arith, omega arith)
 record-sized (Success n) = (omega arith, omega arith)

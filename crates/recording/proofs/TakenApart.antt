@@ -6,8 +6,8 @@ use native.Mathlib.Nat.{le-refl}
 use native.Mathlib.Omega.{arith}
 use lib.ListN.{length, drop, length-drop}
 use lib.Seq.{drop-append-seam, drop-drop, getD-drop}
-use Rattle.recording.specs.Reading.{nextOf}
-use Rattle.recording.specs.Writing.{bytesOf}
+use Rattle.recording.specs.Reading.{nextRecordOf}
+use Rattle.recording.specs.Writing.{recordBytesOf}
 use Rattle.recording.specs.Apart.{Apart, apart, onward, turns, apartOf, writtenOf}
 use Rattle.recording.proofs.ByKind.{nothing-there}
 use Rattle.recording.proofs.Moved.{moved, next-drop}
@@ -30,18 +30,18 @@ unfolding turns
 enough zero zero s a b = refl
 enough zero (suc k) s a b = sym (ap (onward (turns k) s) (nothing-there s 0 a))
 enough (suc j) zero s a b = ap (onward (turns j) s) (nothing-there s 0 b)
-enough (suc j) (suc k) s a b = rest-same (turns j) (turns k) s (nextOf s 0) (next-past s 0) (λ t h. enough j k t (omega arith) (omega arith))
+enough (suc j) (suc k) s a b = rest-same (turns j) (turns k) s (nextRecordOf s 0) (next-past s 0) (λ t h. enough j k t (omega arith) (omega arith))
 
 -- Taken apart is: the record at the start, and then the rest taken apart.
-pub apart-step : (s : List ℕ) → apartOf s ≡ onward apartOf s (nextOf s 0)
+pub apart-step : (s : List ℕ) → apartOf s ≡ onward apartOf s (nextRecordOf s 0)
 unfolding apartOf turns
 apart-step s =
     enough (length s) (suc (length s)) s (le-refl (length s)) (omega arith)
-    ∙ rest-same (turns (length s)) apartOf s (nextOf s 0) (next-past s 0) (λ t h. enough (length s) (length t) t (omega arith) (le-refl (length t)))
+    ∙ rest-same (turns (length s)) apartOf s (nextRecordOf s 0) (next-past s 0) (λ t h. enough (length s) (length t) t (omega arith) (le-refl (length t)))
 
 -- And so from every place on.
-pub apart-at : (s : List ℕ) (at : ℕ) → apartOf (drop at s) ≡ onward apartOf s (nextOf s at)
-apart-at s at = apart-step (drop at s) ∙ further (nextOf (drop at s) 0) ∙ ap (onward apartOf s) (sym (next-drop s at))
+pub apart-at : (s : List ℕ) (at : ℕ) → apartOf (drop at s) ≡ onward apartOf s (nextRecordOf s at)
+apart-at s at = apart-step (drop at s) ∙ further (nextRecordOf (drop at s) 0) ∙ ap (onward apartOf s) (sym (next-drop s at))
   where
     further : (x : Read) → onward apartOf (drop at s) x ≡ onward apartOf s (moved at x)
     further (Found r next) = rw (drop-drop next at s)
@@ -51,10 +51,10 @@ apart-at s at = apart-step (drop at s) ∙ further (nextOf (drop at s) 0) ∙ ap
 pub apart-written : (rs : List Record) (rest : List ℕ) → apartOf (writtenOf rs ++ rest) ≡ apart (rs ++ apartOf rest .records) (apartOf rest .ending)
 apart-written [] rest = refl
 apart-written (r ∷ rs) rest =
-    ap apartOf (append-assoc (bytesOf r) (writtenOf rs) rest)
-    ∙ apart-step (bytesOf r ++ (writtenOf rs ++ rest))
-    ∙ ap (onward apartOf (bytesOf r ++ (writtenOf rs ++ rest))) (read-back r (writtenOf rs ++ rest))
-    ∙ rw (drop-append-seam (bytesOf r) (writtenOf rs ++ rest), apart-written rs rest)
+    ap apartOf (append-assoc (recordBytesOf r) (writtenOf rs) rest)
+    ∙ apart-step (recordBytesOf r ++ (writtenOf rs ++ rest))
+    ∙ ap (onward apartOf (recordBytesOf r ++ (writtenOf rs ++ rest))) (read-back r (writtenOf rs ++ rest))
+    ∙ rw (drop-append-seam (recordBytesOf r) (writtenOf rs ++ rest), apart-written rs rest)
 
 pub written-apart : (rs : List Record) → apartOf (writtenOf rs) ≡ apart rs Whole
 unfolding apartOf turns
@@ -82,17 +82,17 @@ one-way rs rs′ rest rest′ b b′ e =
 pub record Rebuilt (s : List ℕ) (a : Apart) : Type 0 where
   pub rest : List ℕ
   pub whole : s ≡ writtenOf (a .records) ++ rest
-  pub ends : nextOf rest 0 ≡ Ended (a .ending)
+  pub ends : nextRecordOf rest 0 ≡ Ended (a .ending)
 
 -- The first record has been read, and the rest is rebuilt.
 again : (bytes : ℕ) → ((t : List ℕ) → length t ≤ bytes → Bytes t → Rebuilt t (apartOf t))
-    → (s : List ℕ) → length s ≤ suc bytes → Bytes s → (x : Read) → nextOf s 0 ≡ x → Past s 0 x → Consumes s 0 x → Rebuilt s (onward apartOf s x)
+    → (s : List ℕ) → length s ≤ suc bytes → Bytes s → (x : Read) → nextRecordOf s 0 ≡ x → Past s 0 x → Consumes s 0 x → Rebuilt s (onward apartOf s x)
 again bytes ih s h b (Ended ending) e past eats = record { rest = s; whole = refl; ends = e }
 again bytes ih s h b (Found r next) e past eats =
     let t = ih (drop next s) (simp length-drop (omega (arith, past))) (λ i. rw (getD-drop next s i 0) (b (next + i))) in
     record {
       rest = t .rest;
-      whole = eats ∙ ap (λ (l : List ℕ). bytesOf r ++ l) (t .whole) ∙ sym (append-assoc (bytesOf r) (writtenOf (apartOf (drop next s) .records)) (t .rest));
+      whole = eats ∙ ap (λ (l : List ℕ). recordBytesOf r ++ l) (t .whole) ∙ sym (append-assoc (recordBytesOf r) (writtenOf (apartOf (drop next s) .records)) (t .rest));
       ends = t .ends;
     }
 
@@ -100,7 +100,7 @@ rebuild : (bytes : ℕ) (s : List ℕ) → length s ≤ bytes → Bytes s → Re
 rebuild zero s h b =
     let e = nothing-there s 0 h in
     subst (Rebuilt s) (sym (apart-step s ∙ ap (onward apartOf s) e)) (record { rest = s; whole = refl; ends = e })
-rebuild (suc bytes) s h b = subst (Rebuilt s) (sym (apart-step s)) (again bytes (rebuild bytes) s h b (nextOf s 0) refl (next-past s 0) (consumed s 0 b))
+rebuild (suc bytes) s h b = subst (Rebuilt s) (sym (apart-step s)) (again bytes (rebuild bytes) s h b (nextRecordOf s 0) refl (next-past s 0) (consumed s 0 b))
 
 pub rebuilt : (s : List ℕ) → Bytes s → Rebuilt s (apartOf s)
 rebuilt s b = rebuild (length s) s (le-refl (length s)) b

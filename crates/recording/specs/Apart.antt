@@ -2,8 +2,8 @@
 use Prim.Native.Nat.{ℕ, zero, suc}
 use mathlib.Core.List.{List, [], _∷_, _++_}
 use lib.ListN.{length, drop}
-use Rattle.recording.specs.Reading.{nextOf}
-use Rattle.recording.specs.Writing.{bytesOf}
+use Rattle.recording.specs.Reading.{nextRecordOf}
+use Rattle.recording.specs.Writing.{recordBytesOf}
 use Rattle.recording.specs.declared.record.Record.{Record}
 use Rattle.recording.specs.declared.reader.Read.{Read}
 use Rattle.recording.specs.declared.reader.Read.the-variants.{Found, Ended}
@@ -25,7 +25,7 @@ onward rest s (Ended ending) = apart [] ending
 -- A record has at least one byte, so that as many turns as there are bytes are enough.
 unfoldable pub turns : ℕ → List ℕ → Apart
 turns zero s = apart [] Whole
-turns (suc left) s = onward (turns left) s (nextOf s 0)
+turns (suc left) s = onward (turns left) s (nextRecordOf s 0)
 
 unfoldable pub apartOf : List ℕ → Apart
 apartOf s = turns (length s) s
@@ -33,4 +33,4 @@ apartOf s = turns (length s) s
 -- Records written one behind the other.
 abbrev pub writtenOf : List Record → List ℕ
 writtenOf [] = []
-writtenOf (r ∷ rs) = bytesOf r ++ writtenOf rs
+writtenOf (r ∷ rs) = recordBytesOf r ++ writtenOf rs

@@ -49,8 +49,8 @@ abbrev pub successFrom : List ℕ → ℕ → Read
 successFrom s at = whole s at 2 (Success (byteAt s (at + 1)))
 
 -- 4: port failure, 0 bytes.
-unfoldable pub nextOf : List ℕ → ℕ → Read
-nextOf s at =
+unfoldable pub nextRecordOf : List ℕ → ℕ → Read
+nextRecordOf s at =
     pick (leb (length s) at) (Ended Whole)
     (pick (eqb (byteAt s at) 1) (controlFrom s at)
     (pick (eqb (byteAt s at) 2) (changeFrom s at)

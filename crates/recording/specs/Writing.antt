@@ -5,7 +5,7 @@ use lib.ListN.{length, replicate}
 use lib.Dec.{ltb}
 use Rattle.basis.specs.Pick.{pick}
 use Rattle.basis.specs.Left.{Left, left}
-use Rattle.lent.specs.Led.{led}
+use Rattle.lent.specs.Led.{writtenInto}
 use Rattle.recording.specs.Record.{controlBytes}
 use Rattle.recording.specs.declared.record.ControlBytes.{ControlBytes}
 use Rattle.recording.specs.declared.record.Record.{Record}
@@ -17,11 +17,11 @@ use Rattle.recording.specs.declared.writer.Nine.{Nine}
 abbrev pub controlRecord : ControlBytes → List ℕ
 controlRecord c = 1 ∷ controlBytes c
 
-unfoldable pub bytesOf : Record → List ℕ
-bytesOf (Control c) = controlRecord c
-bytesOf (Change connector reason) = 2 ∷ connector ∷ reason % 256 ∷ reason / 256 ∷ []
-bytesOf (Success length) = 3 ∷ length ∷ []
-bytesOf Failure = 4 ∷ []
+unfoldable pub recordBytesOf : Record → List ℕ
+recordBytesOf (Control c) = controlRecord c
+recordBytesOf (Change connector reason) = 2 ∷ connector ∷ reason % 256 ∷ reason / 256 ∷ []
+recordBytesOf (Success length) = 3 ∷ length ∷ []
+recordBytesOf Failure = 4 ∷ []
 
 -- The longest record.
 abbrev pub roomLeast : ℕ
@@ -32,11 +32,11 @@ unfoldable pub inNine : List ℕ → Nine
 inNine bytes = record { bytes = bytes ++ replicate (roomLeast - length bytes) 0; len = length bytes }
 
 -- 27 under 9 bytes, whatever the record, and the buffer is kept; else the record's own bytes, and nothing else, are written.
-unfoldable pub writeOf : Record → List ℕ → Left Written
-writeOf r out =
+unfoldable pub recordWriteOf : Record → List ℕ → Left Written
+recordWriteOf r out =
     pick (ltb (length out) roomLeast) (left TooShort out)
-    (left (Whole (length (bytesOf r))) (led (bytesOf r) out))
+    (left (Whole (length (recordBytesOf r))) (writtenInto (recordBytesOf r) out))
 
-abbrev pub numberOf : Written → ℕ
-numberOf (Whole n) = 0
-numberOf TooShort = 27
+abbrev pub recordWriteNumberOf : Written → ℕ
+recordWriteNumberOf (Whole n) = 0
+recordWriteNumberOf TooShort = 27

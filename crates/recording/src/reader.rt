@@ -5,7 +5,7 @@ use crate::record::Record;
 ghost use mathlib.Core.Path.{_≡_};
 ghost use Prim.Native.Nat.{_+_, _<_, _≤_};
 ghost use lib.ListN.{length};
-ghost use Rattle.recording.specs.Reading.{nextOf, controlFrom, changeFrom, successFrom, controlAt, changeAt, pairOf};
+ghost use Rattle.recording.specs.Reading.{nextRecordOf, controlFrom, changeFrom, successFrom, controlAt, changeAt, pairOf};
 
 pub enum Read {
     // The record after it stands at `next`.
@@ -23,7 +23,7 @@ pub enum Ending {
 }
 
 pub fn next(recording: &[u8], at: usize) -> Read
-    ensures { λ r. ⌜ r ≡ nextOf (now (recording .entry)) at ⌝ }
+    ensures { λ r. ⌜ r ≡ nextRecordOf (now (recording .entry)) at ⌝ }
 {
     if recording.len() <= at {
         return Read::Ended(Ending::Whole);

@@ -4,7 +4,7 @@ use crate::record::ControlBytes;
 use crate::record::Record;
 ghost use mathlib.Core.Path.{_≡_};
 ghost use Rattle.basis.specs.Left.{left};
-ghost use Rattle.recording.specs.Writing.{bytesOf, controlRecord, inNine, writeOf, numberOf};
+ghost use Rattle.recording.specs.Writing.{recordBytesOf, controlRecord, inNine, recordWriteOf, recordWriteNumberOf};
 
 // 01, Numbers we answer: below 9 bytes no record is written, also one that would fit.
 const ROOM_LEAST: usize = kinds::CONTROL_SIZE;
@@ -18,7 +18,7 @@ pub enum Written {
 impl Written {
     // 01, Numbers we answer.
     pub fn number(self) -> u8
-        ensures { λ r. ⌜ r ≡ numberOf self ⌝ }
+        ensures { λ r. ⌜ r ≡ recordWriteNumberOf self ⌝ }
     {
         match self {
             Written::Whole(_) => 0,
@@ -33,7 +33,7 @@ struct Nine {
 }
 
 pub fn write(record: Record, out: &mut [u8]) -> Written
-    ensures { λ r. ⌜ left r (now (out .exit)) ≡ writeOf «record» (now (out .entry)) ⌝ }
+    ensures { λ r. ⌜ left r (now (out .exit)) ≡ recordWriteOf «record» (now (out .entry)) ⌝ }
 {
     if out.len() < ROOM_LEAST {
         return Written::TooShort;
@@ -47,7 +47,7 @@ pub fn write(record: Record, out: &mut [u8]) -> Written
 
 // The record's bytes, and zeros behind them.
 fn nine_of(record: Record) -> Nine
-    ensures { λ r. ⌜ r ≡ inNine (bytesOf «record») ⌝ }
+    ensures { λ r. ⌜ r ≡ inNine (recordBytesOf «record») ⌝ }
 {
     match record {
         Record::Control(control) => control_nine(control),

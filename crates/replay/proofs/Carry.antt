@@ -8,11 +8,11 @@ use native.Mathlib.Omega.{arith}
 use lib.ListN.{length, take, drop, length-drop}
 use lib.Seq.{take-add, length-take-le, take-at, take-nil}
 use Rattle.basis.specs.Left.{left}
-use Rattle.lent.specs.Led.{led}
+use Rattle.lent.specs.Led.{writtenInto}
 use Rattle.printing.specs.Line.{longest}
 use Rattle.recording.specs.Apart.{apartOf}
 use Rattle.recording.specs.declared.reader.Ending.the-variants.{Whole, Cut, UnknownKind}
-use Rattle.mailbox_state.specs.declared.state.Mailbox.{Mailbox}
+use Rattle.mailbox_state.specs.declared.mailbox.Mailbox.{Mailbox}
 use Rattle.playing.specs.Part.{partOf, playOf}
 use Rattle.playing.proofs.PartLaws.{play-state, play-taken, play-stop, NotFull, never-full, Leaves, part-leaves}
 use Rattle.playing.specs.declared.part.Stop.{Stop}
@@ -42,13 +42,13 @@ module _ (mailbox : Mailbox) (part out : List ℕ) (r : Played) (now : List ℕ)
       rw (play-taken mailbox part out r now e) (few (length part - q .taken) (q .stop) (part-leaves mailbox (length out) part) (never-full mailbox (length out) part room) (ap unknownOf (sym (play-stop mailbox part out r now e)) ∙ u))
 
   pub carries : (before after : List ℕ) (filled : ℕ) → part ≡ take filled before → filled ≤ length before
-      → after ≡ led (take (filled - r .taken) (drop (r .taken) before)) before
-      → Carried mailbox part (length out) (record { state = r .state; held = filled - r .taken; stop = r .stop; runs = true }) after
+      → after ≡ writtenInto (take (filled - r .taken) (drop (r .taken) before)) before
+      → Carried mailbox part (length out) (record { mailbox = r .mailbox; held = filled - r .taken; stop = r .stop; runs = true }) after
   carries before after filled p h a =
       let s = take (filled - r .taken) (drop (r .taken) before) in
       let l : length s ≡ filled - r .taken = length-take-le (filled - r .taken) (drop (r .taken) before) (simp length-drop (omega arith)) in
       record {
-        state = play-state mailbox part out r now e;
+        mailbox = play-state mailbox part out r now e;
         stop = play-stop mailbox part out r now e;
         rest = ap (take (filled - r .taken)) a ∙ take-at s (drop (length s) before) (filled - r .taken) l
             ∙ sym (drop-of-take (r .taken) filled before) ∙ ap (drop (r .taken)) (sym p) ∙ ap (λ (k : ℕ). drop k part) (play-taken mailbox part out r now e);

@@ -6,7 +6,7 @@ use native.Mathlib.Nat.{zero-add}
 use native.Mathlib.Omega.{arith}
 use lib.ListN.{length, getD, take, drop, set, length-drop, length-set}
 use lib.Seq.{paste, paste-zero, paste-suc, length-take-le, getD-append-add, getD-drop}
-use Rattle.lent.specs.Led.{led}
+use Rattle.lent.specs.Led.{writtenInto}
 
 -- The first i of them are there, and behind them all is as it was.
 pub record Front (before : List ℕ) (from to : ℕ) (buffer : List ℕ) (i : ℕ) : Type 0 where
@@ -43,7 +43,7 @@ module _ (before : List ℕ) (from to : ℕ) (low : from ≤ to) (high : to ≤ 
         bound = omega arith;
       }
 
-  pub front-ends : (buffer : List ℕ) (i : ℕ) → Front before from to buffer i → to - from ≤ i → buffer ≡ led (take (to - from) (drop from before)) before
+  pub front-ends : (buffer : List ℕ) (i : ℕ) → Front before from to buffer i → to - from ≤ i → buffer ≡ writtenInto (take (to - from) (drop from before)) before
   front-ends buffer i f h =
       let s = drop from before in
       let long : length s ≡ length before - from = length-drop from before in

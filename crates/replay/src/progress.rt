@@ -2,7 +2,7 @@
 use crate::buffer;
 use crate::say;
 use libc::STDIN_FILENO;
-use mailbox_state::state::Mailbox;
+use mailbox_state::mailbox::Mailbox;
 use playing::Stop;
 use recording::Ending;
 ghost use mathlib.Core.Bool.{true, false};
@@ -14,7 +14,7 @@ ghost use Rattle.replay.specs.Held.{begins, heldMost, Carried, Onward, u
 
 // The first `held` bytes of the buffer are not played yet, and `stop` says why.
 pub(crate) struct Progress {
-    pub state: Mailbox,
+    pub mailbox: Mailbox,
     pub held: usize,
     pub stop: Stop,
     pub runs: bool,
@@ -24,9 +24,9 @@ impl Progress {
     pub(crate) fn begin() -> Progress
         ensures { λ r. ⌜ r ≡ begins ⌝ }
     {
-        let state = playing::begin();
+        let mailbox = playing::begin();
         Progress {
-            state,
+            mailbox,
             held: 0,
             stop: Stop::Ended(Ending::Whole),
             runs: true,
@@ -39,7 +39,7 @@ impl Progress {
         requires { ⌜ heldMost < length (now buffer) ⌝ }
         requires { ⌜ longest * length (now buffer) ≤ length (now out) ⌝ }
         ensures { λ r. ⌜ r .held ≤ heldMost ⌝ }
-        ensures { λ r. ⌜ (r .runs ≡ true → Onward (self .state) (take (self .held) (now (buffer .entry))) (length (now (out .entry))) r (now (buffer .exit))) ⌝ }
+        ensures { λ r. ⌜ (r .runs ≡ true → Onward (self .mailbox) (take (self .held) (now (buffer .entry))) (length (now (out .entry))) r (now (buffer .exit))) ⌝ }
     {
         let held = self.held;
         let got = libc::read(STDIN_FILENO, &mut buffer[held..]);
@@ -59,20 +59,20 @@ impl Progress {
         requires { ⌜ filled ≤ length (now buffer) ⌝ }
         requires { ⌜ longest * length (now buffer) ≤ length (now out) ⌝ }
         ensures { λ r. ⌜ r .held ≤ heldMost ⌝ }
-        ensures { λ r. ⌜ (r .runs ≡ true → Carried (self .state) (take filled (now (buffer .entry))) (length (now (out .entry))) r (now (buffer .exit))) ⌝ }
+        ensures { λ r. ⌜ (r .runs ≡ true → Carried (self .mailbox) (take filled (now (buffer .entry))) (length (now (out .entry))) r (now (buffer .exit))) ⌝ }
     {
-        let state = self.state;
-        let played = playing::play(state, &buffer[..filled], out);
+        let mailbox = self.mailbox;
+        let played = playing::play(mailbox, &buffer[..filled], out);
         let written = played.written;
         let taken = played.taken;
         let stop = played.stop;
-        let state = played.state;
+        let mailbox = played.mailbox;
         if !say::text(&out[..written]) {
             return self.ended();
         }
         buffer::to_front(buffer, taken, filled);
         let next = Progress {
-            state,
+            mailbox,
             held: filled - taken,
             stop,
             runs: true,

@@ -10,9 +10,9 @@ use Rattle.script.specs.Words.{firstOf, wordAt}
 use Rattle.script.specs.Digits.{digitOf as digitIn}
 use Rattle.script.specs.Decimal.{addedOf, stepOf}
 use Rattle.script.specs.Fields.{nextOf, endsOf}
-use Rattle.saying.specs.Said.{said, nothing, notUnderstood, printedOf, textOf, characterOf, linesOf}
+use Rattle.saying.specs.Said.{said, emptyText, notUnderstood, printedOf, textOf, characterOf, linesOf}
 use Rattle.saying.specs.Hex.{byteOf, wideOf, shownOf}
-use Rattle.saying.specs.Decimal.{frontOf, numberOf, rangeOf}
+use Rattle.saying.specs.Decimal.{frontOf, numberTextOf, rangeOf}
 use Rattle.saying.specs.Look.{namesOf, lookOf}
 use Rattle.saying.specs.declared.said.Said.{Said}
 
@@ -26,7 +26,7 @@ pub record Cases : Type 0 where
   pub wide : printedOf (wideOf blank 0x80000000) ≡ 0x20 ∷ 0x38 ∷ 0x30 ∷ 0x30 ∷ 0x30 ∷ 0x30 ∷ 0x30 ∷ 0x30 ∷ 0x30 ∷ []
   pub bytes : printedOf (shownOf blank (0x01 ∷ 0xFF ∷ [])) ≡ 0x20 ∷ 0x30 ∷ 0x31 ∷ 0x20 ∷ 0x46 ∷ 0x46 ∷ []
   pub no-bytes : printedOf (shownOf blank []) ≡ 0x20 ∷ 0x2D ∷ []
-  pub number : printedOf (numberOf blank 300) ≡ 0x20 ∷ 0x33 ∷ 0x30 ∷ 0x30 ∷ []
+  pub number : printedOf (numberTextOf blank 300) ≡ 0x20 ∷ 0x33 ∷ 0x30 ∷ 0x30 ∷ []
   pub one : printedOf (rangeOf blank 3 3) ≡ 0x20 ∷ 0x33 ∷ []
   pub two : printedOf (rangeOf blank 3 5) ≡ 0x20 ∷ 0x33 ∷ 0x2D ∷ 0x35 ∷ []
   pub lines : printedOf (linesOf blank (0x61 ∷ 0x0A ∷ 0x62 ∷ [])) ≡ 0x20 ∷ 0x61 ∷ 0x2F ∷ 0x62 ∷ []
@@ -35,5 +35,5 @@ pub record Cases : Type 0 where
   pub no-lines : printedOf (linesOf blank []) ≡ 0x20 ∷ 0x2D ∷ []
 
 pub cases : Cases
-unfolding pick nothing textOf characterOf linesOf shownOf frontOf rangeOf digitOf indexOf indexAfter firstOf wordAt digitIn addedOf stepOf nextOf endsOf namesOf lookOf
+unfolding pick emptyText textOf characterOf linesOf shownOf frontOf rangeOf digitOf indexOf indexAfter firstOf wordAt digitIn addedOf stepOf nextOf endsOf namesOf lookOf
 cases = record { byte = refl; wide = refl; bytes = refl; no-bytes = refl; number = refl; one = refl; two = refl; lines = refl; looked = refl; too-far = refl; no-lines = refl }

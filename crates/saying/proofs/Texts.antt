@@ -13,7 +13,7 @@ use Rattle.lent.specs.Put.{pasted}
 use Rattle.printing.specs.Digits.{figure, behind, numberIn}
 use Rattle.printing.proofs.Digits.{figure-read}
 use Rattle.saying.specs.Said.{said, printedOf, textOf}
-use Rattle.saying.specs.Decimal.{frontOf, decimalOf}
+use Rattle.saying.specs.Decimal.{frontOf, decimalTextOf}
 use Rattle.saying.specs.declared.said.Said.{Said}
 use Rattle.saying.proofs.Decimals.{less-left, digits-all}
 
@@ -36,7 +36,7 @@ front-read (suc k) n cs h = pick-all (λ (l : List ℕ). behind 10 0 l ≡ behin
     (λ _. front-read k (n / 10) (figure (n % 10) ∷ cs) (less-left k (suc k) n (omega arith) h) ∙ last-read n cs)
 
 -- Every number of 64 bits, and none begins with a zero but 0 itself.
-pub decimal-read : (n : ℕ) → n < 2 ^ 64 → numberIn 10 (decimalOf n) ≡ n
+pub decimal-read : (n : ℕ) → n < 2 ^ 64 → numberIn 10 (decimalTextOf n) ≡ n
 decimal-read n h = front-read 19 (n / 10) (figure (n % 10) ∷ []) (omega arith) ∙ last-read n []
 
 first-figure : (k n : ℕ) (cs : List ℕ) → 0 < n → n < 10 ^ k → 0x30 < byteAt (frontOf k n cs) 0
@@ -48,11 +48,11 @@ first-figure (suc k) n cs some h = pick-all (λ (l : List ℕ). 0x30 < byteAt l 
     (λ t. let none = eqb-true (n / 10) 0 t in subst (λ (l : List ℕ). 0x30 < byteAt l 0) (sym (digits-all k (n / 10) (figure (n % 10) ∷ cs) none)) (omega arith))
     (λ t. let more = eqb-false (n / 10) 0 t in first-figure k (n / 10) (figure (n % 10) ∷ cs) (omega arith) (less-left k (suc k) n (omega arith) h)))
 
-pub no-zero-in-front : (n : ℕ) → 0 < n → n < 2 ^ 64 → 0x30 < byteAt (decimalOf n) 0
+pub no-zero-in-front : (n : ℕ) → 0 < n → n < 2 ^ 64 → 0x30 < byteAt (decimalTextOf n) 0
 unfolding frontOf
 no-zero-in-front n some h =
-    subst (λ (l : List ℕ). 0x30 < byteAt l 0) (pick-no (eqb n 0) [] (decimalOf n) (ne-eqb n 0 (λ e. omega arith))) (first-figure 20 n [] some (omega arith))
+    subst (λ (l : List ℕ). 0x30 < byteAt l 0) (pick-no (eqb n 0) [] (decimalTextOf n) (ne-eqb n 0 (λ e. omega arith))) (first-figure 20 n [] some (omega arith))
 
-pub zero-is : decimalOf 0 ≡ 0x30 ∷ []
+pub zero-is : decimalTextOf 0 ≡ 0x30 ∷ []
 unfolding frontOf pick
 zero-is = refl

@@ -3,15 +3,15 @@ use Prim.Native.Nat.{ℕ}
 use mathlib.Core.List.{List}
 use mathlib.Core.Path.{_≡_}
 use Rattle.basis.specs.Only.{only}
-use Rattle.saying.specs.Decimal.{numberOf, rangeOf}
+use Rattle.saying.specs.Decimal.{numberTextOf, rangeOf}
 use Rattle.saying.specs.Hex.{byteOf, wideOf, allOf, shownOf}
 use Rattle.saying.specs.Look.{lookOf}
-use Rattle.saying.specs.Said.{nothing, notUnderstood, textOf, linesOf}
+use Rattle.saying.specs.Said.{emptyText, notUnderstood, textOf, linesOf}
 use Rattle.saying.specs.declared.said.Said.{Said}
 
 pub one-number : (self : Said) (n : ℕ) (r r′ : Said)
-    → r ≡ numberOf self n
-    → r′ ≡ numberOf self n
+    → r ≡ numberTextOf self n
+    → r′ ≡ numberTextOf self n
     → r ≡ r′
 one-number self n r r′ is is′ = only is is′
 
@@ -52,8 +52,8 @@ pub one-look : (words memory : List ℕ) (r r′ : Said)
 one-look words memory r r′ is is′ = only is is′
 
 pub one-nothing : (r r′ : Said)
-    → r ≡ nothing
-    → r′ ≡ nothing
+    → r ≡ emptyText
+    → r′ ≡ emptyText
     → r ≡ r′
 one-nothing r r′ is is′ = only is is′
 

@@ -13,14 +13,14 @@ frontOf zero n behind = behind
 frontOf (suc k) n behind = pick (eqb n 0) behind (frontOf k (n / 10) (figure (n % 10) ∷ behind))
 
 -- A number of 64 bits has at most 20. The last one is there for 0 too.
-abbrev pub decimalOf : ℕ → List ℕ
-decimalOf n = frontOf 19 (n / 10) (figure (n % 10) ∷ [])
+abbrev pub decimalTextOf : ℕ → List ℕ
+decimalTextOf n = frontOf 19 (n / 10) (figure (n % 10) ∷ [])
 
-abbrev pub numberOf : Said → ℕ → Said
-numberOf t n = textOf (textOf t (space ∷ [])) (decimalOf n)
+abbrev pub numberTextOf : Said → ℕ → Said
+numberTextOf t n = textOf (textOf t (space ∷ [])) (decimalTextOf n)
 
 -- One number where both are the same.
 unfoldable pub rangeOf : Said → ℕ → ℕ → Said
 rangeOf t first last =
-    pick (eqb first last) (numberOf t first)
-    (textOf (textOf (numberOf t first) (hyphen ∷ [])) (decimalOf last))
+    pick (eqb first last) (numberTextOf t first)
+    (textOf (textOf (numberTextOf t first) (hyphen ∷ [])) (decimalTextOf last))

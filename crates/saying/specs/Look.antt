@@ -8,7 +8,7 @@ use Rattle.basis.specs.Pick.{pick}
 use Rattle.script.specs.Fields.{before, nextOf, endsOf}
 use Rattle.script.specs.Spelling.{room}
 use Rattle.script.specs.declared.field.Field.{Field}
-use Rattle.saying.specs.Said.{nothing, notUnderstood}
+use Rattle.saying.specs.Said.{emptyText, notUnderstood}
 use Rattle.saying.specs.Hex.{shownOf}
 use Rattle.saying.specs.declared.said.Said.{Said}
 
@@ -30,5 +30,5 @@ namesOf words memory =
 
 unfoldable pub lookOf : List ℕ → List ℕ → Said
 lookOf words memory =
-    pick (namesOf words memory) (shownOf nothing (take (countOf words memory .value) (behindOf words memory)))
+    pick (namesOf words memory) (shownOf emptyText (take (countOf words memory .value) (behindOf words memory)))
     notUnderstood

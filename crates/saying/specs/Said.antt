@@ -17,8 +17,8 @@ said len bytes = record { len = len; bytes = bytes }
 abbrev pub printedOf : Said → List ℕ
 printedOf t = take (t .len) (t .bytes)
 
-unfoldable pub nothing : Said
-nothing = said 0 (replicate room 0)
+unfoldable pub emptyText : Said
+emptyText = said 0 (replicate room 0)
 
 -- A piece that has no room is left out.
 unfoldable pub textOf : Said → List ℕ → Said
@@ -40,7 +40,7 @@ slash = 0x2F
 
 -- " not understood"
 abbrev pub notUnderstood : Said
-notUnderstood = textOf nothing
+notUnderstood = textOf emptyText
     (space ∷ 0x6E ∷ 0x6F ∷ 0x74
     ∷ space ∷ 0x75 ∷ 0x6E ∷ 0x64 ∷ 0x65 ∷ 0x72 ∷ 0x73 ∷ 0x74 ∷ 0x6F ∷ 0x6F ∷ 0x64 ∷ [])
 

@@ -3,14 +3,14 @@ use crate::said::Said;
 ghost use mathlib.Core.Path.{_≡_};
 ghost use lib.ListN.{length, drop};
 ghost use Rattle.saying.specs.Said.{textOf};
-ghost use Rattle.saying.specs.Decimal.{decimalOf, numberOf, rangeOf};
+ghost use Rattle.saying.specs.Decimal.{decimalTextOf, numberTextOf, rangeOf};
 
 // As many as a number of 64 bits has.
 const DIGITS: usize = 20;
 
 impl Said {
     pub fn number(self, n: u64) -> Said
-        ensures { λ r. ⌜ r ≡ numberOf self n ⌝ }
+        ensures { λ r. ⌜ r ≡ numberTextOf self n ⌝ }
     {
         self.text(b" ").decimal(n)
     }
@@ -27,7 +27,7 @@ impl Said {
     }
 
     fn decimal(self, n: u64) -> Said
-        ensures { λ r. ⌜ r ≡ textOf self (decimalOf n) ⌝ }
+        ensures { λ r. ⌜ r ≡ textOf self (decimalTextOf n) ⌝ }
     {
         let mut digits = [0u8; DIGITS];
         let from = spell(n, &mut digits);
@@ -39,7 +39,7 @@ impl Said {
 fn spell(n: u64, out: &mut [u8; DIGITS]) -> usize
     requires { ⌜ length (now out) ≡ 20 ⌝ }
     ensures { λ _. ⌜ length (now (out .exit)) ≡ 20 ⌝ }
-    ensures { λ r. ⌜ drop r (now (out .exit)) ≡ decimalOf n ⌝ }
+    ensures { λ r. ⌜ drop r (now (out .exit)) ≡ decimalTextOf n ⌝ }
 {
     let mut from = DIGITS - 1;
     let mut rest = n / 10;

@@ -1,7 +1,7 @@
 // The text behind a line. Each piece has its space in front.
 use lent::Placed;
 ghost use mathlib.Core.Path.{_≡_};
-ghost use Rattle.saying.specs.Said.{nothing, notUnderstood, textOf, linesOf, characterOf};
+ghost use Rattle.saying.specs.Said.{emptyText, notUnderstood, textOf, linesOf, characterOf};
 
 // More than the longest text, that of a replay: 4,000 bytes of lines and what stands around them.
 const ROOM: usize = 4096;
@@ -14,7 +14,7 @@ pub struct Said {
 
 impl Said {
     pub fn nothing() -> Said
-        ensures { λ r. ⌜ r ≡ nothing ⌝ }
+        ensures { λ r. ⌜ r ≡ emptyText ⌝ }
     {
         Said {
             len: 0,

@@ -6,7 +6,7 @@ use borrow.Author.Tests.{ltb-true, ltb-false, le-ltb}
 use lib.Dec.{ltb}
 use Rattle.basis.specs.Pick.{pick, pick-all}
 use Rattle.silence.specs.Within.{Within}
-use Rattle.silence.specs.Settings.{limitLeast, limitMost, resendsMost, settingsOf, numberOf}
+use Rattle.silence.specs.Settings.{limitLeast, limitMost, resendsMost, settingsOf, settingsNumberOf}
 use Rattle.silence.specs.Expiry.{grownOf, grown}
 use Rattle.silence.specs.declared.Settings.{Settings}
 use Rattle.silence.specs.declared.Checked.{Checked}
@@ -23,10 +23,10 @@ within-made limit resends h =
     let c : resends ≤ resendsMost = omega arith in
     simp (le-ltb limit limitLeast a, le-ltb limitMost limit b, le-ltb resendsMost resends c)
 
-pub outside-29 : (limit resends : ℕ) → (Within limit resends → ⊥) → numberOf (settingsOf limit resends) ≡ 29
+pub outside-29 : (limit resends : ℕ) → (Within limit resends → ⊥) → settingsNumberOf (settingsOf limit resends) ≡ 29
 unfolding settingsOf
 outside-29 limit resends h =
-    let P : Checked → Type 0 = λ x. numberOf x ≡ 29 in
+    let P : Checked → Type 0 = λ x. settingsNumberOf x ≡ 29 in
     pick-all P (ltb limit limitLeast) _ _ (λ _. refl)
     (λ a. pick-all P (ltb limitMost limit) _ _ (λ _. refl)
     (λ b. pick-all P (ltb resendsMost resends) _ _ (λ _. refl)

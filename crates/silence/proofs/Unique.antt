@@ -3,7 +3,7 @@ use Prim.Native.Nat.{ℕ}
 use mathlib.Core.Path.{_≡_}
 use Rattle.basis.specs.Only.{only}
 use Rattle.silence.specs.Expiry.{grownOf}
-use Rattle.silence.specs.Settings.{settingsOf, numberOf}
+use Rattle.silence.specs.Settings.{settingsOf, settingsNumberOf}
 use Rattle.silence.specs.declared.Checked.{Checked}
 use Rattle.silence.specs.declared.Grown.{Grown}
 use Rattle.silence.specs.declared.Settings.{Settings}
@@ -15,8 +15,8 @@ pub one-new : (limit resends : ℕ) (r r′ : Checked)
 one-new limit resends r r′ is is′ = only is is′
 
 pub one-number : (self : Checked) (r r′ : ℕ)
-    → r ≡ numberOf self
-    → r′ ≡ numberOf self
+    → r ≡ settingsNumberOf self
+    → r′ ≡ settingsNumberOf self
     → r ≡ r′
 one-number self r r′ is is′ = only is is′
 

@@ -22,6 +22,6 @@ settingsOf limit resends =
     (Made (record { limit = limit; resends = resends }))))
 
 -- 01, Numbers we answer
-abbrev pub numberOf : Checked → ℕ
-numberOf (Made s) = 0
-numberOf Refused = 29
+abbrev pub settingsNumberOf : Checked → ℕ
+settingsNumberOf (Made s) = 0
+settingsNumberOf Refused = 29

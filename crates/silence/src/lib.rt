@@ -1,6 +1,6 @@
 // The silence limit and the resend count of a session, and the one expiry rule of both ends (01, Sizes and numbers).
 ghost use mathlib.Core.Path.{_≡_};
-ghost use Rattle.silence.specs.Settings.{settingsOf, numberOf};
+ghost use Rattle.silence.specs.Settings.{settingsOf, settingsNumberOf};
 ghost use Rattle.silence.specs.Expiry.{grownOf};
 
 // The limit in milliseconds, and how often a message may be sent again (001 T5-30, T5-31, T6-1).
@@ -41,7 +41,7 @@ impl Settings {
 impl Checked {
     // 01, Numbers we answer.
     pub fn number(self) -> u8
-        ensures { λ r. ⌜ r ≡ numberOf self ⌝ }
+        ensures { λ r. ⌜ r ≡ settingsNumberOf self ⌝ }
     {
         match self {
             Checked::Made(_) => 0,

@@ -14,7 +14,7 @@ ghost use mathlib.Core.Bool.{true};
 ghost use mathlib.Core.Path.{_≡_};
 ghost use Prim.Native.Nat.{_≤_};
 ghost use Rattle.indoor_state.specs.declared.phase.Phase.the-variants.{Done};
-ghost use Rattle.lossy_session.specs.Judge.{doneOf};
+ghost use Rattle.lossy_session.specs.Judge.{reportsDone};
 ghost use Rattle.lossy_ends.specs.Over.{Same};
 
 // A start was refused with this number (01, Numbers we answer).
@@ -29,7 +29,7 @@ pub(crate) fn refused(number: u8) {
 
 // It stops at a line that could not be written.
 pub(crate) fn ended(ended: Ended, file: &[u8], image: &[u8])
-    requires { ⌜ (ended .ends .indoor .stand .phase ≡ Done → Same (now file) (ended .ends) (now image)) ⌝ }
+    requires { ⌜ (ended .ends .indoor .state .phase ≡ Done → Same (now file) (ended .ends) (now image)) ⌝ }
 {
     let ends = ended.ends;
     let counts = ended.counts;
@@ -49,8 +49,8 @@ pub(crate) fn ended(ended: Ended, file: &[u8], image: &[u8])
 
 // Done is never told of an image that differs.
 fn judge(ends: Ends, file: &[u8], image: &[u8]) -> Judged
-    requires { ⌜ (ends .indoor .stand .phase ≡ Done → Same (now file) ends (now image)) ⌝ }
-    ensures { λ r. ⌜ r .done ≡ doneOf (ends .indoor .stand .phase) ⌝ }
+    requires { ⌜ (ends .indoor .state .phase ≡ Done → Same (now file) ends (now image)) ⌝ }
+    ensures { λ r. ⌜ r .done ≡ reportsDone (ends .indoor .state .phase) ⌝ }
     ensures { λ r. ⌜ (r .same ≡ true → Same (now (file .entry)) ends (now (image .entry))) ⌝ }
     ensures { λ r. ⌜ (Same (now (file .entry)) ends (now (image .entry)) → r .same ≡ true) ⌝ }
     ensures { λ r. ⌜ (r .done ≡ true → r .same ≡ true) ⌝ }

@@ -44,7 +44,7 @@ pub(crate) fn carry(
     down: &mut [u8],
 ) -> Ended
     requires { ⌜ Over (now file) begun (now image) (now up) (now down) ⌝ }
-    ensures { λ r. ⌜ (r .ends .indoor .stand .phase ≡ Done → Same (now (file .entry)) (r .ends) (now (image .exit))) ⌝ }
+    ensures { λ r. ⌜ (r .ends .indoor .state .phase ≡ Done → Same (now (file .entry)) (r .ends) (now (image .exit))) ⌝ }
 {
     let mut ends = begun;
     let mut counts = Counts::first();

@@ -52,8 +52,8 @@ pub(crate) fn roof(receiver: Receiver) -> Phase {
 }
 
 pub(crate) fn indoors(indoor: Indoor) -> Indoors {
-    let stand = indoor.stand;
-    stand.phase
+    let state = indoor.state;
+    state.phase
 }
 
 pub(crate) fn idle(phase: Phase) -> bool {

@@ -88,8 +88,8 @@ fn blocks(words: &[u8], receiver: Receiver, image: &mut [u8], buffer: &mut [u8])
 fn row(receiver: Receiver, count: u16, image: &mut [u8], buffer: &mut [u8]) -> Outcome {
     let mut outcome = block(receiver, image, buffer);
     for _ in 1..count {
-        let state = outcome.state;
-        outcome = block(state, image, buffer);
+        let session = outcome.session;
+        outcome = block(session, image, buffer);
     }
     outcome
 }

@@ -92,8 +92,8 @@ fn blocks(words: &[u8], indoor: Indoor, file: &[u8], buffer: &mut [u8]) -> Calle
 fn row(indoor: Indoor, first: u16, last: u16, file: &[u8], buffer: &mut [u8]) -> Outcome {
     let mut outcome = asked(indoor, first, file, buffer);
     for number in first..last {
-        let state = outcome.state;
-        outcome = asked(state, number + 1, file, buffer);
+        let session = outcome.session;
+        outcome = asked(session, number + 1, file, buffer);
     }
     outcome
 }

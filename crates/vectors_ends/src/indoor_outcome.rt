@@ -9,27 +9,27 @@ use wire::codes;
 
 pub(crate) fn told(outcome: Outcome, buffer: &[u8]) -> Said {
     let answer = outcome.answer;
-    let state = outcome.state;
+    let session = outcome.session;
     let said = Said::nothing().number(indoor_decide::answer_number(answer) as u64);
-    left(said, state, outcome.written, buffer)
+    left(said, session, outcome.written, buffer)
 }
 
 pub(crate) fn start_told(started: Started, buffer: &[u8]) -> Said {
     let said = Said::nothing().number(indoor::started_number(started) as u64);
     match started {
-        Started::Made { state, written } => left(said, state, written, buffer),
+        Started::Made { session, written } => left(said, session, written, buffer),
         _ => said,
     }
 }
 
-fn left(said: Said, state: Indoor, written: usize, buffer: &[u8]) -> Said {
-    let stand = state.stand;
-    let phase = stand.phase;
+fn left(said: Said, session: Indoor, written: usize, buffer: &[u8]) -> Said {
+    let state = session.state;
+    let phase = state.phase;
     let asked = request(said.text(b" :"), script::upto(buffer, written));
     indoor_phase::add(asked.text(b" :"), phase)
         .text(b" :")
-        .number(stand.silence as u64)
-        .number(stand.resends as u64)
+        .number(state.silence as u64)
+        .number(state.resends as u64)
 }
 
 // A block is long: how many bytes it has is said, and whether they are the file's.

@@ -72,8 +72,8 @@ fn after(called: Called, indoors: Indoors, buffer: &[u8]) -> Indoors {
             }
         }
         Called::Ended(outcome) => {
-            let state = outcome.state;
-            let session = Session::Of(state);
+            let session = outcome.session;
+            let session = Session::Of(session);
             Indoors {
                 session,
                 lent,
@@ -88,7 +88,10 @@ fn after(called: Called, indoors: Indoors, buffer: &[u8]) -> Indoors {
 // The session before it ends, also where the new one is refused (29, 46, 27): then there is none.
 fn made(started: Started) -> Session {
     match started {
-        Started::Made { state, written: _ } => Session::Of(state),
+        Started::Made {
+            session,
+            written: _,
+        } => Session::Of(session),
         _ => Session::Nothing,
     }
 }

@@ -8,28 +8,28 @@ use saying::Said;
 
 pub(crate) fn told(outcome: Outcome, buffer: &[u8]) -> Said {
     let answer = outcome.answer;
-    let state = outcome.state;
+    let session = outcome.session;
     let said = Said::nothing()
         .number(receiver_decide::answer_number(answer) as u64)
         .text(b" :")
         .shown(script::upto(buffer, outcome.written));
-    stand(said, state)
+    state(said, session)
 }
 
 pub(crate) fn start_told(started: Started) -> Said {
     let said = Said::nothing().number(receiver::started_number(started) as u64);
     match started {
-        Started::Made(state) => stand(said, state),
+        Started::Made(session) => state(said, session),
         Started::Refused => said,
     }
 }
 
-fn stand(said: Said, state: Receiver) -> Said {
-    let phase = state.phase;
+fn state(said: Said, session: Receiver) -> Said {
+    let phase = session.phase;
     phase::add(said.text(b" :"), phase)
         .text(b" :")
-        .number(state.silence as u64)
-        .number(state.resends as u64)
+        .number(session.silence as u64)
+        .number(session.resends as u64)
 }
 
 pub(crate) fn sum_told(summed: Summed) -> Said {

@@ -115,8 +115,8 @@ fn called(
 fn after(called: Called, outdoors: Outdoors, buffer: &[u8]) -> Outdoors {
     match called {
         Called::Ended(outcome) => {
-            let state = outcome.state;
-            let session = Started::Made(state);
+            let session = outcome.session;
+            let session = Started::Made(session);
             let lent = outdoors.lent;
             Outdoors {
                 session,

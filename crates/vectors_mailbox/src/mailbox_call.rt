@@ -2,7 +2,7 @@
 use crate::mailbox_held::Held;
 use crate::mailbox_outcome;
 use crate::mailbox_word::Step;
-use mailbox_state::state::Outcome;
+use mailbox_state::mailbox::Outcome;
 use saying::Said;
 use script::Field;
 
@@ -32,8 +32,8 @@ fn spelled(reported: bool, words: &[u8], held: Held) -> Held {
 
 fn ended(outcome: Outcome) -> Held {
     let answer = outcome.answer;
-    let state = outcome.state;
-    mailbox_outcome::left(mailbox_decide::answer_number(answer), state)
+    let mailbox = outcome.mailbox;
+    mailbox_outcome::left(mailbox_decide::answer_number(answer), mailbox)
 }
 
 fn failure(words: &[u8], held: Held) -> Held {

@@ -1,6 +1,6 @@
 // The mailbox that lines work on, if there is one, and what is said of the last line (01, The mailbox).
 use mailbox_state::connectors::Connectors;
-use mailbox_state::state::Mailbox;
+use mailbox_state::mailbox::Mailbox;
 use saying::Said;
 
 // No enum can hold the bytes of MESSAGE_IN, so `there` says whether `mailbox` is one that a line made.

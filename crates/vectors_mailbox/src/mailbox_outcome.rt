@@ -1,14 +1,14 @@
 // What a call of the mailbox left: its number, CCI, and the command that runs (01, The mailbox).
 use crate::mailbox_held::Held;
-use mailbox_state::state::Mailbox;
-use mailbox_state::told::Command;
-use mailbox_state::told::Told;
+use mailbox_state::mailbox::Mailbox;
+use mailbox_state::status::Command;
+use mailbox_state::status::CommandStatus;
 use saying::Said;
 
 // The mailbox is told, and held from here on.
 pub(crate) fn left(number: u8, mailbox: Mailbox) -> Held {
-    let stand = mailbox.stand;
-    let told = stand.told;
+    let state = mailbox.state;
+    let status = state.status;
     let cci = mailbox::cci(mailbox);
     let said = Said::nothing()
         .number(number as u64)
@@ -18,13 +18,13 @@ pub(crate) fn left(number: u8, mailbox: Mailbox) -> Held {
     Held {
         there: true,
         mailbox,
-        said: running(said, told),
+        said: running(said, status),
     }
 }
 
-fn running(said: Said, told: Told) -> Said {
-    match told {
-        Told::Busy(command) => fields(said, command),
+fn running(said: Said, status: CommandStatus) -> Said {
+    match status {
+        CommandStatus::Busy(command) => fields(said, command),
         _ => said.text(b" -"),
     }
 }

@@ -9,13 +9,13 @@ pub(crate) fn show(recording: &[u8], at: usize, buffer: &mut [u8]) -> Said {
     match read {
         Read::Ended(ending) => ending::add(Said::nothing(), ending),
         Read::Found { record, next } => {
-            let said = told(record).text(b" :").number(next as u64);
+            let said = status(record).text(b" :").number(next as u64);
             write(said, record, buffer)
         }
     }
 }
 
-fn told(record: Record) -> Said {
+fn status(record: Record) -> Said {
     let said = Said::nothing();
     match record {
         Record::Control(control) => said.text(b" Control").all(&control.bytes()),

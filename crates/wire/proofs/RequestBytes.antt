@@ -13,7 +13,7 @@ use Rattle.wire.specs.Codes.{getFwId, initiate, datum, validate, abort, 
 use Rattle.basis.specs.Bytes.{Bytes, byteAt}
 use Rattle.wire.specs.Numbers.{wordAt}
 use Rattle.wire.specs.Identity.{versionsAt}
-use Rattle.wire.specs.Request.{requestOf, typedOf, bareOf, initiateOf, dataOf}
+use Rattle.wire.specs.Request.{parsedRequestOf, requestOfType, bareIn, initiateIn, dataIn}
 use Rattle.wire.specs.Written.{requestBytes, bareBytes, initiateBytes, headBytes}
 use Rattle.wire.specs.Fields.{BuiltRequest, Sendable, blockIn}
 use Rattle.wire.specs.declared.request.Request.{Request}
@@ -56,20 +56,20 @@ data-same m small v e n =
 
 module _ (m : List ℕ) (small : Bytes m) (h : Headed m) where
   bare-read : (q : Request) (t : ℕ) → byteAt m 1 ≡ t → requestBytes q ++ blockIn m q ≡ bareBytes t ++ [] → BuiltRequest q → Sendable q (blockIn m q)
-      → Told requests (Same m) (bareOf m q)
-  unfolding bareOf
+      → Told requests (Same m) (bareIn m q)
+  unfolding bareIn
   bare-read q t e w b f =
       of-length requests (Same m) m 2 q (λ n. record { there = λ _. w ∙ bare-same m t (h .version) e n; back = λ _. b; fields = f })
 
-  initiate-read : byteAt m 1 ≡ initiate → Told requests (Same m) (initiateOf m)
-  unfolding initiateOf requestBytes
+  initiate-read : byteAt m 1 ≡ initiate → Told requests (Same m) (initiateIn m)
+  unfolding initiateIn requestBytes
   initiate-read e =
       let word = bytes-word m small in
       of-length requests (Same m) m 10 _
       (λ n. record { there = λ _. initiate-same m small (h .version) e n; back = λ _. tt; fields = (refl, (word 2, word 4, word 6, word 8)) })
 
-  data-read : byteAt m 1 ≡ datum → Told requests (Same m) (dataOf m)
-  unfolding dataOf requestBytes
+  data-read : byteAt m 1 ≡ datum → Told requests (Same m) (dataIn m)
+  unfolding dataIn requestBytes
   data-read e =
       pick-all (Told requests (Same m)) (ltb (length m) 4) _ _ (λ _. refused requests (Same m))
       (λ f.
@@ -85,8 +85,8 @@ module _ (m : List ℕ) (small : Bytes m) (h : Headed m) where
       told requests (Same m) NotBuilt
       (record { there = λ b. absurd b; back = λ e. let l : length m ≡ 0 = rw (← e) in omega arith; fields = refl })
 
-  typed-read : Told requests (Same m) (typedOf m (byteAt m 1))
-  unfolding typedOf requestBytes
+  typed-read : Told requests (Same m) (requestOfType m (byteAt m 1))
+  unfolding requestOfType requestBytes
   typed-read =
       let by = of-type requests (Same m) (byteAt m 1) in
       by getFwId _ _ (λ e. bare-read GetFwId getFwId e refl tt refl)
@@ -98,6 +98,6 @@ module _ (m : List ℕ) (small : Bytes m) (h : Headed m) where
       (by dataPause _ _ (λ _. not-built)
       (by vendorSpecific _ _ (λ _. not-built) (refused requests (Same m)))))))))
 
-pub request-same : (m : List ℕ) → Bytes m → (r : Request) → requestOf m ≡ Valid r → Same m r
-unfolding requestOf Told
-request-same m small = with-header requests (Same m) m (typedOf m (byteAt m 1)) (typed-read m small)
+pub request-same : (m : List ℕ) → Bytes m → (r : Request) → parsedRequestOf m ≡ Valid r → Same m r
+unfolding parsedRequestOf Told
+request-same m small = with-header requests (Same m) m (requestOfType m (byteAt m 1)) (typed-read m small)

@@ -12,7 +12,7 @@ use Rattle.wire.specs.Codes.{getFwIdResponse, initiateResponse, dataResp
 use Rattle.basis.specs.Bytes.{Bytes, byteAt}
 use Rattle.wire.specs.Numbers.{wordAt}
 use Rattle.wire.specs.Identity.{cleared, identityIn}
-use Rattle.wire.specs.Response.{responseOf, typedOf, identifiedOf, initiatedOf, receiptOf, validatedOf}
+use Rattle.wire.specs.Response.{parsedResponseOf, responseOfType, identifiedIn, initiatedIn, receiptIn, validatedIn}
 use Rattle.wire.specs.Written.{responseBytes, identifiedBytes, initiatedBytes, receiptBytes, validatedBytes, flagOf}
 use Rattle.wire.specs.Fields.{BuiltResponse, Plain, Answerable, asRead}
 use Rattle.wire.specs.declared.response.Response.{Response}
@@ -130,8 +130,8 @@ module _ (m : List ℕ) (small : Bytes m) (v : byteAt m 0 ≡ 1) where
       told responses (Same m) NotBuilt
       (record { there = λ p. absurd p; back = λ e. let l : length m ≡ 0 = rw (← e) in omega arith; fields = tt; cleared-already = refl })
 
-  typed-read : 2 ≤ length m → Told responses (Same m) (typedOf m (byteAt m 1))
-  unfolding typedOf identifiedOf initiatedOf receiptOf validatedOf
+  typed-read : 2 ≤ length m → Told responses (Same m) (responseOfType m (byteAt m 1))
+  unfolding responseOfType identifiedIn initiatedIn receiptIn validatedIn
   typed-read long =
       let by = of-type responses (Same m) (byteAt m 1) in
       let sized = of-length responses (Same m) m in
@@ -142,12 +142,12 @@ module _ (m : List ℕ) (small : Bytes m) (v : byteAt m 0 ≡ 1) where
       (by dataPauseResponse _ _ (λ _. not-built long)
       (by vendorSpecificResponse _ _ (λ _. not-built long) (refused responses (Same m)))))))
 
-pub response-same : (m : List ℕ) → Bytes m → (r : Response) → responseOf m ≡ Valid r → Same m r
-unfolding responseOf Told
-response-same m small = with-header responses (Same m) m (typedOf m (byteAt m 1)) (λ h. typed-read m small (h .version) (h .long))
+pub response-same : (m : List ℕ) → Bytes m → (r : Response) → parsedResponseOf m ≡ Valid r → Same m r
+unfolding parsedResponseOf Told
+response-same m small = with-header responses (Same m) m (responseOfType m (byteAt m 1)) (λ h. typed-read m small (h .version) (h .long))
 
 -- Reserved bits are ignored: a response that is written anew, without them, is read as it was read with them.
-pub response-again : (m : List ℕ) → Bytes m → (r : Response) → responseOf m ≡ Valid r → BuiltResponse r → responseOf (responseBytes r) ≡ Valid r
+pub response-again : (m : List ℕ) → Bytes m → (r : Response) → parsedResponseOf m ≡ Valid r → BuiltResponse r → parsedResponseOf (responseBytes r) ≡ Valid r
 response-again m small r e b =
     let s = response-same m small r e in
     response-back r b (s .fields) ∙ ap Valid (s .cleared-already)

@@ -23,12 +23,12 @@ use Rattle.wire.specs.declared.response.Response.the-variants as Res
 use Rattle.wire.specs.declared.response.Parsed.the-variants as Told
 use Rattle.wire.proofs.Halves.{word-back, size-back, upper-twice, rest-twice}
 
-initiate-back : (v : Versions) → Words v → request.requestOf (initiateBytes v) ≡ Asked.Valid (Req.Initiate v)
-unfolding request.requestOf headed initiateBytes request.typedOf request.initiateOf pick
+initiate-back : (v : Versions) → Words v → request.parsedRequestOf (initiateBytes v) ≡ Asked.Valid (Req.Initiate v)
+unfolding request.parsedRequestOf headed initiateBytes request.requestOfType request.initiateIn pick
 initiate-back v w = rw (word-back (v .first) (w .0), word-back (v .second) (w .1), word-back (v .third) (w .2), word-back (v .fourth) (w .3))
 
-data-back : (n : ℕ) (b : List ℕ) → n < 65536 → length b ≤ 256 → request.requestOf (headBytes n ++ b) ≡ Asked.Valid (Req.Data n (length b))
-unfolding request.requestOf headed headBytes request.typedOf request.dataOf pick
+data-back : (n : ℕ) (b : List ℕ) → n < 65536 → length b ≤ 256 → request.parsedRequestOf (headBytes n ++ b) ≡ Asked.Valid (Req.Data n (length b))
+unfolding request.parsedRequestOf headed headBytes request.requestOfType request.dataIn pick
 data-back n b h k =
     let shortest : 2 ≤ length (headBytes n ++ b) = omega arith in
     let longest : length (headBytes n ++ b) ≤ 260 = omega arith in
@@ -36,8 +36,8 @@ data-back n b h k =
     let rest : length (headBytes n ++ b) - 4 ≡ length b = omega arith in
     simp (le-ltb _ _ shortest, le-ltb _ _ longest, le-ltb _ _ head, rest, word-back n h)
 
-pub request-back : (r : Request) (block : List ℕ) → BuiltRequest r → Sendable r block → request.requestOf (requestBytes r ++ block) ≡ Asked.Valid r
-unfolding requestBytes bareBytes initiateBytes request.requestOf headed request.typedOf request.bareOf pick
+pub request-back : (r : Request) (block : List ℕ) → BuiltRequest r → Sendable r block → request.parsedRequestOf (requestBytes r ++ block) ≡ Asked.Valid r
+unfolding requestBytes bareBytes initiateBytes request.parsedRequestOf headed request.requestOfType request.bareIn pick
 request-back Req.GetFwId b _ e = rw e
 request-back (Req.Initiate v) b _ h = rw (h .0) (initiate-back v (h .1))
 request-back (Req.Data n size) b _ h = rw (← (h .1)) (data-back n b (h .0) (rw (h .1) (h .2)))
@@ -45,8 +45,8 @@ request-back Req.Validate b _ e = rw e
 request-back Req.Abort b _ e = rw e
 request-back Req.NotBuilt b h _ = absurd h
 
-identity-back : (st : ℕ) (i : Identity) → Answerable (Res.GetFwId st i) → response.responseOf (identifiedBytes st i) ≡ Told.Valid (Res.GetFwId st (cleared i))
-unfolding response.responseOf headed identifiedBytes response.typedOf response.identifiedOf pick
+identity-back : (st : ℕ) (i : Identity) → Answerable (Res.GetFwId st i) → response.parsedResponseOf (identifiedBytes st i) ≡ Told.Valid (Res.GetFwId st (cleared i))
+unfolding response.parsedResponseOf headed identifiedBytes response.responseOfType response.identifiedIn pick
 identity-back st i h =
     let v = i .versions in
     let w = h .2 in
@@ -63,8 +63,8 @@ identity-back st i h =
       rest-twice 32,
     )
 
-pub response-back : (r : Response) → BuiltResponse r → Answerable r → response.responseOf (responseBytes r) ≡ Told.Valid (asRead r)
-unfolding responseBytes initiatedBytes receiptBytes validatedBytes response.responseOf headed response.typedOf response.initiatedOf response.receiptOf response.validatedOf pick
+pub response-back : (r : Response) → BuiltResponse r → Answerable r → response.parsedResponseOf (responseBytes r) ≡ Told.Valid (asRead r)
+unfolding responseBytes initiatedBytes receiptBytes validatedBytes response.parsedResponseOf headed response.responseOfType response.initiatedIn response.receiptIn response.validatedIn pick
 response-back (Res.GetFwId st i) _ h = identity-back st i h
 response-back (Res.Initiate st w size) _ h = rw (size-back size h)
 response-back (Res.Data st w n) _ h = rw (word-back n h)

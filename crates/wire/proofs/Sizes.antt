@@ -9,7 +9,7 @@ use lib.Dec.{ltb}
 use Rattle.basis.specs.Pick.{pick-all}
 use Rattle.wire.specs.Codes.{getFwId, initiate, datum, validate, abort, dataNr, dataPause, vendorSpecific}
 use Rattle.basis.specs.Bytes.{byteAt}
-use Rattle.wire.specs.Request.{requestOf, typedOf, bareOf, initiateOf, dataOf}
+use Rattle.wire.specs.Request.{parsedRequestOf, requestOfType, bareIn, initiateIn, dataIn}
 use Rattle.wire.specs.Fields.{Sized}
 use Rattle.wire.specs.declared.request.Request.{Request}
 use Rattle.wire.specs.declared.request.Request.the-variants.{GetFwId, Validate, Abort, NotBuilt}
@@ -18,8 +18,8 @@ use Rattle.wire.proofs.Walk.{Headed, Told, refused, told, of-length, of
 use Rattle.wire.proofs.RequestBytes.{requests}
 
 module _ (m : List ℕ) where
-  data-sized : Headed m → Told requests (Sized m) (dataOf m)
-  unfolding dataOf
+  data-sized : Headed m → Told requests (Sized m) (dataIn m)
+  unfolding dataIn
   data-sized h =
       pick-all (Told requests (Sized m)) (ltb (length m) 4) _ _ (λ _. refused requests (Sized m))
       (λ f.
@@ -27,8 +27,8 @@ module _ (m : List ℕ) where
       let short = h .short in
       told requests (Sized m) _ (four, length-drop 4 m, omega arith))
 
-  typed-sized : Headed m → Told requests (Sized m) (typedOf m (byteAt m 1))
-  unfolding typedOf bareOf initiateOf
+  typed-sized : Headed m → Told requests (Sized m) (requestOfType m (byteAt m 1))
+  unfolding requestOfType bareIn initiateIn
   typed-sized h =
       let by = of-type requests (Sized m) (byteAt m 1) in
       let bare = of-length requests (Sized m) m 2 in
@@ -42,6 +42,6 @@ module _ (m : List ℕ) where
       (by dataPause _ _ (λ _. known)
       (by vendorSpecific _ _ (λ _. known) (refused requests (Sized m)))))))))
 
-pub request-sized : (m : List ℕ) (r : Request) → requestOf m ≡ Valid r → Sized m r
-unfolding requestOf Told
-request-sized m = with-header requests (Sized m) m (typedOf m (byteAt m 1)) (typed-sized m)
+pub request-sized : (m : List ℕ) (r : Request) → parsedRequestOf m ≡ Valid r → Sized m r
+unfolding parsedRequestOf Told
+request-sized m = with-header requests (Sized m) m (requestOfType m (byteAt m 1)) (typed-sized m)

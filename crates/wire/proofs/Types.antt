@@ -19,49 +19,49 @@ from t n = tabulate (λ u. u) t n
 module _ (m : List ℕ) where
   -- 81h to 87h, FFh
   pub request-types :
-      map (request.typedOf m) (0x81 ∷ 0x82 ∷ 0x83 ∷ 0x84 ∷ 0x85 ∷ 0x86 ∷ 0x87 ∷ 0xFF ∷ [])
-      ≡ request.bareOf m Req.GetFwId
-      ∷ request.initiateOf m
-      ∷ request.dataOf m
+      map (request.requestOfType m) (0x81 ∷ 0x82 ∷ 0x83 ∷ 0x84 ∷ 0x85 ∷ 0x86 ∷ 0x87 ∷ 0xFF ∷ [])
+      ≡ request.bareIn m Req.GetFwId
+      ∷ request.initiateIn m
+      ∷ request.dataIn m
       ∷ Asked.Valid Req.NotBuilt
-      ∷ request.bareOf m Req.Validate
-      ∷ request.bareOf m Req.Abort
+      ∷ request.bareIn m Req.Validate
+      ∷ request.bareIn m Req.Abort
       ∷ Asked.Valid Req.NotBuilt
       ∷ Asked.Valid Req.NotBuilt
       ∷ []
-  unfolding request.typedOf pick
+  unfolding request.requestOfType pick
   request-types = refl
 
   -- 00h to 7Fh are responses' and 80h is reserved; so are 88h to FEh
-  pub request-types-low : map (request.typedOf m) (from 0x00 129) ≡ replicate 129 Asked.Malformed
-  unfolding request.typedOf pick
+  pub request-types-low : map (request.requestOfType m) (from 0x00 129) ≡ replicate 129 Asked.Malformed
+  unfolding request.requestOfType pick
   request-types-low = refl
 
-  pub request-types-high : map (request.typedOf m) (from 0x88 119) ≡ replicate 119 Asked.Malformed
-  unfolding request.typedOf pick
+  pub request-types-high : map (request.requestOfType m) (from 0x88 119) ≡ replicate 119 Asked.Malformed
+  unfolding request.requestOfType pick
   request-types-high = refl
 
   -- 00h to 07h, 04h and 06h being reserved, and 7Fh
   pub response-types :
-      map (response.typedOf m) (0x00 ∷ 0x01 ∷ 0x02 ∷ 0x03 ∷ 0x04 ∷ 0x05 ∷ 0x06 ∷ 0x07 ∷ 0x7F ∷ [])
+      map (response.responseOfType m) (0x00 ∷ 0x01 ∷ 0x02 ∷ 0x03 ∷ 0x04 ∷ 0x05 ∷ 0x06 ∷ 0x07 ∷ 0x7F ∷ [])
       ≡ Told.Malformed
-      ∷ response.identifiedOf m
-      ∷ response.initiatedOf m
-      ∷ response.receiptOf m
+      ∷ response.identifiedIn m
+      ∷ response.initiatedIn m
+      ∷ response.receiptIn m
       ∷ Told.Malformed
-      ∷ response.validatedOf m
+      ∷ response.validatedIn m
       ∷ Told.Malformed
       ∷ Told.Valid Res.NotBuilt
       ∷ Told.Valid Res.NotBuilt
       ∷ []
-  unfolding response.typedOf pick
+  unfolding response.responseOfType pick
   response-types = refl
 
   -- 08h to 7Eh are reserved and 80h to FFh are requests'
-  pub response-types-low : map (response.typedOf m) (from 0x08 119) ≡ replicate 119 Told.Malformed
-  unfolding response.typedOf pick
+  pub response-types-low : map (response.responseOfType m) (from 0x08 119) ≡ replicate 119 Told.Malformed
+  unfolding response.responseOfType pick
   response-types-low = refl
 
-  pub response-types-high : map (response.typedOf m) (from 0x80 128) ≡ replicate 128 Told.Malformed
-  unfolding response.typedOf pick
+  pub response-types-high : map (response.responseOfType m) (from 0x80 128) ≡ replicate 128 Told.Malformed
+  unfolding response.responseOfType pick
   response-types-high = refl

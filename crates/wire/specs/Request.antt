@@ -15,28 +15,28 @@ use Rattle.wire.specs.declared.request.Parsed.{Parsed}
 use Rattle.wire.specs.declared.request.Parsed.the-variants.{Valid, Malformed}
 
 -- 001 T5-4, T5-11, T5-12: a header alone
-unfoldable pub bareOf : List ℕ → Request → Parsed
-bareOf m r = pick (eqb (length m) header) (Valid r) Malformed
+unfoldable pub bareIn : List ℕ → Request → Parsed
+bareIn m r = pick (eqb (length m) header) (Valid r) Malformed
 
 -- 001 T5-6
-unfoldable pub initiateOf : List ℕ → Parsed
-initiateOf m = pick (eqb (length m) initiateLength) (Valid (Initiate (versionsAt m 2))) Malformed
+unfoldable pub initiateIn : List ℕ → Parsed
+initiateIn m = pick (eqb (length m) initiateLength) (Valid (Initiate (versionsAt m 2))) Malformed
 
 -- 001 T5-8
-unfoldable pub dataOf : List ℕ → Parsed
-dataOf m = pick (ltb (length m) dataHead) Malformed (Valid (Data (wordAt m 2) (length m - dataHead)))
+unfoldable pub dataIn : List ℕ → Parsed
+dataIn m = pick (ltb (length m) dataHead) Malformed (Valid (Data (wordAt m 2) (length m - dataHead)))
 
 -- 001 T5-3
-unfoldable pub typedOf : List ℕ → ℕ → Parsed
-typedOf m t =
-    pick (eqb t getFwId) (bareOf m GetFwId)
-    (pick (eqb t initiate) (initiateOf m)
-    (pick (eqb t datum) (dataOf m)
-    (pick (eqb t validate) (bareOf m Validate)
-    (pick (eqb t abort) (bareOf m Abort)
+unfoldable pub requestOfType : List ℕ → ℕ → Parsed
+requestOfType m t =
+    pick (eqb t getFwId) (bareIn m GetFwId)
+    (pick (eqb t initiate) (initiateIn m)
+    (pick (eqb t datum) (dataIn m)
+    (pick (eqb t validate) (bareIn m Validate)
+    (pick (eqb t abort) (bareIn m Abort)
     (pick (eqb t dataNr) (Valid NotBuilt)
     (pick (eqb t dataPause) (Valid NotBuilt)
     (pick (eqb t vendorSpecific) (Valid NotBuilt) Malformed)))))))
 
-unfoldable pub requestOf : List ℕ → Parsed
-requestOf m = pick (headed m) (typedOf m (byteAt m 1)) Malformed
+unfoldable pub parsedRequestOf : List ℕ → Parsed
+parsedRequestOf m = pick (headed m) (requestOfType m (byteAt m 1)) Malformed

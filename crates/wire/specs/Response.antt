@@ -15,30 +15,30 @@ use Rattle.wire.specs.declared.response.Parsed.{Parsed}
 use Rattle.wire.specs.declared.response.Parsed.the-variants.{Valid, Malformed}
 
 -- 001 T5-18
-unfoldable pub identifiedOf : List ℕ → Parsed
-identifiedOf m = pick (eqb (length m) getFwIdResponseLength) (Valid (GetFwId (byteAt m 2) (cleared (identityIn m)))) Malformed
+unfoldable pub identifiedIn : List ℕ → Parsed
+identifiedIn m = pick (eqb (length m) getFwIdResponseLength) (Valid (GetFwId (byteAt m 2) (cleared (identityIn m)))) Malformed
 
 -- 001 T5-20: MaxImageSize is its bits 19:0
-unfoldable pub initiatedOf : List ℕ → Parsed
-initiatedOf m = pick (eqb (length m) initiateResponseLength) (Valid (Initiate (byteAt m 2) (byteAt m 3) (wordAt m 4 + 65536 * (byteAt m 6 % 16)))) Malformed
+unfoldable pub initiatedIn : List ℕ → Parsed
+initiatedIn m = pick (eqb (length m) initiateResponseLength) (Valid (Initiate (byteAt m 2) (byteAt m 3) (wordAt m 4 + 65536 * (byteAt m 6 % 16)))) Malformed
 
 -- 001 T5-22: NumDataNR is not looked at
-unfoldable pub receiptOf : List ℕ → Parsed
-receiptOf m = pick (eqb (length m) dataResponseLength) (Valid (Data (byteAt m 2) (byteAt m 3) (wordAt m 5))) Malformed
+unfoldable pub receiptIn : List ℕ → Parsed
+receiptIn m = pick (eqb (length m) dataResponseLength) (Valid (Data (byteAt m 2) (byteAt m 3) (wordAt m 5))) Malformed
 
 -- 001 T5-24: success is bit 0 of Flags
-unfoldable pub validatedOf : List ℕ → Parsed
-validatedOf m = pick (eqb (length m) validateResponseLength) (Valid (Validate (byteAt m 2) (byteAt m 3) (eqb (byteAt m 4 % 2) 1))) Malformed
+unfoldable pub validatedIn : List ℕ → Parsed
+validatedIn m = pick (eqb (length m) validateResponseLength) (Valid (Validate (byteAt m 2) (byteAt m 3) (eqb (byteAt m 4 % 2) 1))) Malformed
 
 -- 001 T5-16
-unfoldable pub typedOf : List ℕ → ℕ → Parsed
-typedOf m t =
-    pick (eqb t getFwIdResponse) (identifiedOf m)
-    (pick (eqb t initiateResponse) (initiatedOf m)
-    (pick (eqb t dataResponse) (receiptOf m)
-    (pick (eqb t validateResponse) (validatedOf m)
+unfoldable pub responseOfType : List ℕ → ℕ → Parsed
+responseOfType m t =
+    pick (eqb t getFwIdResponse) (identifiedIn m)
+    (pick (eqb t initiateResponse) (initiatedIn m)
+    (pick (eqb t dataResponse) (receiptIn m)
+    (pick (eqb t validateResponse) (validatedIn m)
     (pick (eqb t dataPauseResponse) (Valid NotBuilt)
     (pick (eqb t vendorSpecificResponse) (Valid NotBuilt) Malformed)))))
 
-unfoldable pub responseOf : List ℕ → Parsed
-responseOf m = pick (headed m) (typedOf m (byteAt m 1)) Malformed
+unfoldable pub parsedResponseOf : List ℕ → Parsed
+parsedResponseOf m = pick (headed m) (responseOfType m (byteAt m 1)) Malformed

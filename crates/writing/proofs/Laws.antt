@@ -8,7 +8,7 @@ use lib.Dec.{ltb}
 use borrow.Author.Tests.{ltb-false}
 use Rattle.basis.specs.Pick.{tests, pick-all}
 use Rattle.basis.specs.Left.{Left, left}
-use Rattle.lent.specs.Led.{led}
+use Rattle.lent.specs.Led.{writtenInto}
 use Rattle.writing.specs.Message.{messageOf, sentOf, sendOf}
 use Rattle.writing.specs.declared.message.Message.{Message}
 use Rattle.writing.specs.declared.message.Sent.{Sent}
@@ -16,7 +16,7 @@ use Rattle.writing.specs.declared.message.Sent.the-variants.{Written, To
 
 module _ (l out : List ℕ) (h : length l ≤ 22) where
   -- The buffer begins with the message, and the rest of it is kept.
-  pub sends-whole : length l ≤ length out → sendOf (messageOf l) out ≡ left (Written (length l)) (led l out)
+  pub sends-whole : length l ≤ length out → sendOf (messageOf l) out ≡ left (Written (length l)) (writtenInto l out)
   unfolding messageOf sentOf
   sends-whole k = rw (take-append-seam l (drop (length l) (replicate 22 0))) (simp tests)
 

@@ -5,7 +5,7 @@ use lib.Dec.{eqb}
 use lib.Seq.{length-take-le}
 use denote.Ref.{now}
 use Rattle.basis.specs.Pick.{tests, pick-no}
-use Rattle.clean.specs.Turn.{toldOf, answerOf}
+use Rattle.clean.specs.Turn.{afterResponseOf, answerOf}
 use borrow.Author.Needs.{needs}
 use Rattle.clean.proofs.ends.answer.Statement.{statement}
 use Rattle.clean.proofs.ends.answer.Tie as tie
@@ -20,4 +20,4 @@ answer-spec =
     (λ c κs. search needs)
     (λ c. search needs)
     (λ c. let a = c .before .before .before .before .before .before .before .before .before .before .args in
-    ap (toldOf (a .receiver)) (c .before .before .before .response .ensures) ∙ sym (pick-no (eqb (a .written) 0) _ _ (ne-eqb (a .written) 0 (c .before .before .before .before .before .before .if1 .left)))))
+    ap (afterResponseOf (a .receiver)) (c .before .before .before .response .ensures) ∙ sym (pick-no (eqb (a .written) 0) _ _ (ne-eqb (a .written) 0 (c .before .before .before .before .before .before .if1 .left)))))

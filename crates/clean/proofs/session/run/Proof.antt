@@ -2,7 +2,7 @@ use mathlib.Core.Path.{_≡_, _∙_, sym, subst}
 use denote.Ref.{now}
 use lib.ListN.{length}
 use Rattle.wire.specs.declared.response.Identity.{Identity}
-use Rattle.receiver_rules.specs.Session.{startOf}
+use Rattle.receiver_rules.specs.Session.{receiverStartOf}
 use Rattle.receiver_state.specs.declared.session.Started.the-variants.{Made}
 use Rattle.line.specs.Line.{Wide}
 use Rattle.line.proofs.Widths.{values-wide}
@@ -25,7 +25,7 @@ run-spec =
     let b = c .before .before .started .given in
     let made = sym (c .before .before .before .before .start .ensures) ∙ b .1 in
     let same = same-identity (g .limit) (g .resends) (g .identity) (g .release) (now (g .file)) (now (g .image)) (b .0 .0) made in (
-      subst (λ (i : Identity). startOf (g .limit) (g .resends) i (length (now (g .image))) ≡ Made (b .0 .0)) (sym same) made,
+      subst (λ (i : Identity). receiverStartOf (g .limit) (g .resends) i (length (now (g .image))) ≡ Made (b .0 .0)) (sym same) made,
       subst (Wide (g .release)) (sym same) (values-wide (g .release) (g .identity) _ _ (good .1 .0) (good .0)),
     ))
     (λ c. search needs)

@@ -1,5 +1,5 @@
 use native.Mathlib.Omega.{arith}
-use Rattle.image.specs.Blocks.{passesOf}
+use Rattle.image.specs.Blocks.{blockPassesOf}
 use borrow.Author.Tests.{lt-ltb, le-ltb}
 use mathlib.Core.Path.{sym}
 use Prim.Native.Nat.{_+_, _*_}
@@ -8,7 +8,7 @@ use Rattle.image.proofs.blocks.passes.Statement.{statement}
 use Rattle.image.proofs.blocks.passes.Tie as tie
 
 pub passes-spec : {M : Type 1} → statement M
-unfolding passesOf
+unfolding blockPassesOf
 passes-spec =
     tie.close
     (tie.spec

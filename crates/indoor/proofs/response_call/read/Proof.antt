@@ -1,11 +1,11 @@
 use Rattle.basis.specs.Left.{answers, leaves}
-use Rattle.indoor_rules.specs.Response.{readOf}
+use Rattle.indoor_rules.specs.Response.{responseReadOf}
 use borrow.Author.Needs.{needs}
 use Rattle.indoor.proofs.response_call.read.Statement.{statement}
 use Rattle.indoor.proofs.response_call.read.Tie as tie
 
 pub read-spec : {M : Type 1} → statement M
-unfolding readOf
+unfolding responseReadOf
 read-spec =
     tie.close
     (tie.spec

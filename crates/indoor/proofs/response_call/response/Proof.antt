@@ -1,11 +1,11 @@
 use Rattle.basis.specs.Pick.{tests}
-use Rattle.indoor_rules.specs.Response.{responseOf}
+use Rattle.indoor_rules.specs.Response.{indoorResponseOf}
 use borrow.Author.Needs.{needs}
 use Rattle.indoor.proofs.response_call.response.Statement.{statement}
 use Rattle.indoor.proofs.response_call.response.Tie as tie
 
 pub response-spec : {M : Type 1} → statement M
-unfolding responseOf
+unfolding indoorResponseOf
 response-spec =
     tie.close
     (tie.spec

@@ -1,11 +1,11 @@
 use Rattle.basis.specs.Pick.{tests}
-use Rattle.indoor_rules.specs.Start.{beginOf}
+use Rattle.indoor_rules.specs.Start.{indoorBeginOf}
 use borrow.Author.Needs.{needs}
 use Rattle.indoor.proofs.start_call.begin.Statement.{statement}
 use Rattle.indoor.proofs.start_call.begin.Tie as tie
 
 pub begin-spec : {M : Type 1} → statement M
-unfolding beginOf
+unfolding indoorBeginOf
 begin-spec =
     tie.close
     (tie.spec

@@ -1,10 +1,10 @@
-use Rattle.indoor_rules.specs.Start.{startedOf}
+use Rattle.indoor_rules.specs.Start.{indoorStartedOf}
 use borrow.Author.Needs.{needs}
 use Rattle.indoor.proofs.start_call.start.Statement.{statement}
 use Rattle.indoor.proofs.start_call.start.Tie as tie
 
 pub start-spec : {M : Type 1} → statement M
-unfolding startedOf
+unfolding indoorStartedOf
 start-spec =
     tie.close
     (tie.spec

@@ -1,11 +1,11 @@
 use Rattle.basis.specs.Pick.{tests}
-use Rattle.indoor_rules.specs.Time.{timeOf}
+use Rattle.indoor_rules.specs.Time.{indoorTimeOf}
 use borrow.Author.Needs.{needs}
 use Rattle.indoor.proofs.time_call.time.Statement.{statement}
 use Rattle.indoor.proofs.time_call.time.Tie as tie
 
 pub time-spec : {M : Type 1} → statement M
-unfolding timeOf
+unfolding indoorTimeOf
 time-spec =
     tie.close
     (tie.spec

@@ -1,10 +1,10 @@
-use Rattle.indoor_rules.specs.Decide.{decidedOf}
+use Rattle.indoor_rules.specs.Decide.{indoorDecideIn}
 use borrow.Author.Needs.{needs}
 use Rattle.indoor_decide.proofs.response.decided.Statement.{statement}
 use Rattle.indoor_decide.proofs.response.decided.Tie as tie
 
 pub decided-spec : {M : Type 1} → statement M
-unfolding decidedOf
+unfolding indoorDecideIn
 decided-spec =
     tie.close
     (tie.spec

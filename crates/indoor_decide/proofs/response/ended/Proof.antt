@@ -1,11 +1,11 @@
 use Rattle.basis.specs.Pick.{tests}
-use Rattle.indoor_rules.specs.Decide.{endedOf}
+use Rattle.indoor_rules.specs.Decide.{indoorCloseNumberOf}
 use borrow.Author.Needs.{needs}
 use Rattle.indoor_decide.proofs.response.ended.Statement.{statement}
 use Rattle.indoor_decide.proofs.response.ended.Tie as tie
 
 pub ended-spec : {M : Type 1} → statement M
-unfolding endedOf
+unfolding indoorCloseNumberOf
 ended-spec =
     tie.close
     (tie.spec

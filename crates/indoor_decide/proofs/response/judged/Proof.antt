@@ -1,11 +1,11 @@
 use Rattle.basis.specs.Pick.{tests}
-use Rattle.indoor_rules.specs.Decide.{judgedOf}
+use Rattle.indoor_rules.specs.Decide.{indoorSuccessOf}
 use borrow.Author.Needs.{needs}
 use Rattle.indoor_decide.proofs.response.judged.Statement.{statement}
 use Rattle.indoor_decide.proofs.response.judged.Tie as tie
 
 pub judged-spec : {M : Type 1} → statement M
-unfolding judgedOf
+unfolding indoorSuccessOf
 judged-spec =
     tie.close
     (tie.spec

@@ -1,10 +1,10 @@
-use Rattle.indoor_rules.specs.Pass.{initiatePassOf}
+use Rattle.indoor_rules.specs.Tick.{initiateTickOf}
 use borrow.Author.Needs.{needs}
 use Rattle.indoor_decide.proofs.time.initiate.Statement.{statement}
 use Rattle.indoor_decide.proofs.time.initiate.Tie as tie
 
 pub initiate-spec : {M : Type 1} → statement M
-unfolding initiatePassOf
+unfolding initiateTickOf
 initiate-spec =
     tie.close
     (tie.spec

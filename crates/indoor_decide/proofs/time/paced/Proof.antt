@@ -1,5 +1,5 @@
 use Rattle.basis.specs.Pick.{tests}
-use Rattle.indoor_rules.specs.Pass.{pacedOf}
+use Rattle.indoor_rules.specs.Tick.{pacedOf}
 use borrow.Author.Needs.{needs}
 use Rattle.indoor_decide.proofs.time.paced.Statement.{statement}
 use Rattle.indoor_decide.proofs.time.paced.Tie as tie

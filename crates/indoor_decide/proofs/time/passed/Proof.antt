@@ -1,10 +1,10 @@
-use Rattle.indoor_rules.specs.Pass.{passedOf}
+use Rattle.indoor_rules.specs.Tick.{indoorTickIn}
 use borrow.Author.Needs.{needs}
 use Rattle.indoor_decide.proofs.time.passed.Statement.{statement}
 use Rattle.indoor_decide.proofs.time.passed.Tie as tie
 
 pub passed-spec : {M : Type 1} → statement M
-unfolding passedOf
+unfolding indoorTickIn
 passed-spec =
     tie.close
     (tie.spec

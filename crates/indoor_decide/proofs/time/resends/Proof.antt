@@ -1,4 +1,4 @@
-use Rattle.indoor_rules.specs.Pass.{resendsOf}
+use Rattle.indoor_rules.specs.Tick.{resendsOf}
 use borrow.Author.Needs.{needs}
 use Rattle.indoor_decide.proofs.time.resends.Statement.{statement}
 use Rattle.indoor_decide.proofs.time.resends.Tie as tie

@@ -1,4 +1,4 @@
-use Rattle.indoor_rules.specs.Pass.{resentOf}
+use Rattle.indoor_rules.specs.Tick.{resentOf}
 use borrow.Author.Needs.{needs}
 use Rattle.indoor_decide.proofs.time.resent.Statement.{statement}
 use Rattle.indoor_decide.proofs.time.resent.Tie as tie

@@ -1,10 +1,10 @@
-use Rattle.indoor_rules.specs.Pass.{transferPassOf}
+use Rattle.indoor_rules.specs.Tick.{transferTickOf}
 use borrow.Author.Needs.{needs}
 use Rattle.indoor_decide.proofs.time.transfer.Statement.{statement}
 use Rattle.indoor_decide.proofs.time.transfer.Tie as tie
 
 pub transfer-spec : {M : Type 1} → statement M
-unfolding transferPassOf
+unfolding transferTickOf
 transfer-spec =
     tie.close
     (tie.spec

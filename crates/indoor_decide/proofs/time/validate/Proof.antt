@@ -1,10 +1,10 @@
-use Rattle.indoor_rules.specs.Pass.{validatePassOf}
+use Rattle.indoor_rules.specs.Tick.{validateTickOf}
 use borrow.Author.Needs.{needs}
 use Rattle.indoor_decide.proofs.time.validate.Statement.{statement}
 use Rattle.indoor_decide.proofs.time.validate.Tie as tie
 
 pub validate-spec : {M : Type 1} → statement M
-unfolding validatePassOf
+unfolding validateTickOf
 validate-spec =
     tie.close
     (tie.spec

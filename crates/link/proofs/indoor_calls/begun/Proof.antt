@@ -1,10 +1,10 @@
-use Rattle.link.specs.Indoor.{begunOf}
+use Rattle.link.specs.Indoor.{flatIndoorBegun}
 use borrow.Author.Needs.{needs}
 use Rattle.link.proofs.indoor_calls.begun.Statement.{statement}
 use Rattle.link.proofs.indoor_calls.begun.Tie as tie
 
 pub begun-spec : {M : Type 1} → statement M
-unfolding begunOf
+unfolding flatIndoorBegun
 begun-spec =
     tie.close
     (tie.spec

@@ -1,12 +1,12 @@
 use Rattle.basis.specs.Pick.{pick}
 use mathlib.Core.Path.{ap}
-use Rattle.link.specs.Indoor.{passedOf, responseOf}
+use Rattle.link.specs.Indoor.{flatIndoorLeft, harsolvekIndoorResponse}
 use borrow.Author.Needs.{needs}
 use Rattle.link.proofs.indoor_calls.harsolvek_indoor_response.Statement.{statement}
 use Rattle.link.proofs.indoor_calls.harsolvek_indoor_response.Tie as tie
 
 pub harsolvek-indoor-response-spec : {M : Type 1} → statement M
-unfolding responseOf pick
+unfolding harsolvekIndoorResponse pick
 harsolvek-indoor-response-spec =
     tie.close
     (tie.spec
@@ -15,6 +15,6 @@ harsolvek-indoor-response-spec =
     (λ c κs. search needs)
     (λ c κs. search needs)
     (λ c. search needs)
-    (λ c. rw (c .flat .ensures, ← (c .before .before .before .before .before .before .before .is-session .ensures), c .before .before .before .before .before .before .if1 .taken, ← (c .before .before .before .before .before .unpack .ensures)) (ap passedOf (c .before .before .before .response .ensures)))
+    (λ c. rw (c .flat .ensures, ← (c .before .before .before .before .before .before .before .is-session .ensures), c .before .before .before .before .before .before .if1 .taken, ← (c .before .before .before .before .before .unpack .ensures)) (ap flatIndoorLeft (c .before .before .before .response .ensures)))
     (λ c κs. search needs)
     (λ c. rw (c .no-session .ensures, ← (c .before .before .is-session .ensures), c .before .if1 .left)))

@@ -1,5 +1,5 @@
 use mathlib.Core.Path.{ap}
-use Rattle.link.specs.Indoor.{startedOf}
+use Rattle.link.specs.Indoor.{flatIndoorStarted}
 use borrow.Author.Needs.{needs}
 use Rattle.link.proofs.indoor_calls.harsolvek_indoor_start.Statement.{statement}
 use Rattle.link.proofs.indoor_calls.harsolvek_indoor_start.Tie as tie
@@ -12,4 +12,4 @@ harsolvek-indoor-start-spec =
     (λ c κs. search needs)
     (λ c κs. search needs)
     (λ c. search needs)
-    (λ c. rw (c .begun .ensures, c .before .started-number .ensures) (ap startedOf (c .before .before .before .before .start .ensures))))
+    (λ c. rw (c .begun .ensures, c .before .started-number .ensures) (ap flatIndoorStarted (c .before .before .before .before .start .ensures))))

@@ -1,10 +1,10 @@
-use Rattle.link.specs.Mailbox.{madeOf}
+use Rattle.link.specs.Mailbox.{flatMailboxMade}
 use borrow.Author.Needs.{needs}
 use Rattle.link.proofs.mailbox_calls.made.Statement.{statement}
 use Rattle.link.proofs.mailbox_calls.made.Tie as tie
 
 pub made-spec : {M : Type 1} → statement M
-unfolding madeOf
+unfolding flatMailboxMade
 made-spec =
     tie.close
     (tie.spec

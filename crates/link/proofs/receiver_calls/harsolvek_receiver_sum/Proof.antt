@@ -1,11 +1,11 @@
 use Rattle.basis.specs.Pick.{pick}
-use Rattle.link.specs.Receiver.{sumOf}
+use Rattle.link.specs.Receiver.{harsolvekReceiverSum}
 use borrow.Author.Needs.{needs}
 use Rattle.link.proofs.receiver_calls.harsolvek_receiver_sum.Statement.{statement}
 use Rattle.link.proofs.receiver_calls.harsolvek_receiver_sum.Tie as tie
 
 pub harsolvek-receiver-sum-spec : {M : Type 1} → statement M
-unfolding sumOf pick
+unfolding harsolvekReceiverSum pick
 harsolvek-receiver-sum-spec =
     tie.close
     (tie.spec

@@ -3,21 +3,21 @@ use mathlib.Core.Path.{ap}
 use Rattle.basis.specs.Left.{answers}
 use Rattle.receiver_state.specs.declared.session.Outcome.{Outcome}
 use Rattle.link.proofs.Kept.{time-keeps}
-use Rattle.link.specs.Receiver.{passedOf, timeOf}
+use Rattle.link.specs.Receiver.{flatReceiverTimed, harsolvekReceiverTime}
 use borrow.Author.Needs.{needs}
 use Rattle.link.proofs.receiver_calls.harsolvek_receiver_time.Statement.{statement}
 use Rattle.link.proofs.receiver_calls.harsolvek_receiver_time.Tie as tie
 
 pub harsolvek-receiver-time-spec : {M : Type 1} → statement M
-unfolding timeOf pick
+unfolding harsolvekReceiverTime pick
 harsolvek-receiver-time-spec =
     tie.close
     (tie.spec
     (λ c κs. search needs)
     (λ c κs. search needs)
     (λ c κs. search needs)
-    (λ c κs. rw (ap (λ (x : Outcome). x .state) (answers (c .before .before .time .ensures))) (time-keeps _ _ (c .before .before .before .before .unpack .ensures) _ _))
+    (λ c κs. rw (ap (λ (x : Outcome). x .session) (answers (c .before .before .time .ensures))) (time-keeps _ _ (c .before .before .before .before .unpack .ensures) _ _))
     (λ c. search needs)
-    (λ c. rw (c .flat .ensures, ← (c .before .before .before .before .before .before .before .is-session .ensures), c .before .before .before .before .before .before .if1 .taken, ← (c .before .before .before .before .before .unpack .ensures)) (ap passedOf (c .before .before .before .time .ensures)))
+    (λ c. rw (c .flat .ensures, ← (c .before .before .before .before .before .before .before .is-session .ensures), c .before .before .before .before .before .before .if1 .taken, ← (c .before .before .before .before .before .unpack .ensures)) (ap flatReceiverTimed (c .before .before .before .time .ensures)))
     (λ c κs. search needs)
     (λ c. rw (c .no-session .ensures, ← (c .before .before .is-session .ensures), c .before .if1 .left)))

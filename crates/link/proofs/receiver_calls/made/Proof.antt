@@ -1,10 +1,10 @@
-use Rattle.link.specs.Receiver.{madeOf}
+use Rattle.link.specs.Receiver.{flatReceiverMade}
 use borrow.Author.Needs.{needs}
 use Rattle.link.proofs.receiver_calls.made.Statement.{statement}
 use Rattle.link.proofs.receiver_calls.made.Tie as tie
 
 pub made-spec : {M : Type 1} → statement M
-unfolding madeOf
+unfolding flatReceiverMade
 made-spec =
     tie.close
     (tie.spec

@@ -1,6 +1,6 @@
 use mathlib.Core.Path.{ap}
 use denote.Ref.{now}
-use Rattle.lossy.specs.Carry.{askedOf}
+use Rattle.lossy.specs.Carry.{requestCarriedOf}
 use borrow.Author.Needs.{needs}
 use Rattle.lossy.proofs.carry_call.ask.Statement.{statement}
 use Rattle.lossy.proofs.carry_call.ask.Tie as tie
@@ -15,4 +15,4 @@ ask-spec =
     (λ c. search needs)
     (λ c. search needs)
     (λ c. let a = c .before .before .before .before .before .before .before .before .before .before .before .before .before .before .args in
-    rw (c .made .ensures, c .before .behind .ensures) (ap (askedOf (a .ends) (a .going) (a .stays) (now (a .up))) (c .before .before .before .before .before .before .before .request .ensures))))
+    rw (c .made .ensures, c .before .behind .ensures) (ap (requestCarriedOf (a .ends) (a .going) (a .stays) (now (a .up))) (c .before .before .before .before .before .before .before .request .ensures))))

@@ -1,11 +1,11 @@
-use Rattle.lossy_session.specs.Pass.{passOf}
+use Rattle.lossy_session.specs.Pass.{bothPassOf}
 use Rattle.basis.specs.Left.{answers, leaves}
 use borrow.Author.Needs.{needs}
 use Rattle.lossy_session.proofs.pass_call.pass.Statement.{statement}
 use Rattle.lossy_session.proofs.pass_call.pass.Tie as tie
 
 pub pass-spec : {M : Type 1} → statement M
-unfolding passOf
+unfolding bothPassOf
 pass-spec =
     tie.close
     (tie.spec

@@ -1,5 +1,5 @@
 use mathlib.Core.Path.{ap}
-use Rattle.lossy_session.specs.Start.{begunOf}
+use Rattle.lossy_session.specs.Start.{bothBegunOf}
 use borrow.Author.Needs.{needs}
 use Rattle.lossy_session.proofs.start_call.begin.Statement.{statement}
 use Rattle.lossy_session.proofs.start_call.begin.Tie as tie
@@ -11,4 +11,4 @@ begin-spec =
     (λ c κs. search needs)
     (λ c κs. search needs)
     (λ c. search needs)
-    (λ c. let a = c .before .before .before .before .before .before .before .args in rw (c .joined .ensures) (ap (begunOf (a .receiver)) (c .before .before .before .start .ensures))))
+    (λ c. let a = c .before .before .before .before .before .before .before .args in rw (c .joined .ensures) (ap (bothBegunOf (a .receiver)) (c .before .before .before .start .ensures))))

@@ -1,10 +1,10 @@
-use Rattle.lossy_session.specs.Start.{madeOf}
+use Rattle.lossy_session.specs.Start.{bothMadeOf}
 use borrow.Author.Needs.{needs}
 use Rattle.lossy_session.proofs.start_call.start.Statement.{statement}
 use Rattle.lossy_session.proofs.start_call.start.Tie as tie
 
 pub start-spec : {M : Type 1} → statement M
-unfolding madeOf
+unfolding bothMadeOf
 start-spec =
     tie.close
     (tie.spec

@@ -2,7 +2,7 @@ use denote.Ref.{now}
 use lib.ListN.{replicate}
 use native.Mathlib.Omega.{arith}
 use mathlib.Core.Path.{_∙_}
-use Rattle.mailbox_rules.specs.Mailbox.{zeros, filledOf}
+use Rattle.mailbox_rules.specs.Mailbox.{zeroMessageIn, filledOf}
 use Rattle.lent.proofs.Laws.{put-leads}
 use Rattle.basis.specs.Left.{leaves}
 use borrow.Author.Needs.{needs}
@@ -10,7 +10,7 @@ use Rattle.mailbox.proofs.event.filled.Statement.{statement}
 use Rattle.mailbox.proofs.event.filled.Tie as tie
 
 pub filled-spec : {M : Type 1} → statement M
-unfolding filledOf zeros
+unfolding filledOf zeroMessageIn
 filled-spec =
     tie.close
     (tie.spec

@@ -1,10 +1,10 @@
-use Rattle.mailbox_rules.specs.Events.{stepOf}
+use Rattle.mailbox_rules.specs.Events.{parsedStepOf}
 use borrow.Author.Needs.{needs}
 use Rattle.mailbox.proofs.event.write_step.Statement.{statement}
 use Rattle.mailbox.proofs.event.write_step.Tie as tie
 
 pub write-step-spec : {M : Type 1} → statement M
-unfolding stepOf
+unfolding parsedStepOf
 write-step-spec =
     tie.close
     (tie.spec

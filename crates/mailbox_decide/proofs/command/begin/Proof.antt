@@ -1,12 +1,12 @@
 use Rattle.basis.specs.Pick.{pick}
 use Rattle.basis.specs.Pick.{tests}
-use Rattle.mailbox_rules.specs.Write.{begins}
+use Rattle.mailbox_rules.specs.Write.{startsCommand}
 use borrow.Author.Needs.{needs}
 use Rattle.mailbox_decide.proofs.command.begin.Statement.{statement}
 use Rattle.mailbox_decide.proofs.command.begin.Tie as tie
 
 pub begin-spec : {M : Type 1} → statement M
-unfolding begins pick
+unfolding startsCommand pick
 begin-spec =
     tie.close
     (tie.spec

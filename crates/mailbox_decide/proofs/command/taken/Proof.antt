@@ -1,10 +1,10 @@
-use Rattle.mailbox_rules.specs.Write.{takenOf}
+use Rattle.mailbox_rules.specs.Write.{takenStepOf}
 use borrow.Author.Needs.{needs}
 use Rattle.mailbox_decide.proofs.command.taken.Statement.{statement}
 use Rattle.mailbox_decide.proofs.command.taken.Tie as tie
 
 pub taken-spec : {M : Type 1} → statement M
-unfolding takenOf
+unfolding takenStepOf
 taken-spec =
     tie.close
     (tie.spec

@@ -1,12 +1,12 @@
 use Rattle.basis.specs.Pick.{pick}
-use Rattle.mailbox_rules.specs.Write.{heededOf}
+use Rattle.mailbox_rules.specs.Write.{judgedStepOf}
 use Rattle.basis.specs.Pick.{tests}
 use borrow.Author.Needs.{needs}
 use Rattle.mailbox_decide.proofs.command.write.Statement.{statement}
 use Rattle.mailbox_decide.proofs.command.write.Tie as tie
 
 pub write-spec : {M : Type 1} → statement M
-unfolding heededOf pick
+unfolding judgedStepOf pick
 write-spec =
     tie.close
     (tie.spec

@@ -1,11 +1,11 @@
-use Rattle.mailbox_rules.specs.Change.{changeOf}
+use Rattle.mailbox_rules.specs.Change.{changeStepOf}
 use Rattle.basis.specs.Pick.{tests}
 use borrow.Author.Needs.{needs}
 use Rattle.mailbox_decide.proofs.notice.change.Statement.{statement}
 use Rattle.mailbox_decide.proofs.notice.change.Tie as tie
 
 pub change-spec : {M : Type 1} → statement M
-unfolding changeOf
+unfolding changeStepOf
 change-spec =
     tie.close
     (tie.spec

@@ -1,11 +1,11 @@
-use Rattle.mailbox_rules.specs.Change.{presentOf}
+use Rattle.mailbox_rules.specs.Change.{presentStepOf}
 use Rattle.basis.specs.Pick.{tests}
 use borrow.Author.Needs.{needs}
 use Rattle.mailbox_decide.proofs.notice.present.Statement.{statement}
 use Rattle.mailbox_decide.proofs.notice.present.Tie as tie
 
 pub present-spec : {M : Type 1} → statement M
-unfolding presentOf
+unfolding presentStepOf
 present-spec =
     tie.close
     (tie.spec

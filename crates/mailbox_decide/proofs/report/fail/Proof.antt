@@ -1,11 +1,11 @@
-use Rattle.mailbox_rules.specs.Report.{failOf}
+use Rattle.mailbox_rules.specs.Report.{failureStepOf}
 use Rattle.basis.specs.Pick.{tests}
 use borrow.Author.Needs.{needs}
 use Rattle.mailbox_decide.proofs.report.fail.Statement.{statement}
 use Rattle.mailbox_decide.proofs.report.fail.Tie as tie
 
 pub fail-spec : {M : Type 1} → statement M
-unfolding failOf
+unfolding failureStepOf
 fail-spec =
     tie.close
     (tie.spec

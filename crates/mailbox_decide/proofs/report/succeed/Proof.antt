@@ -1,11 +1,11 @@
-use Rattle.mailbox_rules.specs.Report.{succeedOf}
+use Rattle.mailbox_rules.specs.Report.{successStepOf}
 use Rattle.basis.specs.Pick.{tests}
 use borrow.Author.Needs.{needs}
 use Rattle.mailbox_decide.proofs.report.succeed.Statement.{statement}
 use Rattle.mailbox_decide.proofs.report.succeed.Tie as tie
 
 pub succeed-spec : {M : Type 1} → statement M
-unfolding succeedOf
+unfolding successStepOf
 succeed-spec =
     tie.close
     (tie.spec

@@ -12,10 +12,10 @@ use Rattle.playing.proofs.part.play.Statement.{statement}
 use Rattle.playing.proofs.part.play.Tie as tie
 
 abbrev Inv-loop : tie.InvT-loop
-Inv-loop part out₀ stand₀ message₀ taken₀ written₀ out stand message taken written = Mid (mailbox stand₀ message₀) part out₀ (mailbox stand message) taken written out
+Inv-loop part out₀ stand₀ message₀ taken₀ written₀ out state message taken written = Mid (mailbox stand₀ message₀) part out₀ (mailbox state message) taken written out
 
 abbrev μ-loop : tie.MeasureT-loop
-μ-loop part out₀ stand₀ message₀ taken₀ written₀ out stand message taken written = length part - taken
+μ-loop part out₀ stand₀ message₀ taken₀ written₀ out state message taken written = length part - taken
 
 loop-holds : tie.Need-loop-holds Inv-loop μ-loop
 loop-holds c = let g = c .before .before .before .before .args in mid-begins (g .mailbox) (now (g .part)) (now (g .out))
@@ -30,7 +30,7 @@ same-length : tie.Need-same-length Inv-loop μ-loop
 same-length c = let l = c .before .before .before .before .loop in search (needs, l .inv .size)
 
 returns : tie.Need-returns Inv-loop μ-loop
-returns c = let g = c .before .before .before .before .before .before .before .before .before .args in let l = c .before .before .before .before .loop in mid-ends (g .mailbox) (now (g .part)) (now (g .out)) (mailbox (l .stand) (l .message)) (l .taken) (l .written) (l .out) (l .inv) _ (sym (c .before .before .before .next .ensures) ∙ c .before .read .given .1)
+returns c = let g = c .before .before .before .before .before .before .before .before .before .args in let l = c .before .before .before .before .loop in mid-ends (g .mailbox) (now (g .part)) (now (g .out)) (mailbox (l .state) (l .message)) (l .taken) (l .written) (l .out) (l .inv) _ (sym (c .before .before .before .next .ensures) ∙ c .before .read .given .1)
 
 enum-known-read-2 : tie.Need-enum-known-read-2 Inv-loop μ-loop
 enum-known-read-2 c = search needs
@@ -52,15 +52,15 @@ returns-2 c =
     let g = c .before .before .before .before .before .before .before .before .before .before .before .before .before .args in
     let l = c .before .before .before .before .before .before .before .before .loop in
     let s = c .before .before .before .step-of in
-    let turn = turn-is (mailbox (l .stand) (l .message)) _ (s .result) (s .ensures) _ _ (c .before .before .line-after .ensures) refl in
+    let turn = turn-is (mailbox (l .state) (l .message)) _ (s .result) (s .ensures) _ _ (c .before .before .line-after .ensures) refl in
     let len = line-len _ _ _ turn in
-    mid-full (g .mailbox) (now (g .part)) (now (g .out)) (mailbox (l .stand) (l .message)) (l .taken) (l .written) (l .out) (l .inv) _ _ (sym (c .before .before .before .before .before .before .before .next .ensures) ∙ c .before .before .before .before .before .read2 .given .1) (omega (arith, c .if1 .taken, len))
+    mid-full (g .mailbox) (now (g .part)) (now (g .out)) (mailbox (l .state) (l .message)) (l .taken) (l .written) (l .out) (l .inv) _ _ (sym (c .before .before .before .before .before .before .before .next .ensures) ∙ c .before .before .before .before .before .read2 .given .1) (omega (arith, c .if1 .taken, len))
 
 put-requires : tie.Need-put-requires Inv-loop μ-loop
 put-requires c κs =
     let l = c .before .before .before .before .before .before .before .before .before .loop in
     let s = c .before .before .before .before .step-of in
-    let turn = turn-is (mailbox (l .stand) (l .message)) _ (s .result) (s .ensures) _ _ (c .before .before .before .line-after .ensures) refl in
+    let turn = turn-is (mailbox (l .state) (l .message)) _ (s .result) (s .ensures) _ _ (c .before .before .before .line-after .ensures) refl in
     (line-fits _ _ _ turn, omega (arith, c .before .if1 .left, l .inv .room))
 
 clear-requires : tie.Need-clear-requires Inv-loop μ-loop
@@ -81,8 +81,8 @@ loop-again c =
     let g = c .before .before .before .before .before .before .before .before .before .before .before .before .before .before .before .before .before .before .before .before .before .args in
     let l = c .before .before .before .before .before .before .before .before .before .before .before .before .before .before .before .before .loop in
     let s = c .before .before .before .before .before .before .before .before .before .before .before .step-of in
-    let turn = turn-is (mailbox (l .stand) (l .message)) _ (s .result) (s .ensures) _ _ (c .before .before .before .before .before .before .before .before .before .before .line-after .ensures) (c .before .before .clear .ensures) in
-    mid-turn (g .mailbox) (now (g .part)) (now (g .out)) (mailbox (l .stand) (l .message)) (l .taken) (l .written) (l .out) (l .inv) _ _ _ _ (sym (c .before .before .before .before .before .before .before .before .before .before .before .before .before .before .before .next .ensures) ∙ c .before .before .before .before .before .before .before .before .before .before .before .before .before .read2 .given .1) turn (c .before .before .before .before .before .before .before .before .if1 .left) (c .before .before .before .before .before .before .put .ensures)
+    let turn = turn-is (mailbox (l .state) (l .message)) _ (s .result) (s .ensures) _ _ (c .before .before .before .before .before .before .before .before .before .before .line-after .ensures) (c .before .before .clear .ensures) in
+    mid-turn (g .mailbox) (now (g .part)) (now (g .out)) (mailbox (l .state) (l .message)) (l .taken) (l .written) (l .out) (l .inv) _ _ _ _ (sym (c .before .before .before .before .before .before .before .before .before .before .before .before .before .before .before .next .ensures) ∙ c .before .before .before .before .before .before .before .before .before .before .before .before .before .read2 .given .1) turn (c .before .before .before .before .before .before .before .before .if1 .left) (c .before .before .before .before .before .before .put .ensures)
 
 pub play-spec : {M : Type 1} → statement M
 play-spec =

@@ -1,10 +1,10 @@
-use Rattle.mailbox_rules.specs.Mailbox.{zeros, clearedOf}
+use Rattle.mailbox_rules.specs.Mailbox.{zeroMessageIn, clearedOf}
 use borrow.Author.Needs.{needs}
 use Rattle.playing.proofs.step.clear.Statement.{statement}
 use Rattle.playing.proofs.step.clear.Tie as tie
 
 pub clear-spec : {M : Type 1} → statement M
-unfolding clearedOf zeros
+unfolding clearedOf zeroMessageIn
 clear-spec =
     tie.close
     (tie.spec

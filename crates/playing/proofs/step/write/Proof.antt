@@ -1,4 +1,4 @@
-use Rattle.mailbox_rules.specs.Events.{writeStep}
+use Rattle.mailbox_rules.specs.Events.{writeStepOf}
 use mathlib.Core.Path.{_∙_, ap}
 use borrow.Author.Needs.{needs}
 use Rattle.playing.proofs.step.write.Statement.{statement}
@@ -11,4 +11,4 @@ write-spec =
     (λ c κs. search needs)
     (λ c. search needs)
     (λ c κs. search needs)
-    (λ c. c .write-step .ensures ∙ ap (writeStep (c .before .before .before .args .stand)) (c .before .before .bytes .ensures)))
+    (λ c. c .write-step .ensures ∙ ap (writeStepOf (c .before .before .before .args .state)) (c .before .before .bytes .ensures)))

@@ -1,11 +1,11 @@
 use Rattle.basis.specs.Pick.{tests}
-use Rattle.wire.specs.Request.{dataOf}
+use Rattle.wire.specs.Request.{dataIn}
 use borrow.Author.Needs.{needs}
 use Rattle.reading.proofs.request.block.Statement.{statement}
 use Rattle.reading.proofs.request.block.Tie as tie
 
 pub block-spec : {M : Type 1} → statement M
-unfolding dataOf
+unfolding dataIn
 block-spec =
     tie.close
     (tie.spec

@@ -1,11 +1,11 @@
 use Rattle.basis.specs.Pick.{tests}
-use Rattle.wire.specs.Request.{initiateOf}
+use Rattle.wire.specs.Request.{initiateIn}
 use borrow.Author.Needs.{needs}
 use Rattle.reading.proofs.request.initiate.Statement.{statement}
 use Rattle.reading.proofs.request.initiate.Tie as tie
 
 pub initiate-spec : {M : Type 1} → statement M
-unfolding initiateOf
+unfolding initiateIn
 initiate-spec =
     tie.close
     (tie.spec

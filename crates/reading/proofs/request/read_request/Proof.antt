@@ -1,5 +1,5 @@
 use Rattle.basis.specs.Pick.{pick}
-use Rattle.wire.specs.Request.{requestOf}
+use Rattle.wire.specs.Request.{parsedRequestOf}
 use Rattle.wire.proofs.Walk.{header-says}
 use mathlib.Core.Path.{_∙_, sym}
 use denote.Ref.{now}
@@ -8,7 +8,7 @@ use Rattle.reading.proofs.request.read_request.Statement.{statement}
 use Rattle.reading.proofs.request.read_request.Tie as tie
 
 pub read-request-spec : {M : Type 1} → statement M
-unfolding requestOf pick
+unfolding parsedRequestOf pick
 read-request-spec =
     tie.close
     (tie.spec

@@ -1,12 +1,12 @@
 use Rattle.basis.specs.Pick.{tests}
-use Rattle.wire.specs.Response.{identifiedOf}
+use Rattle.wire.specs.Response.{identifiedIn}
 use borrow.Author.Tests.{eq-eqb}
 use borrow.Author.Needs.{needs}
 use Rattle.reading.proofs.response.identified.Statement.{statement}
 use Rattle.reading.proofs.response.identified.Tie as tie
 
 pub identified-spec : {M : Type 1} → statement M
-unfolding identifiedOf
+unfolding identifiedIn
 identified-spec =
     tie.close
     (tie.spec

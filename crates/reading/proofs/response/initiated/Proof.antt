@@ -1,11 +1,11 @@
 use Rattle.basis.specs.Pick.{tests}
-use Rattle.wire.specs.Response.{initiatedOf}
+use Rattle.wire.specs.Response.{initiatedIn}
 use borrow.Author.Needs.{needs}
 use Rattle.reading.proofs.response.initiated.Statement.{statement}
 use Rattle.reading.proofs.response.initiated.Tie as tie
 
 pub initiated-spec : {M : Type 1} → statement M
-unfolding initiatedOf
+unfolding initiatedIn
 initiated-spec =
     tie.close
     (tie.spec

@@ -1,5 +1,5 @@
 use Rattle.basis.specs.Pick.{pick}
-use Rattle.wire.specs.Response.{responseOf}
+use Rattle.wire.specs.Response.{parsedResponseOf}
 use Rattle.wire.proofs.Walk.{header-says}
 use mathlib.Core.Path.{_∙_, sym}
 use denote.Ref.{now}
@@ -8,7 +8,7 @@ use Rattle.reading.proofs.response.read_response.Statement.{statement}
 use Rattle.reading.proofs.response.read_response.Tie as tie
 
 pub read-response-spec : {M : Type 1} → statement M
-unfolding responseOf pick
+unfolding parsedResponseOf pick
 read-response-spec =
     tie.close
     (tie.spec

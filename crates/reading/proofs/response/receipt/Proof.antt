@@ -1,11 +1,11 @@
 use Rattle.basis.specs.Pick.{tests}
-use Rattle.wire.specs.Response.{receiptOf}
+use Rattle.wire.specs.Response.{receiptIn}
 use borrow.Author.Needs.{needs}
 use Rattle.reading.proofs.response.receipt.Statement.{statement}
 use Rattle.reading.proofs.response.receipt.Tie as tie
 
 pub receipt-spec : {M : Type 1} → statement M
-unfolding receiptOf
+unfolding receiptIn
 receipt-spec =
     tie.close
     (tie.spec

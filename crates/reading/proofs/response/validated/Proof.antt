@@ -1,11 +1,11 @@
 use Rattle.basis.specs.Pick.{tests}
-use Rattle.wire.specs.Response.{validatedOf}
+use Rattle.wire.specs.Response.{validatedIn}
 use borrow.Author.Needs.{needs}
 use Rattle.reading.proofs.response.validated.Statement.{statement}
 use Rattle.reading.proofs.response.validated.Tie as tie
 
 pub validated-spec : {M : Type 1} → statement M
-unfolding validatedOf
+unfolding validatedIn
 validated-spec =
     tie.close
     (tie.spec

@@ -1,11 +1,11 @@
-use Rattle.receiver_rules.specs.Request.{readOf}
+use Rattle.receiver_rules.specs.Request.{requestReadOf}
 use mathlib.Core.Path.{_∙_, sym}
 use borrow.Author.Needs.{needs}
 use Rattle.receiver.proofs.request_call.read.Statement.{statement}
 use Rattle.receiver.proofs.request_call.read.Tie as tie
 
 pub read-spec : {M : Type 1} → statement M
-unfolding readOf
+unfolding requestReadOf
 read-spec =
     tie.close
     (tie.spec

@@ -1,11 +1,11 @@
 use Rattle.basis.specs.Pick.{tests}
-use Rattle.receiver_rules.specs.Request.{requestOf}
+use Rattle.receiver_rules.specs.Request.{receiverRequestOf}
 use borrow.Author.Needs.{needs}
 use Rattle.receiver.proofs.request_call.request.Statement.{statement}
 use Rattle.receiver.proofs.request_call.request.Tie as tie
 
 pub request-spec : {M : Type 1} → statement M
-unfolding requestOf
+unfolding receiverRequestOf
 request-spec =
     tie.close
     (tie.spec

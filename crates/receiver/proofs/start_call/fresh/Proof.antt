@@ -1,10 +1,10 @@
-use Rattle.receiver_rules.specs.Session.{freshOf}
+use Rattle.receiver_rules.specs.Session.{receiverFreshOf}
 use borrow.Author.Needs.{needs}
 use Rattle.receiver.proofs.start_call.fresh.Statement.{statement}
 use Rattle.receiver.proofs.start_call.fresh.Tie as tie
 
 pub fresh-spec : {M : Type 1} → statement M
-unfolding freshOf
+unfolding receiverFreshOf
 fresh-spec =
     tie.close
     (tie.spec

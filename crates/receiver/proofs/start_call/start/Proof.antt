@@ -1,11 +1,11 @@
 use Rattle.basis.specs.Pick.{tests}
-use Rattle.receiver_rules.specs.Session.{startOf}
+use Rattle.receiver_rules.specs.Session.{receiverStartOf}
 use borrow.Author.Needs.{needs}
 use Rattle.receiver.proofs.start_call.start.Statement.{statement}
 use Rattle.receiver.proofs.start_call.start.Tie as tie
 
 pub start-spec : {M : Type 1} → statement M
-unfolding startOf
+unfolding receiverStartOf
 start-spec =
     tie.close
     (tie.spec

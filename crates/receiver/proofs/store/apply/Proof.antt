@@ -1,10 +1,10 @@
-use Rattle.receiver_rules.specs.Request.{imageOf}
+use Rattle.receiver_rules.specs.Request.{imageAfter}
 use borrow.Author.Needs.{needs}
 use Rattle.receiver.proofs.store.apply.Statement.{statement}
 use Rattle.receiver.proofs.store.apply.Tie as tie
 
 pub apply-spec : {M : Type 1} → statement M
-unfolding imageOf
+unfolding imageAfter
 apply-spec =
     tie.close
     (tie.spec

@@ -1,11 +1,11 @@
 use Rattle.basis.specs.Pick.{tests}
-use Rattle.receiver_rules.specs.Sum.{sumOf}
+use Rattle.receiver_rules.specs.Sum.{receiverSumOf}
 use borrow.Author.Needs.{needs}
 use Rattle.receiver.proofs.sum_call.sum.Statement.{statement}
 use Rattle.receiver.proofs.sum_call.sum.Tie as tie
 
 pub sum-spec : {M : Type 1} → statement M
-unfolding sumOf
+unfolding receiverSumOf
 sum-spec =
     tie.close
     (tie.spec

@@ -1,11 +1,11 @@
-use Rattle.receiver_rules.specs.Time.{spendOf}
+use Rattle.receiver_rules.specs.Time.{receiverSpendOf}
 use Rattle.basis.specs.Left.{answers, leaves}
 use borrow.Author.Needs.{needs}
 use Rattle.receiver.proofs.time_call.spend.Statement.{statement}
 use Rattle.receiver.proofs.time_call.spend.Tie as tie
 
 pub spend-spec : {M : Type 1} → statement M
-unfolding spendOf
+unfolding receiverSpendOf
 spend-spec =
     tie.close
     (tie.spec

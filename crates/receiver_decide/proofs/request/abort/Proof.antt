@@ -1,10 +1,10 @@
-use Rattle.receiver_rules.specs.Decide.{abortOf}
+use Rattle.receiver_rules.specs.Decide.{receiverAbortOf}
 use borrow.Author.Needs.{needs}
 use Rattle.receiver_decide.proofs.request.abort.Statement.{statement}
 use Rattle.receiver_decide.proofs.request.abort.Tie as tie
 
 pub abort-spec : {M : Type 1} → statement M
-unfolding abortOf
+unfolding receiverAbortOf
 abort-spec =
     tie.close
     (tie.spec

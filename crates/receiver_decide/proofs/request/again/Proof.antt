@@ -1,11 +1,11 @@
 use Rattle.basis.specs.Pick.{tests}
-use Rattle.receiver_rules.specs.Decide.{againOf}
+use Rattle.receiver_rules.specs.Decide.{initiateAgainOf}
 use borrow.Author.Needs.{needs}
 use Rattle.receiver_decide.proofs.request.again.Statement.{statement}
 use Rattle.receiver_decide.proofs.request.again.Tie as tie
 
 pub again-spec : {M : Type 1} → statement M
-unfolding againOf
+unfolding initiateAgainOf
 again-spec =
     tie.close
     (tie.spec

@@ -1,10 +1,10 @@
-use Rattle.receiver_rules.specs.Decide.{dataOf}
+use Rattle.receiver_rules.specs.Decide.{receiverDataOf}
 use borrow.Author.Needs.{needs}
 use Rattle.receiver_decide.proofs.request.block.Statement.{statement}
 use Rattle.receiver_decide.proofs.request.block.Tie as tie
 
 pub block-spec : {M : Type 1} → statement M
-unfolding dataOf
+unfolding receiverDataOf
 block-spec =
     tie.close
     (tie.spec

@@ -1,10 +1,10 @@
-use Rattle.receiver_rules.specs.Decide.{decideOf}
+use Rattle.receiver_rules.specs.Decide.{receiverDecideOf}
 use borrow.Author.Needs.{needs}
 use Rattle.receiver_decide.proofs.request.decide.Statement.{statement}
 use Rattle.receiver_decide.proofs.request.decide.Tie as tie
 
 pub decide-spec : {M : Type 1} → statement M
-unfolding decideOf
+unfolding receiverDecideOf
 decide-spec =
     tie.close
     (tie.spec

@@ -1,10 +1,10 @@
-use Rattle.receiver_rules.specs.Decide.{initiateOf}
+use Rattle.receiver_rules.specs.Decide.{receiverInitiateOf}
 use borrow.Author.Needs.{needs}
 use Rattle.receiver_decide.proofs.request.initiate.Statement.{statement}
 use Rattle.receiver_decide.proofs.request.initiate.Tie as tie
 
 pub initiate-spec : {M : Type 1} → statement M
-unfolding initiateOf
+unfolding receiverInitiateOf
 initiate-spec =
     tie.close
     (tie.spec

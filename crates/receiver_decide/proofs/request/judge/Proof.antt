@@ -1,10 +1,10 @@
-use Rattle.receiver_rules.specs.Decide.{judgeOf}
+use Rattle.receiver_rules.specs.Decide.{receiverVerdictOf}
 use borrow.Author.Needs.{needs}
 use Rattle.receiver_decide.proofs.request.judge.Statement.{statement}
 use Rattle.receiver_decide.proofs.request.judge.Tie as tie
 
 pub judge-spec : {M : Type 1} → statement M
-unfolding judgeOf
+unfolding receiverVerdictOf
 judge-spec =
     tie.close
     (tie.spec

@@ -1,11 +1,11 @@
 use Rattle.basis.specs.Pick.{tests}
-use Rattle.receiver_rules.specs.Decide.{takeOf}
+use Rattle.receiver_rules.specs.Decide.{takeBlockOf}
 use borrow.Author.Needs.{needs}
 use Rattle.receiver_decide.proofs.request.take.Statement.{statement}
 use Rattle.receiver_decide.proofs.request.take.Tie as tie
 
 pub take-spec : {M : Type 1} → statement M
-unfolding takeOf
+unfolding takeBlockOf
 take-spec =
     tie.close
     (tie.spec

@@ -2,13 +2,13 @@ use mathlib.Core.Path.{_∙_, sym}
 use native.Mathlib.Omega.{arith}
 use Rattle.receiver_rules.proofs.Within.{within}
 use Rattle.basis.specs.Pick.{tests}
-use Rattle.receiver_rules.specs.Decide.{transferOf}
+use Rattle.receiver_rules.specs.Decide.{receiverTransferOf}
 use borrow.Author.Needs.{needs}
 use Rattle.receiver_decide.proofs.request.transfer.Statement.{statement}
 use Rattle.receiver_decide.proofs.request.transfer.Tie as tie
 
 pub transfer-spec : {M : Type 1} → statement M
-unfolding transferOf
+unfolding receiverTransferOf
 transfer-spec =
     tie.close
     (tie.spec

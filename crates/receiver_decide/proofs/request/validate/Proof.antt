@@ -1,10 +1,10 @@
-use Rattle.receiver_rules.specs.Decide.{validateOf}
+use Rattle.receiver_rules.specs.Decide.{receiverValidateOf}
 use borrow.Author.Needs.{needs}
 use Rattle.receiver_decide.proofs.request.validate.Statement.{statement}
 use Rattle.receiver_decide.proofs.request.validate.Tie as tie
 
 pub validate-spec : {M : Type 1} → statement M
-unfolding validateOf
+unfolding receiverValidateOf
 validate-spec =
     tie.close
     (tie.spec

@@ -1,10 +1,10 @@
-use Rattle.receiver_rules.specs.Pass.{expireOf}
+use Rattle.receiver_rules.specs.Tick.{receiverExpiryOf}
 use borrow.Author.Needs.{needs}
 use Rattle.receiver_decide.proofs.time.expire.Statement.{statement}
 use Rattle.receiver_decide.proofs.time.expire.Tie as tie
 
 pub expire-spec : {M : Type 1} → statement M
-unfolding expireOf
+unfolding receiverExpiryOf
 expire-spec =
     tie.close
     (tie.spec

@@ -1,10 +1,10 @@
-use Rattle.receiver_rules.specs.Pass.{passOf}
+use Rattle.receiver_rules.specs.Tick.{receiverTickOf}
 use borrow.Author.Needs.{needs}
 use Rattle.receiver_decide.proofs.time.pass.Statement.{statement}
 use Rattle.receiver_decide.proofs.time.pass.Tie as tie
 
 pub pass-spec : {M : Type 1} → statement M
-unfolding passOf
+unfolding receiverTickOf
 pass-spec =
     tie.close
     (tie.spec

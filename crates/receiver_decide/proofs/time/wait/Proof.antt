@@ -1,10 +1,10 @@
-use Rattle.receiver_rules.specs.Pass.{waitOf}
+use Rattle.receiver_rules.specs.Tick.{receiverSilenceOf}
 use borrow.Author.Needs.{needs}
 use Rattle.receiver_decide.proofs.time.wait.Statement.{statement}
 use Rattle.receiver_decide.proofs.time.wait.Tie as tie
 
 pub wait-spec : {M : Type 1} → statement M
-unfolding waitOf
+unfolding receiverSilenceOf
 wait-spec =
     tie.close
     (tie.spec

@@ -1,11 +1,11 @@
-use Rattle.recording.specs.Reading.{nextOf}
+use Rattle.recording.specs.Reading.{nextRecordOf}
 use Rattle.basis.specs.Pick.{tests}
 use borrow.Author.Needs.{needs}
 use Rattle.recording.proofs.reader.next.Statement.{statement}
 use Rattle.recording.proofs.reader.next.Tie as tie
 
 pub next-spec : {M : Type 1} → statement M
-unfolding nextOf
+unfolding nextRecordOf
 next-spec =
     tie.close
     (tie.spec

@@ -1,10 +1,10 @@
-use Rattle.recording.specs.Writing.{bytesOf, inNine}
+use Rattle.recording.specs.Writing.{recordBytesOf, inNine}
 use borrow.Author.Needs.{needs}
 use Rattle.recording.proofs.writer.nine_of.Statement.{statement}
 use Rattle.recording.proofs.writer.nine_of.Tie as tie
 
 pub nine-of-spec : {M : Type 1} → statement M
-unfolding bytesOf inNine
+unfolding recordBytesOf inNine
 nine-of-spec =
     tie.close
     (tie.spec

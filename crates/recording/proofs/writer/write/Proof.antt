@@ -4,13 +4,13 @@ use native.Mathlib.Omega.{arith}
 use mathlib.Core.Path.{_≡_, sym}
 use Rattle.recording.proofs.Wrote.{nine-fits, wrote}
 use Rattle.basis.specs.Pick.{tests}
-use Rattle.recording.specs.Writing.{writeOf}
+use Rattle.recording.specs.Writing.{recordWriteOf}
 use borrow.Author.Needs.{needs}
 use Rattle.recording.proofs.writer.write.Statement.{statement}
 use Rattle.recording.proofs.writer.write.Tie as tie
 
 pub write-spec : {M : Type 1} → statement M
-unfolding writeOf
+unfolding recordWriteOf
 write-spec =
     tie.close
     (tie.spec

@@ -5,14 +5,14 @@ use native.Mathlib.Omega.{arith}
 use denote.Ref.{now}
 use lib.ListN.{length, drop, drop-of-length-le}
 use Rattle.printing.specs.Digits.{figure}
-use Rattle.saying.specs.Decimal.{frontOf, decimalOf}
+use Rattle.saying.specs.Decimal.{frontOf, decimalTextOf}
 use Rattle.saying.proofs.Decimals.{drop-set, some-room, less-left, digit-more, digits-all}
 use borrow.Author.Needs.{needs}
 use Rattle.saying.proofs.decimal.spell.Statement.{statement}
 use Rattle.saying.proofs.decimal.spell.Tie as tie
 
 abbrev Inv-loop : tie.InvT-loop
-Inv-loop n out₀ from₀ rest₀ out from rest = (from ≤ 19) × (length out ≡ 20) × (rest < 10 ^ from) × (frontOf from rest (drop from out) ≡ decimalOf n)
+Inv-loop n out₀ from₀ rest₀ out from rest = (from ≤ 19) × (length out ≡ 20) × (rest < 10 ^ from) × (frontOf from rest (drop from out) ≡ decimalTextOf n)
 
 abbrev μ-loop : tie.MeasureT-loop
 μ-loop n out₀ from₀ rest₀ out from rest = from

@@ -12,5 +12,5 @@ says-spec =
     (λ c κs. search needs)
     (λ c κs. search needs)
     (λ c κs. search needs)
-    (λ c. search (← (c .before .before .notifies .ensures), c .before .before .before .telling .ensures, c .tells .ensures, tests))
+    (λ c. search (← (c .before .before .notifies .ensures), c .before .before .before .flat-status .ensures, c .is-status .ensures, tests))
     (λ c. search (← (c .before .notifies .ensures), tests)))

@@ -10,4 +10,4 @@ unpack-spec =
     (λ c κs. search needs)
     (λ c κs. search needs)
     (λ c κs. search needs)
-    (λ c. rw (c .before .before .before .flags-of .ensures, c .before .before .notifications-of .ensures, c .told .ensures, c .before .telling .ensures)))
+    (λ c. rw (c .before .before .before .flags-of .ensures, c .before .before .notifications-of .ensures, c .status .ensures, c .before .flat-status .ensures)))

@@ -33,4 +33,4 @@ turn-spec =
     (λ c κs. search needs)
     (λ c. search needs)
     (λ c. search needs)
-    (λ c. let g = c .before .before .before .before .before .before .before .before .before .before .before .before .before .before .before .before .before .before .args in let p = c .before .before .before .before .played in (p .ensures .0, λ e. onward (g .self .state) (now (g .buffer)) _ (g .self .held) (c .before .before .before .before .before .before .before .count .result) (length (now (g .out))) (p .result) _ (take-at (take (g .self .held) (now (g .buffer))) _ (g .self .held) (length-take-le (g .self .held) (now (g .buffer)) (omega (arith, c .before .before .before .before .before .before .before .before .before .before .before .before .before .before .before .before .before .before .pre)))) (p .ensures .1 e))))
+    (λ c. let g = c .before .before .before .before .before .before .before .before .before .before .before .before .before .before .before .before .before .before .args in let p = c .before .before .before .before .played in (p .ensures .0, λ e. onward (g .self .mailbox) (now (g .buffer)) _ (g .self .held) (c .before .before .before .before .before .before .before .count .result) (length (now (g .out))) (p .result) _ (take-at (take (g .self .held) (now (g .buffer))) _ (g .self .held) (length-take-le (g .self .held) (now (g .buffer)) (omega (arith, c .before .before .before .before .before .before .before .before .before .before .before .before .before .before .before .before .before .before .pre)))) (p .ensures .1 e))))

@@ -1,0 +1,26 @@
+use Rattle.mailbox_state.specs.Status.{runsOf}
+use borrow.Author.Needs.{needs}
+use Rattle.mailbox_decide.proofs.status.runs.Statement.{statement}
+use Rattle.mailbox_decide.proofs.status.runs.Tie as tie
+
+pub runs-spec : {M : Type 1} → statement M
+unfolding runsOf
+runs-spec =
+    tie.close
+    (tie.spec
+    (λ c. search needs)
+    (λ c. search needs)
+    (λ c. search needs)
+    (λ c. search needs)
+    (λ c. search needs)
+    (λ c. search needs)
+    (λ c. search needs)
+    (λ c. search needs)
+    (λ c. rw (c .enum-told .given .1))
+    (λ c. rw (c .enum-told2 .given .1))
+    (λ c. rw (c .enum-told3 .given .1))
+    (λ c. rw (c .enum-told4 .given .1))
+    (λ c. rw (c .enum-told5 .given .1))
+    (λ c. rw (c .enum-told6 .given .1))
+    (λ c. rw (c .enum-told7 .given .1))
+    (λ c. rw (c .enum-told8 .given .1)))

@@ -1,0 +1,35 @@
+-- Time: in Transfer and Await, silence grows. At the limit, while resends are left, a DATA response is sent; with none left: Idle
+-- (01, The receiver's phases).
+use Prim.Native.Nat.{ℕ}
+use Rattle.silence.specs.Expiry.{grownOf}
+use Rattle.silence.specs.declared.Settings.{Settings}
+use Rattle.silence.specs.declared.Grown.{Grown}
+use Rattle.silence.specs.declared.Event.{Event}
+use Rattle.silence.specs.declared.Event.the-variants.{Quiet, Resend, NoneLeft}
+use Rattle.receiver_state.specs.declared.phase.Phase.{Phase}
+use Rattle.receiver_state.specs.declared.phase.Phase.the-variants.{Idle, Transfer, Await, Good}
+use Rattle.receiver_state.specs.declared.answer.Answer.{Answer}
+use Rattle.receiver_state.specs.declared.answer.Answer.the-variants.{Asking, Closed, Passed}
+use Rattle.receiver_state.specs.declared.step.Tick.{Tick}
+
+abbrev pub tick : Phase → ℕ → ℕ → Answer → Tick
+tick phase silence resends answer = record { phase = phase; silence = silence; resends = resends; answer = answer }
+
+-- `again` is what a resend sends.
+unfoldable pub receiverExpiryOf : Phase → Answer → ℕ → ℕ → Event → Tick
+receiverExpiryOf phase again silence resends Quiet = tick phase silence resends Passed
+receiverExpiryOf phase again silence resends Resend = tick phase silence resends again
+receiverExpiryOf phase again silence resends NoneLeft = tick Idle silence resends Passed
+
+abbrev receiverExpiredOf : Phase → Answer → Grown → Tick
+receiverExpiredOf phase again grown = receiverExpiryOf phase again (grown .silence) (grown .resends) (grown .event)
+
+unfoldable pub receiverSilenceOf : Phase → Answer → ℕ → ℕ → ℕ → Settings → Tick
+receiverSilenceOf phase again silence elapsed made settings = receiverExpiredOf phase again (grownOf silence elapsed made settings)
+
+-- Transfer asks for the next number with wait 0, Await repeats the closing answer; in Idle and Good nothing changes.
+unfoldable pub receiverTickOf : Phase → ℕ → ℕ → ℕ → Settings → Tick
+receiverTickOf Idle silence elapsed made settings = tick Idle silence made Passed
+receiverTickOf (Transfer p) silence elapsed made settings = receiverSilenceOf (Transfer p) (Asking 0 (p .accepted .blocks)) silence elapsed made settings
+receiverTickOf (Await a) silence elapsed made settings = receiverSilenceOf (Await a) (Closed (a .blocks)) silence elapsed made settings
+receiverTickOf (Good a) silence elapsed made settings = tick (Good a) silence made Passed
