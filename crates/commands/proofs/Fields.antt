@@ -2,15 +2,16 @@
 use Prim.Native.Nat.{ℕ, _+_, _*_, _/_, _%_, _<_}
 use mathlib.Core.Bool.{Bool}
 use mathlib.Core.List.{List, _∷_}
-use mathlib.Core.Path.{_≡_, _∙_, sym, ap}
+use mathlib.Core.Logic.{_⊎_, inl, inr}
+use mathlib.Core.Path.{_≡_, refl, _∙_, sym, ap}
 use native.Mathlib.Nat.{add-zero}
 use native.Mathlib.Omega.{arith}
-use borrow.Author.Tests.{eq-eqb, ne-eqb}
 use lib.Dec.{eqb}
 use lib.ListN.{length}
-use Rattle.basis.specs.Pick.{pick-yes, pick-no}
+use Rattle.basis.specs.Pick.{pick-yes, pick-no, pick-all, eq-differ, ne-differ}
 use Rattle.commands.specs.Control.{field, isSet, fieldsOf, controlOf}
 use Rattle.commands.specs.declared.control.Control.{Control}
+use Rattle.commands.specs.declared.control.Parsed.{Parsed}
 use Rattle.commands.specs.declared.control.Parsed.the-variants.{Fields, WrongLength}
 
 abbrev control : ℕ → ℕ → ℕ → ℕ → Bool → Bool → Control
@@ -100,8 +101,12 @@ in-bytes code any low high rest hc hl hh =
 -- Every CONTROL of 8 bytes is taken apart, and no other.
 pub eight-read : (b : List ℕ) → length b ≡ 8 → controlOf b ≡ Fields (fieldsOf b)
 unfolding controlOf
-eight-read b e = pick-yes _ _ _ (eq-eqb (length b) 8 e)
+eight-read b e = pick-no _ _ _ (eq-differ (length b) 8 e)
 
 pub others-not : (b : List ℕ) → (length b ≡ 8 → ⊥) → controlOf b ≡ WrongLength
 unfolding controlOf
-others-not b h = pick-no _ _ _ (ne-eqb (length b) 8 h)
+others-not b h = pick-yes _ _ _ (ne-differ (length b) 8 h)
+
+pub eight-or-not : (b : List ℕ) → (controlOf b ≡ Fields (fieldsOf b)) ⊎ (controlOf b ≡ WrongLength)
+unfolding controlOf
+eight-or-not b = pick-all (λ (p : Parsed). (p ≡ Fields (fieldsOf b)) ⊎ (p ≡ WrongLength)) _ _ _ (λ y. inr refl) (λ n. inl refl)

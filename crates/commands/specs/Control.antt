@@ -4,7 +4,7 @@ use mathlib.Core.List.{List}
 use mathlib.Core.Bool.{Bool}
 use lib.ListN.{length, getD}
 use lib.Dec.{eqb}
-use Rattle.basis.specs.Pick.{pick}
+use Rattle.basis.specs.Pick.{pick, differ}
 use Rattle.commands.specs.declared.control.Control.{Control}
 use Rattle.commands.specs.declared.control.Parsed.{Parsed}
 use Rattle.commands.specs.declared.control.Parsed.the-variants.{Fields, WrongLength}
@@ -38,4 +38,4 @@ fieldsOf b =
     }
 
 unfoldable pub controlOf : List ℕ → Parsed
-controlOf b = pick (eqb (length b) controlSize) (Fields (fieldsOf b)) WrongLength
+controlOf b = pick (differ (length b) controlSize) WrongLength (Fields (fieldsOf b))

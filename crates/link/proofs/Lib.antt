@@ -2,5 +2,4 @@ pub mod Kept
 pub mod Receivers
 pub mod Indoors
 pub mod Mailboxes
-pub mod Handing
 pub mod Unique

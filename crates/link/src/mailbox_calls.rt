@@ -1,15 +1,13 @@
-// The mailbox's calls for C: each is the mailbox's own, on the state that the numbers say. A refused write or report hands the state back
-// as it came.
+// The mailbox's calls for C: each is the mailbox's own, on the state that the numbers say.
 use crate::NO_SUCH_STATE;
 use mailbox_flat::FlatMailbox;
-use mailbox_state::connectors::Connectors;
-use mailbox_state::connectors::Counted;
 use mailbox_state::mailbox::Mailbox;
 use mailbox_state::mailbox::Outcome;
-use mailbox_state::step::Clears;
 use mailbox_state::step::Step;
 ghost use mathlib.Core.Path.{_≡_};
-ghost use Rattle.link.specs.Mailbox.{flatMailboxOf, emptiesOf, keptOf, emptiedOf, noMailbox, flatMailboxMade, packedFresh, harsolvekMailboxFresh, harsolvekMailboxWrite, harsolvekMailboxSuccess, harsolvekMailboxFailure, harsolvekMailboxChange, harsolvekMailboxCci, harsolvekMailboxMessageIn};
+ghost use Rattle.mailbox_rules.specs.Events.{stepReturns};
+ghost use Rattle.mailbox_flat.specs.Flat.{unpackOf};
+ghost use Rattle.link.specs.Mailbox.{flatMailboxOf, noMailbox, harsolvekMailboxFresh, harsolvekMailboxWrite, harsolvekMailboxSuccess, harsolvekMailboxFailure, harsolvekMailboxChange, harsolvekMailboxCci, harsolvekMailboxMessageIn};
 
 #[repr(C)]
 pub struct MailboxOutcome {
@@ -39,42 +37,19 @@ fn flat(outcome: Outcome) -> MailboxOutcome
     MailboxOutcome { state, number }
 }
 
-// MESSAGE_IN goes straight from the old state to the next one: in the outcome of the mailbox's own call it would be copied on the way.
-fn kept(state: FlatMailbox, step: Step) -> MailboxOutcome
-    ensures { λ r. ⌜ r ≡ keptOf state step ⌝ }
+// MESSAGE_IN goes straight from the old state to the next one, by the routine that settles every step.
+fn settled(state: FlatMailbox, step: Step, bytes: &[u8]) -> MailboxOutcome
+    ensures { λ r. ⌜ r ≡ flatMailboxOf (stepReturns (unpackOf state) step (now (bytes .entry))) ⌝ }
 {
-    let message = state.message_in;
-    let state = step.state;
+    let mut message = state.message_in;
+    let effect = step.effect;
+    mailbox::settle(&mut message, effect, bytes);
     let answer = step.answer;
+    let state = step.state;
     flat(Outcome {
         mailbox: Mailbox { state, message },
         answer,
     })
-}
-
-fn emptied(step: Step) -> MailboxOutcome
-    ensures { λ r. ⌜ r ≡ emptiedOf step ⌝ }
-{
-    let state = step.state;
-    let answer = step.answer;
-    flat(Outcome {
-        mailbox: Mailbox {
-            state,
-            message: [0; 256],
-        },
-        answer,
-    })
-}
-
-fn empties(clears: Clears) -> bool
-    ensures { λ r. ⌜ r ≡ emptiesOf clears ⌝ }
-{
-    match clears {
-        Clears::Nothing => false,
-        Clears::Reset => true,
-        Clears::Cancel => true,
-        Clears::NoData => true,
-    }
 }
 
 fn no_mailbox(state: FlatMailbox) -> MailboxOutcome
@@ -90,26 +65,13 @@ fn no_mailbox(state: FlatMailbox) -> MailboxOutcome
 pub extern "C" fn harsolvek_mailbox_fresh(connectors: u8) -> MailboxOutcome
     ensures { λ r. ⌜ r ≡ harsolvekMailboxFresh connectors ⌝ }
 {
-    let counted = mailbox_decide::counted(connectors);
-    let number = mailbox_decide::counted_number(counted);
-    let state = made(counted);
-    MailboxOutcome { state, number }
-}
-
-fn made(counted: Counted) -> FlatMailbox
-    ensures { λ r. ⌜ r ≡ flatMailboxMade counted ⌝ }
-{
-    match counted {
-        Counted::Made(connectors) => fresh(connectors),
-        Counted::Refused => FlatMailbox::none(),
+    let fresh = mailbox::fresh(connectors);
+    let mailbox = fresh.mailbox;
+    let state = FlatMailbox::pack(mailbox);
+    MailboxOutcome {
+        state,
+        number: fresh.number,
     }
-}
-
-fn fresh(connectors: Connectors) -> FlatMailbox
-    ensures { λ r. ⌜ r ≡ packedFresh connectors ⌝ }
-{
-    let mailbox = mailbox::fresh(connectors);
-    FlatMailbox::pack(mailbox)
 }
 
 #[no_mangle]
@@ -118,18 +80,8 @@ pub extern "C" fn harsolvek_mailbox_write(state: FlatMailbox, control: &[u8]) ->
 {
     if state.is_mailbox() {
         let mailbox = state.unpack();
-        let held = mailbox.state;
-        let step = mailbox::write_step(held, control);
-        let answer = step.answer;
-        let number = mailbox_decide::answer_number(answer);
-        if number != 0 {
-            return MailboxOutcome { state, number };
-        }
-        let clears = step.clears;
-        if empties(clears) {
-            return emptied(step);
-        }
-        return kept(state, step);
+        let step = mailbox::write_step(mailbox.state, control);
+        return settled(state, step, b"");
     }
     no_mailbox(state)
 }
@@ -140,13 +92,8 @@ pub extern "C" fn harsolvek_mailbox_success(state: FlatMailbox, bytes: &[u8]) ->
 {
     if state.is_mailbox() {
         let mailbox = state.unpack();
-        let outcome = mailbox::report_success(mailbox, bytes);
-        let answer = outcome.answer;
-        let number = mailbox_decide::answer_number(answer);
-        if number != 0 {
-            return MailboxOutcome { state, number };
-        }
-        return flat(outcome);
+        let step = mailbox_decide::succeed(mailbox.state, bytes.len());
+        return settled(state, step, bytes);
     }
     no_mailbox(state)
 }
@@ -157,14 +104,8 @@ pub extern "C" fn harsolvek_mailbox_failure(state: FlatMailbox) -> MailboxOutcom
 {
     if state.is_mailbox() {
         let mailbox = state.unpack();
-        let held = mailbox.state;
-        let step = mailbox_decide::fail(held);
-        let answer = step.answer;
-        let number = mailbox_decide::answer_number(answer);
-        if number != 0 {
-            return MailboxOutcome { state, number };
-        }
-        return emptied(step);
+        let step = mailbox_decide::fail(mailbox.state);
+        return settled(state, step, b"");
     }
     no_mailbox(state)
 }
@@ -179,9 +120,8 @@ pub extern "C" fn harsolvek_mailbox_change(
 {
     if state.is_mailbox() {
         let mailbox = state.unpack();
-        let held = mailbox.state;
-        let step = mailbox_decide::change(held, connector, reason);
-        return kept(state, step);
+        let step = mailbox_decide::change(mailbox.state, connector, reason);
+        return settled(state, step, b"");
     }
     no_mailbox(state)
 }

@@ -1,20 +1,29 @@
-// A fresh mailbox, what is read of one, and how a step that was decided is settled on it.
-use mailbox_state::answer::Answer;
-use mailbox_state::connectors::Connectors;
+// How a mailbox starts, and what is read of one.
+use mailbox_state::mailbox::Fresh;
 use mailbox_state::mailbox::Mailbox;
-use mailbox_state::mailbox::Outcome;
 use mailbox_state::state::Changes;
 use mailbox_state::state::Notifications;
 use mailbox_state::state::State;
 use mailbox_state::status::CommandStatus;
-use mailbox_state::step::Clears;
-use mailbox_state::step::Step;
 ghost use mathlib.Core.Path.{_≡_};
-ghost use Rattle.mailbox_rules.specs.Mailbox.{mailboxFreshOf, messageInOf, mailboxCciOf, mailboxKept, clearedOf, settledOf};
+ghost use Rattle.mailbox_rules.specs.Mailbox.{freshMailbox, mailboxFreshOf, messageInOf, mailboxCciOf};
 
-// CCI 0, notifications off, nothing shown, nothing running.
-pub fn fresh(connectors: Connectors) -> Mailbox
-    ensures { λ r. ⌜ r ≡ mailboxFreshOf connectors ⌝ }
+// 29 for a count that no mailbox has (01, The mailbox); what is returned beside it has no connector.
+pub fn fresh(count: u8) -> Fresh
+    ensures { λ r. ⌜ r ≡ mailboxFreshOf count ⌝ }
+{
+    let number = mailbox_decide::connectors_number(count);
+    if number != 0 {
+        let mailbox = with_connectors(0);
+        return Fresh { mailbox, number };
+    }
+    let mailbox = with_connectors(count);
+    Fresh { mailbox, number: 0 }
+}
+
+// CCI 0, notifications off, none shown, nothing running.
+fn with_connectors(count: u8) -> Mailbox
+    ensures { λ r. ⌜ r ≡ freshMailbox count ⌝ }
 {
     let changes = Changes {
         shown: 0,
@@ -22,7 +31,7 @@ pub fn fresh(connectors: Connectors) -> Mailbox
     };
     Mailbox {
         state: State {
-            connectors: connectors.count,
+            connectors: count,
             notifications: Notifications::Off,
             status: CommandStatus::Nothing,
             changes,
@@ -43,38 +52,4 @@ pub fn message_in(mailbox: Mailbox) -> [u8; 256]
     ensures { λ r. ⌜ r ≡ messageInOf mailbox ⌝ }
 {
     mailbox.message
-}
-
-pub(crate) fn kept(mailbox: Mailbox, answer: Answer) -> Outcome
-    ensures { λ r. ⌜ r ≡ mailboxKept mailbox answer ⌝ }
-{
-    Outcome {
-        mailbox: mailbox,
-        answer,
-    }
-}
-
-// The step that was decided, with MESSAGE_IN cleared where it says so.
-pub(crate) fn settled(mailbox: Mailbox, step: Step) -> Outcome
-    ensures { λ r. ⌜ r ≡ settledOf mailbox step ⌝ }
-{
-    let state = step.state;
-    let answer = step.answer;
-    let clears = step.clears;
-    let message = cleared(mailbox, clears);
-    Outcome {
-        mailbox: Mailbox { state, message },
-        answer,
-    }
-}
-
-fn cleared(mailbox: Mailbox, clears: Clears) -> [u8; 256]
-    ensures { λ r. ⌜ r ≡ clearedOf (messageInOf mailbox) clears ⌝ }
-{
-    match clears {
-        Clears::Nothing => mailbox.message,
-        Clears::Reset => [0; 256],
-        Clears::Cancel => [0; 256],
-        Clears::NoData => [0; 256],
-    }
 }

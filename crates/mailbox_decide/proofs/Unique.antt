@@ -8,10 +8,9 @@ use Rattle.mailbox_rules.specs.Change.{changeStepOf}
 use Rattle.mailbox_rules.specs.Report.{successStepOf, failureStepOf}
 use Rattle.mailbox_rules.specs.Write.{controlStepOf}
 use Rattle.mailbox_state.specs.Answer.{mailboxNumberOf}
-use Rattle.mailbox_state.specs.Connectors.{countedOf, connectorsNumberOf}
+use Rattle.mailbox_state.specs.Connectors.{connectorsNumberOf}
 use Rattle.mailbox_state.specs.Step.{refused}
 use Rattle.mailbox_state.specs.declared.answer.Answer.{Answer}
-use Rattle.mailbox_state.specs.declared.connectors.Counted.{Counted}
 use Rattle.mailbox_state.specs.declared.state.State.{State}
 use Rattle.mailbox_state.specs.declared.status.CommandStatus.{CommandStatus}
 use Rattle.mailbox_state.specs.declared.step.Step.{Step}
@@ -34,17 +33,11 @@ pub one-write : (state : State) (control : Control) (r r′ : Step)
     → r ≡ r′
 one-write state control r r′ is is′ = only is is′
 
-pub one-counted : (count : ℕ) (r r′ : Counted)
-    → r ≡ countedOf count
-    → r′ ≡ countedOf count
+pub one-connectors-number : (count r r′ : ℕ)
+    → r ≡ connectorsNumberOf count
+    → r′ ≡ connectorsNumberOf count
     → r ≡ r′
-one-counted count r r′ is is′ = only is is′
-
-pub one-counted-number : (counted : Counted) (r r′ : ℕ)
-    → r ≡ connectorsNumberOf counted
-    → r′ ≡ connectorsNumberOf counted
-    → r ≡ r′
-one-counted-number counted r r′ is is′ = only is is′
+one-connectors-number count r r′ is is′ = only is is′
 
 pub one-change : (state : State) (connector reason : ℕ) (r r′ : Step)
     → r ≡ changeStepOf state connector reason

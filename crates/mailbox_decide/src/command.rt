@@ -3,6 +3,7 @@ use crate::answer::answer_number;
 use crate::changes::next;
 use crate::notice::there;
 use crate::refusal::refusal;
+use crate::refusal::situation;
 use crate::step::refused;
 use commands::control::Control;
 use commands::table::Class;
@@ -13,12 +14,14 @@ use mailbox_state::state::Notifications;
 use mailbox_state::state::State;
 use mailbox_state::status::Command;
 use mailbox_state::status::CommandStatus;
-use mailbox_state::step::Clears;
+use mailbox_state::step::MessageEffect;
 use mailbox_state::step::Step;
 ghost use mathlib.Core.Path.{_≡_};
 ghost use Rattle.basis.specs.Pick.{pick};
 ghost use Rattle.mailbox_rules.specs.Changes.{nextShownOf};
 ghost use Rattle.mailbox_rules.specs.Write.{withStatus, resets, acknowledges, enables, commandOf, startsCommand, takenStepOf, controlStepOf};
+ghost use Rattle.mailbox_state.specs.Step.{mailboxStep};
+ghost use Rattle.mailbox_state.specs.declared.answer.Answer.the-variants.{Taken};
 
 // 002, Table A-1.
 const CONNECTOR_RESET: u8 = 0x03;
@@ -28,7 +31,7 @@ pub fn write(state: State, control: Control) -> Step
 {
     let entry = look(control.code);
     let class = entry.class;
-    let answer = refusal(state, class, control);
+    let answer = refusal(class, situation(state, control));
     if answer_number(answer) != 0 {
         return refused(state, answer);
     }
@@ -40,16 +43,25 @@ fn taken(state: State, class: Class, needs: bool, control: Control) -> Step
 {
     match class {
         Class::Reset => reset(state),
-        Class::Cancel => tell(state, CommandStatus::Cancelled, Clears::Cancel),
+        Class::Cancel => with_status(
+            state,
+            CommandStatus::Cancelled,
+            MessageEffect::ZeroedAtCancel,
+        ),
         Class::Acknowledge => acknowledge(state, control.change),
         Class::Enable => enable(state, control.mask),
-        Class::Run => begin(state, needs, control),
-        Class::NotSupported => tell(state, CommandStatus::NotSupported, Clears::NoData),
+        Class::Run => start(state, needs, control),
+        Class::NotSupported => with_status(
+            state,
+            CommandStatus::NotSupported,
+            MessageEffect::ZeroedAtCompletion,
+        ),
     }
 }
 
-pub(crate) fn tell(state: State, status: CommandStatus, clears: Clears) -> Step
-    ensures { λ r. ⌜ r ≡ withStatus state status clears ⌝ }
+// A taken event after which only the status is another one.
+pub(crate) fn with_status(state: State, status: CommandStatus, effect: MessageEffect) -> Step
+    ensures { λ r. ⌜ r ≡ mailboxStep (withStatus state status) Taken effect ⌝ }
 {
     let notifications = state.notifications;
     let changes = state.changes;
@@ -61,7 +73,7 @@ pub(crate) fn tell(state: State, status: CommandStatus, clears: Clears) -> Step
             changes,
         },
         answer: Answer::Taken,
-        clears,
+        effect,
     }
 }
 
@@ -80,7 +92,7 @@ fn reset(state: State) -> Step
             changes,
         },
         answer: Answer::Taken,
-        clears: Clears::Reset,
+        effect: MessageEffect::ZeroedAtReset,
     }
 }
 
@@ -97,7 +109,7 @@ fn acknowledge(state: State, change: bool) -> Step
             changes: after(changes, change),
         },
         answer: Answer::Taken,
-        clears: Clears::Nothing,
+        effect: MessageEffect::Kept,
     }
 }
 
@@ -123,21 +135,25 @@ fn enable(state: State, mask: u16) -> Step
             changes,
         },
         answer: Answer::Taken,
-        clears: Clears::NoData,
+        effect: MessageEffect::ZeroedAtCompletion,
     }
 }
 
-fn begin(state: State, needs: bool, control: Control) -> Step
+fn start(state: State, needs: bool, control: Control) -> Step
     ensures { λ r. ⌜ r ≡ startsCommand state needs control ⌝ }
 {
     let there = there(control.connector, state.connectors);
     if needs & !there {
-        return tell(state, CommandStatus::Failed, Clears::NoData);
+        return with_status(
+            state,
+            CommandStatus::Failed,
+            MessageEffect::ZeroedAtCompletion,
+        );
     }
-    tell(
+    with_status(
         state,
         CommandStatus::Busy(command(needs, control)),
-        Clears::Nothing,
+        MessageEffect::Kept,
     )
 }
 

@@ -1,31 +1,19 @@
-// How many connectors a mailbox has: 1 to 8, fixed at its start; other counts: 29 (01, The mailbox).
-use mailbox_state::connectors::Connectors;
-use mailbox_state::connectors::Counted;
+// How many connectors a mailbox may have: 1 to 8, fixed at its start; other counts: 29 (01, The mailbox).
 ghost use mathlib.Core.Path.{_≡_};
-ghost use Rattle.mailbox_state.specs.Connectors.{countedOf, connectorsNumberOf};
+ghost use Rattle.mailbox_state.specs.Connectors.{connectorsNumberOf};
 
 const LEAST: u8 = 1;
 
 const MOST: u8 = 8;
 
-pub fn counted(count: u8) -> Counted
-    ensures { λ r. ⌜ r ≡ countedOf count ⌝ }
+pub fn connectors_number(count: u8) -> u8
+    ensures { λ r. ⌜ r ≡ connectorsNumberOf count ⌝ }
 {
     if count < LEAST {
-        return Counted::Refused;
+        return 29;
     }
     if MOST < count {
-        return Counted::Refused;
+        return 29;
     }
-    Counted::Made(Connectors { count })
-}
-
-// 01, Numbers we answer.
-pub fn counted_number(counted: Counted) -> u8
-    ensures { λ r. ⌜ r ≡ connectorsNumberOf counted ⌝ }
-{
-    match counted {
-        Counted::Made(_) => 0,
-        Counted::Refused => 29,
-    }
+    0
 }

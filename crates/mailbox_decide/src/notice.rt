@@ -4,7 +4,7 @@ use crate::step::refused;
 use mailbox_state::answer::Answer;
 use mailbox_state::state::Notifications;
 use mailbox_state::state::State;
-use mailbox_state::step::Clears;
+use mailbox_state::step::MessageEffect;
 use mailbox_state::step::Step;
 ghost use mathlib.Core.Path.{_≡_};
 ghost use Rattle.mailbox_rules.specs.Change.{meetsOf, heardOf, recordsChange, presentStepOf, changeStepOf};
@@ -13,25 +13,25 @@ ghost use Rattle.mailbox_rules.specs.Write.{connectorThere};
 pub fn change(state: State, connector: u8, reason: u16) -> Step
     ensures { λ r. ⌜ r ≡ changeStepOf state connector reason ⌝ }
 {
-    if there(connector, state.connectors) {
-        return present(state, connector, reason);
+    if !there(connector, state.connectors) {
+        return refused(state, Answer::NoSuchConnector);
     }
-    refused(state, Answer::NoSuchConnector)
+    present(state, connector, reason)
 }
 
-// What is not heard is dropped with answer 0.
+// A change that is not heard is dropped with answer 0.
 fn present(state: State, connector: u8, reason: u16) -> Step
     ensures { λ r. ⌜ r ≡ presentStepOf state connector reason ⌝ }
 {
     let notifications = state.notifications;
-    if heard(notifications, reason) {
-        return note(state, connector);
+    if !heard(notifications, reason) {
+        return Step {
+            state,
+            answer: Answer::Taken,
+            effect: MessageEffect::Kept,
+        };
     }
-    Step {
-        state,
-        answer: Answer::Taken,
-        clears: Clears::Nothing,
-    }
+    note(state, connector)
 }
 
 fn heard(notifications: Notifications, reason: u16) -> bool
@@ -64,7 +64,7 @@ fn note(state: State, connector: u8) -> Step
             changes: noted(changes, connector),
         },
         answer: Answer::Taken,
-        clears: Clears::Nothing,
+        effect: MessageEffect::Kept,
     }
 }
 

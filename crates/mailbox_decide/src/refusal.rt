@@ -1,46 +1,51 @@
-// Which refusal a write meets (01, Numbers we answer), by what the mailbox is doing and the command's class.
+// Which refusal a write meets (01, Numbers we answer), by the mailbox's situation and the command's class.
 use crate::status::due;
 use crate::status::off;
 use crate::status::runs;
 use commands::control::Control;
 use commands::table::Class;
 use mailbox_state::answer::Answer;
+use mailbox_state::situation::Situation;
 use mailbox_state::state::State;
 ghost use mathlib.Core.Path.{_≡_};
 ghost use mathlib.Core.Bool.{true, false};
 ghost use Rattle.commands.specs.declared.table.Class.the-variants.{Acknowledge};
-ghost use Rattle.mailbox_rules.specs.Refusal.{clearsNothing, judgedOf, refusalOf, unheardOf, stoppedOf};
+ghost use Rattle.mailbox_rules.specs.Refusal.{situationOf, clearsNothing, refusalOf, runsWhileOff, stoppedOf};
 
-pub(crate) fn refusal(state: State, class: Class, control: Control) -> Answer
-    ensures { λ r. ⌜ r ≡ refusalOf state class control ⌝ }
+pub(crate) fn situation(state: State, control: Control) -> Situation
+    ensures { λ r. ⌜ r ≡ situationOf state control ⌝ }
 {
     let status = state.status;
     let notifications = state.notifications;
-    let off = off(notifications);
-    if runs(status) {
-        return in_run(class, off);
+    Situation {
+        off: off(notifications),
+        runs: runs(status),
+        due: due(status),
+        shown: state.changes.shown != 0,
+        change: control.change,
+        completed: control.completed,
     }
-    let shown = state.changes.shown != 0;
-    outside(
-        class,
-        off,
-        due(status),
-        shown,
-        control.change,
-        control.completed,
-    )
 }
 
-// What else is so does not matter in a run.
-fn in_run(class: Class, off: bool) -> Answer
-    ensures { λ r. ⌜ r ≡ judgedOf class off true false false false false ⌝ }
+pub(crate) fn refusal(class: Class, situation: Situation) -> Answer
+    ensures { λ r. ⌜ r ≡ refusalOf class situation ⌝ }
 {
-    if off {
-        return unheard(class);
+    if situation.runs {
+        return in_run(class, situation);
+    }
+    outside(class, situation)
+}
+
+fn in_run(class: Class, situation: Situation) -> Answer
+    requires { ⌜ situation .runs ≡ true ⌝ }
+    ensures { λ r. ⌜ r ≡ refusalOf class situation ⌝ }
+{
+    if situation.off {
+        return runs_while_off(class);
     }
     match class {
         Class::Reset => Answer::Taken,
-        Class::Cancel => Answer::Taken,
+        Class::Cancel => stopped(false, situation.due, Answer::Taken),
         Class::Acknowledge => Answer::CommandRuns,
         Class::Enable => Answer::CommandRuns,
         Class::Run => Answer::CommandRuns,
@@ -48,9 +53,9 @@ fn in_run(class: Class, off: bool) -> Answer
     }
 }
 
-// A command that runs while notifications are off: 0x05 is 3, everything else but PPM_RESET is 2.
-fn unheard(class: Class) -> Answer
-    ensures { λ r. ⌜ r ≡ unheardOf class ⌝ }
+// A command that runs while notifications are off, which no event leads to: 0x05 is 3, everything else but PPM_RESET is 2.
+fn runs_while_off(class: Class) -> Answer
+    ensures { λ r. ⌜ r ≡ runsWhileOff class ⌝ }
 {
     match class {
         Class::Reset => Answer::Taken,
@@ -62,16 +67,17 @@ fn unheard(class: Class) -> Answer
     }
 }
 
-fn outside(class: Class, off: bool, due: bool, shown: bool, change: bool, completed: bool) -> Answer
-    ensures { λ r. ⌜ r ≡ judgedOf class off false due shown change completed ⌝ }
+fn outside(class: Class, situation: Situation) -> Answer
+    requires { ⌜ situation .runs ≡ false ⌝ }
+    ensures { λ r. ⌜ r ≡ refusalOf class situation ⌝ }
 {
     match class {
         Class::Reset => Answer::Taken,
-        Class::Cancel => stopped(off, due, Answer::NothingToCancel),
-        Class::Acknowledge => acknowledge(off, due, shown, change, completed),
-        Class::Enable => stopped(false, due, Answer::Taken),
-        Class::Run => stopped(off, due, Answer::Taken),
-        Class::NotSupported => stopped(off, due, Answer::Taken),
+        Class::Cancel => stopped(situation.off, situation.due, Answer::NothingToCancel),
+        Class::Acknowledge => acknowledge(situation),
+        Class::Enable => stopped(false, situation.due, Answer::Taken),
+        Class::Run => stopped(situation.off, situation.due, Answer::Taken),
+        Class::NotSupported => stopped(situation.off, situation.due, Answer::Taken),
     }
 }
 
@@ -87,18 +93,22 @@ fn stopped(off: bool, due: bool, otherwise: Answer) -> Answer
     otherwise
 }
 
-fn acknowledge(off: bool, due: bool, shown: bool, change: bool, completed: bool) -> Answer
-    ensures { λ r. ⌜ r ≡ judgedOf Acknowledge off false due shown change completed ⌝ }
+fn acknowledge(situation: Situation) -> Answer
+    requires { ⌜ situation .runs ≡ false ⌝ }
+    ensures { λ r. ⌜ r ≡ refusalOf Acknowledge situation ⌝ }
 {
-    if clears_nothing(due, shown, change, completed) {
-        return stopped(off, due & !completed, Answer::NothingToClear);
+    let due = situation.due & !situation.completed;
+    if clears_nothing(situation) {
+        return stopped(situation.off, due, Answer::NothingToClear);
     }
-    stopped(off, due & !completed, Answer::Taken)
+    stopped(situation.off, due, Answer::Taken)
 }
 
 // ACK with neither bit, or a bit with nothing to clear.
-fn clears_nothing(due: bool, shown: bool, change: bool, completed: bool) -> bool
-    ensures { λ r. ⌜ r ≡ clearsNothing due shown change completed ⌝ }
+fn clears_nothing(situation: Situation) -> bool
+    ensures { λ r. ⌜ r ≡ clearsNothing situation ⌝ }
 {
-    !(change | completed) | (change & !shown) | (completed & !due)
+    !(situation.change | situation.completed)
+        | (situation.change & !situation.shown)
+        | (situation.completed & !situation.due)
 }

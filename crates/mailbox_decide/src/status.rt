@@ -1,4 +1,4 @@
-// What is read off what the mailbox last told (01, The mailbox).
+// What is read off the status of the last command, and off the notifications (01, The mailbox).
 use mailbox_state::state::Notifications;
 use mailbox_state::status::CommandStatus;
 ghost use mathlib.Core.Path.{_≡_};

@@ -1,7 +1,7 @@
 // A refusal keeps everything.
 use mailbox_state::answer::Answer;
 use mailbox_state::state::State;
-use mailbox_state::step::Clears;
+use mailbox_state::step::MessageEffect;
 use mailbox_state::step::Step;
 ghost use mathlib.Core.Path.{_≡_};
 ghost use Rattle.mailbox_state.specs.Step.{refused};
@@ -12,6 +12,6 @@ pub fn refused(state: State, answer: Answer) -> Step
     Step {
         state,
         answer,
-        clears: Clears::Nothing,
+        effect: MessageEffect::Kept,
     }
 }

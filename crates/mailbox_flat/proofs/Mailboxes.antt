@@ -1,4 +1,4 @@
--- Numbers are taken for a mailbox's exactly where they are one in the paper's own numbers.
+-- The numbers are taken for a mailbox exactly where they are one in the paper's own numbers.
 use Prim.Native.Nat.{ℕ, zero, suc, _≤_}
 use mathlib.Core.Bool.{Bool, true, false, true≢false}
 use mathlib.Core.List.{List, [], _∷_}
@@ -8,9 +8,8 @@ use borrow.Author.Tests.{ltb-false, leb-true, eqb-true, eqb-false}
 use lib.Dec.{eqb, leb, ltb}
 use lib.ListN.{getD}
 use Rattle.basis.specs.Pick.{pick-all, pick-both, tests}
-use Rattle.mailbox_state.specs.Connectors.{connectorsLeast, connectorsMost, countedOf, connectorsNumberOf}
-use Rattle.mailbox_state.specs.declared.connectors.Counted.{Counted}
-use Rattle.mailbox_state.specs.declared.connectors.Counted.the-variants.{Made}
+use Rattle.mailbox_state.specs.Connectors.{connectorsNumberOf}
+use Rattle.mailbox_state.proofs.Numbers.{counted-0, counted-within}
 use Rattle.mailbox_flat.specs.Waiting.{areFlags}
 use Rattle.mailbox_flat.specs.Notifying.{notifiesOf}
 use Rattle.mailbox_flat.specs.Status.{idleOf, isRestOf, isStatusOf}
@@ -92,24 +91,10 @@ module _ (t : FlatStatus) where
       let rests : isRestOf t ≡ true = pick-all P (eqb (t .code) 3) _ _ (λ _. refl) (λ v. let none = s .completed-alone (eqb-false (t .code) 3 v) in search tests) in
       rw (rest, rests) (search tests))
 
-pub counted-within : (count : ℕ) → connectorsNumberOf (countedOf count) ≡ 0 → (1 ≤ count) × (count ≤ 8)
-unfolding countedOf
-counted-within count =
-    let P : Counted → Type 0 = λ x. connectorsNumberOf x ≡ 0 → (1 ≤ count) × (count ≤ 8) in
-    pick-all P (ltb count connectorsLeast) _ _ (λ _ e. absurd (omega arith))
-    (λ a. pick-all P (ltb connectorsMost count) _ _ (λ _ e. absurd (omega arith)) (λ b _. (ltb-false count connectorsLeast a, ltb-false connectorsMost count b)))
-
-pub within-made : (count : ℕ) → 1 ≤ count → count ≤ 8 → countedOf count ≡ Made (record { count = count })
-unfolding countedOf
-within-made count low high =
-    let some : connectorsLeast ≤ count = low in
-    let few : count ≤ connectorsMost = high in
-    search tests
-
 pub mailbox-whole : (f : FlatMailbox) → isMailbox f ≡ true → Whole f
 unfolding isMailbox saysOf
 mailbox-whole f e =
-    let a = pick-both (eqb (connectorsNumberOf (countedOf (f .connectors))) 0) _ e in
+    let a = pick-both (eqb (connectorsNumberOf (f .connectors)) 0) _ e in
     let b = pick-both (areFlags (f .waiting)) _ (a .1) in
     let c = pick-both (notifiesOf (f .notifications) (f .mask)) _ (b .1) in
     let count = counted-within (f .connectors) (eqb-true _ 0 (a .0)) in
@@ -127,7 +112,7 @@ pub whole-mailbox : (f : FlatMailbox) → Whole f → isMailbox f ≡ true
 unfolding isMailbox saysOf
 whole-mailbox f w =
     rw (
-      within-made (f .connectors) (w .least) (w .most),
+      counted-0 (f .connectors) (w .least) (w .most),
       each-flags (f .waiting) (w .flags),
       numbers-notify (f .notifications) (f .mask) (w .on) (w .off-no-mask),
       whole-status (stated f) (w .standing),

@@ -2,15 +2,9 @@
 use mathlib.Core.Bool.{Bool}
 use mathlib.Core.Path.{_≡_}
 use Rattle.basis.specs.Only.{only}
-use Rattle.mailbox_flat.specs.Flat.{none, packOf, unpackOf, isMailbox}
+use Rattle.mailbox_flat.specs.Flat.{packOf, unpackOf, isMailbox}
 use Rattle.mailbox_flat.specs.declared.flat.FlatMailbox.{FlatMailbox}
 use Rattle.mailbox_state.specs.declared.mailbox.Mailbox.{Mailbox}
-
-pub one-none : (r r′ : FlatMailbox)
-    → r ≡ none
-    → r′ ≡ none
-    → r ≡ r′
-one-none r r′ is is′ = only is is′
 
 pub one-pack : (mailbox : Mailbox) (r r′ : FlatMailbox)
     → r ≡ packOf mailbox

@@ -5,7 +5,7 @@ use mathlib.Core.List.{List}
 use lib.Dec.{eqb}
 use lib.ListN.{replicate}
 use Rattle.basis.specs.Pick.{pick}
-use Rattle.mailbox_state.specs.Connectors.{countedOf, connectorsNumberOf}
+use Rattle.mailbox_state.specs.Connectors.{connectorsNumberOf}
 use Rattle.mailbox_state.specs.State.{changes, mailboxState}
 use Rattle.mailbox_rules.specs.Mailbox.{mailbox}
 use Rattle.mailbox_state.specs.declared.mailbox.Mailbox.{Mailbox}
@@ -52,7 +52,7 @@ saysOf f = pick (notifiesOf (f .notifications) (f .mask)) (isStatusOf (stated f)
 
 -- Numbers of a mailbox: a count that it may have, flags, a mask only while notifications are on, and something that it tells.
 unfoldable pub isMailbox : FlatMailbox → Bool
-isMailbox f = pick (eqb (connectorsNumberOf (countedOf (f .connectors))) 0) (pick (areFlags (f .waiting)) (saysOf f) false) false
+isMailbox f = pick (eqb (connectorsNumberOf (f .connectors)) 0) (pick (areFlags (f .waiting)) (saysOf f) false) false
 
 -- All zero.
 abbrev pub none : FlatMailbox

@@ -38,8 +38,7 @@ impl FlatMailbox {
     pub fn is_mailbox(self) -> bool
         ensures { λ r. ⌜ r ≡ isMailbox self ⌝ }
     {
-        let counted = mailbox_decide::counted(self.connectors);
-        if mailbox_decide::counted_number(counted) != 0 {
+        if mailbox_decide::connectors_number(self.connectors) != 0 {
             return false;
         }
         let bytes = self.waiting;

@@ -3,8 +3,7 @@ use mathlib.Core.Bool.{Bool, true}
 use mathlib.Core.Logic.{_⊎_, inl, inr}
 use mathlib.Core.Path.{_≡_, refl, ap}
 use native.Mathlib.Omega.{arith}
-use borrow.Author.Tests.{eqb-true, eqb-false}
-use Rattle.basis.specs.Pick.{pick, pick-all}
+use Rattle.basis.specs.Pick.{pick, pick-all, differ-true, differ-false}
 use Rattle.commands.specs.Table.{entryOf}
 use Rattle.commands.proofs.Rows.{Named, named}
 use Rattle.commands.specs.declared.table.Class.{Class}
@@ -20,11 +19,11 @@ use Rattle.mailbox_state.specs.declared.status.CommandStatus.{CommandStatus}
 use Rattle.mailbox_state.specs.declared.status.CommandStatus.the-variants.{Nothing, ResetDone, Busy, Completed, Failed, NotSupported, Cancelled, Acknowledged}
 use Rattle.mailbox_state.specs.declared.state.Changes.{Changes}
 use Rattle.mailbox_state.specs.declared.state.State.{State}
-use Rattle.mailbox_state.specs.declared.step.Clears.{Clears}
-use Rattle.mailbox_state.specs.declared.step.Clears.the-variants as clears
+use Rattle.mailbox_state.specs.declared.step.MessageEffect.{MessageEffect}
+use Rattle.mailbox_state.specs.declared.step.MessageEffect.the-variants as effect
 use Rattle.mailbox_state.specs.declared.step.Step.{Step}
 use Rattle.mailbox_rules.specs.Changes.{nextShownOf}
-use Rattle.mailbox_rules.specs.Refusal.{refusalOf}
+use Rattle.mailbox_rules.specs.Refusal.{situationOf, refusalOf}
 use Rattle.mailbox_rules.specs.Write.{startsCommand, takenStepOf, judgedStepOf, controlStepOf}
 
 -- 0 is Taken alone.
@@ -46,31 +45,31 @@ pub data ShownBy (control : Control) (a : Answer) (before after : Changes) : Typ
   reset : control .code ≡ 0x01 → after ≡ noChanges → ShownBy control a before after
   acknowledged : control .code ≡ 0x04 → control .change ≡ true → a ≡ answer.Taken → after ≡ nextShownOf before → ShownBy control a before after
 
--- What a write that is taken tells, by its class: a command completes or is cancelled, and then an acknowledgement is due, or it runs.
-abbrev pub Tells : Class → CommandStatus → Type 0
-Tells class.Reset status = status ≡ ResetDone
-Tells class.Cancel status = status ≡ Cancelled
-Tells class.Acknowledge status = status ≡ Acknowledged
-Tells class.Enable status = status ≡ Completed 0
-Tells class.Run status = (runsOf status ≡ true) ⊎ (status ≡ Failed)
-Tells class.NotSupported status = status ≡ NotSupported
+-- The status after a write that is taken, by its class: a command completes or is cancelled, and then an acknowledgement is due, or it runs.
+abbrev pub StatusOf : Class → CommandStatus → Type 0
+StatusOf class.Reset status = status ≡ ResetDone
+StatusOf class.Cancel status = status ≡ Cancelled
+StatusOf class.Acknowledge status = status ≡ Acknowledged
+StatusOf class.Enable status = status ≡ Completed 0
+StatusOf class.Run status = (runsOf status ≡ true) ⊎ (status ≡ Failed)
+StatusOf class.NotSupported status = status ≡ NotSupported
 
--- Start and ACK keep MESSAGE_IN; reset, cancel and a completion without data zero it.
-abbrev pub Zeroes : CommandStatus → Clears → Type 0
-Zeroes Nothing c = ⊥
-Zeroes ResetDone c = c ≡ clears.Reset
-Zeroes (Busy command) c = c ≡ clears.Nothing
-Zeroes (Completed length) c = c ≡ clears.NoData
-Zeroes Failed c = c ≡ clears.NoData
-Zeroes NotSupported c = c ≡ clears.NoData
-Zeroes Cancelled c = c ≡ clears.Cancel
-Zeroes Acknowledged c = c ≡ clears.Nothing
+-- Start and ACK keep MESSAGE_IN; reset, cancel and a completion without data zero it. A write never fills it.
+abbrev pub EffectOf : CommandStatus → MessageEffect → Type 0
+EffectOf Nothing e = ⊥
+EffectOf ResetDone e = e ≡ effect.ZeroedAtReset
+EffectOf (Busy command) e = e ≡ effect.Kept
+EffectOf (Completed length) e = e ≡ effect.ZeroedAtCompletion
+EffectOf Failed e = e ≡ effect.ZeroedAtCompletion
+EffectOf NotSupported e = e ≡ effect.ZeroedAtCompletion
+EffectOf Cancelled e = e ≡ effect.ZeroedAtCancel
+EffectOf Acknowledged e = e ≡ effect.Kept
 
 pub record Takes (state : State) (class : Class) (control : Control) (step : Step) : Type 0 where
   pub answer : step .answer ≡ answer.Taken
   pub connectors : step .state .connectors ≡ state .connectors
-  pub tells : Tells class (step .state .status)
-  pub zeroes : Zeroes (step .state .status) (step .clears)
+  pub status : StatusOf class (step .state .status)
+  pub effect : EffectOf (step .state .status) (step .effect)
   pub shown : ShownBy control (step .answer) (state .changes) (step .state .changes)
 
 module _ (state : State) (control : Control) where
@@ -78,44 +77,44 @@ module _ (state : State) (control : Control) where
   unfolding startsCommand runsOf
   begun needs =
       pick-all (Takes state class.Run control) _ _ _
-      (λ y. record { answer = refl; connectors = refl; tells = inr refl; zeroes = refl; shown = stays refl })
-      (λ n. record { answer = refl; connectors = refl; tells = inl refl; zeroes = refl; shown = stays refl })
+      (λ y. record { answer = refl; connectors = refl; status = inr refl; effect = refl; shown = stays refl })
+      (λ n. record { answer = refl; connectors = refl; status = inl refl; effect = refl; shown = stays refl })
 
   acked : control .code ≡ 0x04 → ShownBy control answer.Taken (state .changes) (pick (control .change) (nextShownOf (state .changes)) (state .changes))
   acked e = pick-all (ShownBy control answer.Taken (state .changes)) _ _ _ (λ y. acknowledged e y refl refl) (λ n. stays refl)
 
   pub taken-takes : (class : Class) (needs : Bool) → Named (control .code) class → Takes state class control (takenStepOf state class needs control)
   unfolding takenStepOf
-  taken-takes class.Reset needs h = record { answer = refl; connectors = refl; tells = refl; zeroes = refl; shown = reset h refl }
-  taken-takes class.Cancel needs h = record { answer = refl; connectors = refl; tells = refl; zeroes = refl; shown = stays refl }
-  taken-takes class.Acknowledge needs h = record { answer = refl; connectors = refl; tells = refl; zeroes = refl; shown = acked h }
-  taken-takes class.Enable needs h = record { answer = refl; connectors = refl; tells = refl; zeroes = refl; shown = stays refl }
+  taken-takes class.Reset needs h = record { answer = refl; connectors = refl; status = refl; effect = refl; shown = reset h refl }
+  taken-takes class.Cancel needs h = record { answer = refl; connectors = refl; status = refl; effect = refl; shown = stays refl }
+  taken-takes class.Acknowledge needs h = record { answer = refl; connectors = refl; status = refl; effect = refl; shown = acked h }
+  taken-takes class.Enable needs h = record { answer = refl; connectors = refl; status = refl; effect = refl; shown = stays refl }
   taken-takes class.Run needs h = begun needs
-  taken-takes class.NotSupported needs h = record { answer = refl; connectors = refl; tells = refl; zeroes = refl; shown = stays refl }
+  taken-takes class.NotSupported needs h = record { answer = refl; connectors = refl; status = refl; effect = refl; shown = stays refl }
 
   abbrev ofClass : Class
   ofClass = entryOf (control .code) .class
 
   abbrev judged : Answer
-  judged = refusalOf state ofClass control
+  judged = refusalOf ofClass (situationOf state control)
 
   -- A write that is taken does what its class says.
   pub write-takes : judged ≡ answer.Taken → Takes state ofClass control (controlStepOf state control)
   unfolding judgedStepOf
   write-takes e =
       pick-all (Takes state ofClass control) _ _ _
-      (λ y. taken-takes ofClass (entryOf (control .code) .connector) (named (control .code)))
-      (λ n. absurd (eqb-false (mailboxNumberOf judged) 0 n (ap mailboxNumberOf e)))
+      (λ y. absurd (differ-true (mailboxNumberOf judged) 0 y (ap mailboxNumberOf e)))
+      (λ n. taken-takes ofClass (entryOf (control .code) .connector) (named (control .code)))
 
   -- A write that is refused keeps everything.
   pub write-refused : (judged ≡ answer.Taken → ⊥) → controlStepOf state control ≡ refused state judged
   unfolding judgedStepOf
   write-refused h =
-      pick-all (λ (s : Step). s ≡ refused state judged) _ _ _ (λ y. absurd (h (zero-taken judged (eqb-true (mailboxNumberOf judged) 0 y)))) (λ n. refl)
+      pick-all (λ (s : Step). s ≡ refused state judged) _ _ _ (λ y. refl) (λ n. absurd (h (zero-taken judged (differ-false (mailboxNumberOf judged) 0 n))))
 
   pub write-shown : ShownBy control (controlStepOf state control .answer) (state .changes) (controlStepOf state control .state .changes)
   unfolding judgedStepOf
   write-shown =
       pick-all (λ (s : Step). ShownBy control (s .answer) (state .changes) (s .state .changes)) _ _ _
-      (λ y. taken-takes ofClass (entryOf (control .code) .connector) (named (control .code)) .shown)
-      (λ n. stays refl)
+      (λ y. stays refl)
+      (λ n. taken-takes ofClass (entryOf (control .code) .connector) (named (control .code)) .shown)

@@ -18,6 +18,4 @@ pub mod Until
 pub mod Laws
 pub mod Message
 pub mod Reached
-pub mod Reported
-pub mod Settled
 pub mod Shown

@@ -3,7 +3,7 @@ use Prim.Native.Nat.{ℕ, _≤_, _<_}
 use mathlib.Core.Bool.{true, false}
 use mathlib.Core.Logic.{_⊎_, inl, inr}
 use mathlib.Core.Path.{_≡_, refl}
-use borrow.Author.Tests.{eq-eqb, ne-eqb}
+use borrow.Author.Tests.{eq-eqb, ne-eqb, not-false}
 use Rattle.basis.specs.Pick.{pick, pick-all}
 use Rattle.mailbox_state.specs.State.{changes, mailboxState}
 use Rattle.mailbox_state.specs.Step.{mailboxStep, refused}
@@ -11,13 +11,13 @@ use Rattle.mailbox_state.specs.declared.answer.Answer.the-variants.{Taken, NoSu
 use Rattle.mailbox_state.specs.declared.state.Changes.{Changes}
 use Rattle.mailbox_state.specs.declared.state.Notifications.the-variants.{Off, On}
 use Rattle.mailbox_state.specs.declared.state.State.{State}
-use Rattle.mailbox_state.specs.declared.step.Clears.the-variants.{Nothing}
+use Rattle.mailbox_state.specs.declared.step.MessageEffect.the-variants.{Kept}
 use Rattle.mailbox_state.specs.declared.step.Step.{Step}
 use Rattle.mailbox_rules.specs.Change.{meetsOf, heardOf, presentStepOf, changeStepOf}
 use Rattle.mailbox_rules.specs.Changes.{markedOf, notedOf}
 use Rattle.mailbox_rules.proofs.Absent.{zero-absent, above-absent, is-there, there-only}
 
--- Nothing but what is shown and what waits.
+-- The state with other changes: another connector shown, or others waiting.
 abbrev pub altering : State → Changes → State
 altering state after = mailboxState (state .connectors) (state .notifications) (state .status) after
 
@@ -32,15 +32,15 @@ module _ (state : State) (c reason : ℕ) where
   change-9-above h = rw (above-absent c (state .connectors) h)
 
   module _ (low : 1 ≤ c) (high : c ≤ state .connectors) where
-    pub change-off : state .notifications ≡ Off → changeStepOf state c reason ≡ mailboxStep state Taken Nothing
+    pub change-off : state .notifications ≡ Off → changeStepOf state c reason ≡ mailboxStep state Taken Kept
     unfolding changeStepOf presentStepOf heardOf pick
     change-off e = rw (is-there c (state .connectors) low high, e)
 
-    pub change-dropped : (mask : ℕ) → state .notifications ≡ On mask → meetsOf reason mask ≡ false → changeStepOf state c reason ≡ mailboxStep state Taken Nothing
+    pub change-dropped : (mask : ℕ) → state .notifications ≡ On mask → meetsOf reason mask ≡ false → changeStepOf state c reason ≡ mailboxStep state Taken Kept
     unfolding changeStepOf presentStepOf heardOf pick
     change-dropped mask e h = rw (is-there c (state .connectors) low high, e, h)
 
-    pub change-recorded : (mask : ℕ) → state .notifications ≡ On mask → meetsOf reason mask ≡ true → changeStepOf state c reason ≡ mailboxStep (altering state (notedOf (state .changes) c)) Taken Nothing
+    pub change-recorded : (mask : ℕ) → state .notifications ≡ On mask → meetsOf reason mask ≡ true → changeStepOf state c reason ≡ mailboxStep (altering state (notedOf (state .changes) c)) Taken Kept
     unfolding changeStepOf presentStepOf heardOf pick
     change-recorded mask e h = rw (is-there c (state .connectors) low high, e, h)
 
@@ -60,19 +60,19 @@ pub record Recorded (state : State) (c reason : ℕ) : Type 0 where
   pub high : c ≤ state .connectors
   pub heard : heardOf (state .notifications) reason ≡ true
 
--- What a change leaves: all but the changes, and those as they were or with this one noted.
-pub record Alters (state : State) (c reason : ℕ) (mailboxStep : Step) : Type 0 where
-  pub stand-kept : mailboxStep .state ≡ altering state (mailboxStep .state .changes)
-  pub cleared : mailboxStep .clears ≡ Nothing
-  pub noted : (mailboxStep .state .changes ≡ state .changes) ⊎ (Recorded state c reason × (mailboxStep .state .changes ≡ notedOf (state .changes) c))
+-- A change alters nothing but the changes, and those are as they were or with this one noted.
+pub record Alters (state : State) (c reason : ℕ) (step : Step) : Type 0 where
+  pub others : step .state ≡ altering state (step .state .changes)
+  pub effect : step .effect ≡ Kept
+  pub noted : (step .state .changes ≡ state .changes) ⊎ (Recorded state c reason × (step .state .changes ≡ notedOf (state .changes) c))
 
 pub change-alters : (state : State) (c reason : ℕ) → Alters state c reason (changeStepOf state c reason)
 unfolding changeStepOf presentStepOf
 change-alters state c reason =
     pick-all (Alters state c reason) _ _ _
+    (λ absent. record { others = refl; effect = refl; noted = inl refl })
     (λ there.
-    let range = there-only c (state .connectors) there in
+    let range = there-only c (state .connectors) (not-false _ there) in
     pick-all (Alters state c reason) _ _ _
-    (λ heard. record { stand-kept = refl; cleared = refl; noted = inr (record { low = range .0; high = range .1; heard = heard }, refl) })
-    (λ not. record { stand-kept = refl; cleared = refl; noted = inl refl }))
-    (λ absent. record { stand-kept = refl; cleared = refl; noted = inl refl })
+    (λ not. record { others = refl; effect = refl; noted = inl refl })
+    (λ heard. record { others = refl; effect = refl; noted = inr (record { low = range .0; high = range .1; heard = not-false _ heard }, refl) }))

@@ -1,56 +1,89 @@
 -- From a fresh mailbox, over any events: the connector shown and those waiting are within the count (01, The mailbox).
 use Prim.Native.Nat.{ℕ, _/_, _%_, _^_, _≤_}
 use mathlib.Core.Bool.{false}
-use mathlib.Core.List.{List}
-use mathlib.Core.Path.{_≡_, refl, sym, _∙_, subst}
+use mathlib.Core.List.{List, [], _∷_, _++_}
+use mathlib.Core.Path.{_≡_, refl, sym, _∙_, ap, subst}
 use native.Mathlib.Omega.{arith}
-use lib.ListN.{length}
-use Rattle.basis.specs.Pick.{pick-all}
-use Rattle.commands.specs.Control.{fieldsOf, controlOf}
-use Rattle.commands.specs.declared.control.Parsed.{Parsed}
+use Rattle.basis.specs.Pick.{pick-all, differ-true, differ-false}
+use Rattle.mailbox_state.specs.Connectors.{connectorsNumberOf}
 use Rattle.mailbox_state.specs.Status.{runsOf}
-use Rattle.mailbox_state.specs.declared.connectors.Connectors.{Connectors}
+use Rattle.mailbox_state.proofs.Numbers.{counted-within}
 use Rattle.mailbox_state.specs.declared.step.Step.{Step}
-use Rattle.mailbox_rules.proofs.Places.{Within, none-within}
-use Rattle.mailbox_rules.proofs.Steps.{Steps, write-steps, success-steps, failure-steps, change-steps}
-use Rattle.mailbox_rules.proofs.Laws.{cci-outside}
-use Rattle.mailbox_rules.specs.Mailbox.{mailbox, mailboxFreshOf, mailboxCciOf}
-use Rattle.mailbox_rules.specs.Events.{mailboxReadOf, mailboxReportedOf}
-use Rattle.mailbox_rules.specs.History.{Event, writes, succeeds, fails, changes, eventOf, Reached, begins, goesOn}
 use Rattle.mailbox_state.specs.declared.mailbox.Mailbox.{Mailbox}
-use Rattle.mailbox_state.specs.declared.mailbox.Outcome.{Outcome}
+use Rattle.mailbox_state.specs.declared.mailbox.Fresh.{Fresh}
+use Rattle.mailbox_rules.proofs.Places.{Within, none-within}
+use Rattle.mailbox_rules.proofs.Steps.{Steps, event-steps}
+use Rattle.mailbox_rules.proofs.Laws.{cci-outside}
+use Rattle.mailbox_rules.specs.Mailbox.{mailbox, freshMailbox, mailboxFreshOf, mailboxCciOf}
+use Rattle.mailbox_rules.specs.Events.{Event, eventStepOf, eventOf}
+use Rattle.mailbox_rules.specs.History.{historyFrom, historyOf, Reached}
 
-pub record Holds (connectors : Connectors) (m : Mailbox) : Type 0 where
-  pub count : m .state .connectors ≡ connectors .count
-  pub within : Within (connectors .count) (m .state .changes)
+-- A history goes on: one more event.
+from-next : (m : Mailbox) (events : List Event) (e : Event) → historyFrom m (events ++ e ∷ []) .mailbox ≡ eventOf (historyFrom m events .mailbox) e .mailbox
+unfolding historyFrom
+from-next m [] e = refl
+from-next m (first ∷ events) e = from-next (eventOf m first .mailbox) events e
 
-module _ (connectors : Connectors) where
-  keeps : (m : Mailbox) (step : Step) (message : List ℕ) → Steps (m .state) step → Holds connectors m → Holds connectors (mailbox (step .state) message)
-  keeps m step message s h =
+pub reached-next : (count : ℕ) (m : Mailbox) (e : Event) → Reached count m → Reached count (eventOf m e .mailbox)
+reached-next count m e r =
+    record {
+      made = r .made;
+      events = r .events ++ e ∷ [];
+      ending = from-next (mailboxFreshOf count .mailbox) (r .events) e ∙ ap (λ (x : Mailbox). eventOf x e .mailbox) (r .ending);
+    }
+
+pub reached-fresh : (count : ℕ) → mailboxFreshOf count .number ≡ 0 → Reached count (mailboxFreshOf count .mailbox)
+unfolding historyFrom
+reached-fresh count e = record { made = e; events = []; ending = refl }
+
+-- A start that is answered 0 is that of a count from 1 to 8, and makes a fresh mailbox with so many connectors.
+pub record Made (count : ℕ) (f : Fresh) : Type 0 where
+  pub low : 1 ≤ count
+  pub high : count ≤ 8
+  pub fresh : f .mailbox ≡ freshMailbox count
+
+pub made : (count : ℕ) → mailboxFreshOf count .number ≡ 0 → Made count (mailboxFreshOf count)
+unfolding mailboxFreshOf
+made count =
+    pick-all (λ (f : Fresh). f .number ≡ 0 → Made count f) _ _ _
+    (λ y e. absurd (differ-true (connectorsNumberOf count) 0 y e))
+    (λ n e.
+    let within = counted-within count (differ-false (connectorsNumberOf count) 0 n) in
+    record { low = within .0; high = within .1; fresh = refl })
+
+pub record Holds (count : ℕ) (m : Mailbox) : Type 0 where
+  pub connectors : m .state .connectors ≡ count
+  pub within : Within count (m .state .changes)
+
+module _ (count : ℕ) where
+  keeps : (m : Mailbox) (e : Event) → Holds count m → Holds count (eventOf m e .mailbox)
+  keeps m e h =
+      let s = event-steps (m .state) e in
       record {
-        count = s .connectors ∙ h .count;
+        connectors = s .connectors ∙ h .connectors;
         within =
-            subst (λ (n : ℕ). Within n (step .state .changes)) (h .count)
-            (s .inside (subst (λ (n : ℕ). Within n (m .state .changes)) (sym (h .count)) (h .within)));
+            subst (λ (n : ℕ). Within n (eventStepOf (m .state) e .state .changes)) (h .connectors)
+            (s .inside (subst (λ (n : ℕ). Within n (m .state .changes)) (sym (h .connectors)) (h .within)));
       }
 
-  keeps-event : (m : Mailbox) (e : Event) → Holds connectors m → Holds connectors (eventOf m e .mailbox)
-  unfolding mailboxReadOf controlOf mailboxReportedOf
-  keeps-event m (writes control) h =
-      pick-all (λ (p : Parsed). Holds connectors (mailboxReadOf m p .mailbox)) _ _ _ (λ y. keeps m _ _ (write-steps (m .state) (fieldsOf control)) h) (λ n. h)
-  keeps-event m (succeeds bytes) h =
-      pick-all (λ (o : Outcome). Holds connectors (o .mailbox)) _ _ _ (λ y. keeps m _ _ (success-steps (m .state) (length bytes)) h) (λ n. h)
-  keeps-event m fails h = keeps m _ _ (failure-steps (m .state)) h
-  keeps-event m (changes c reason) h = keeps m _ _ (change-steps (m .state) c reason) h
+  keeps-all : (m : Mailbox) (events : List Event) → Holds count m → Holds count (historyFrom m events .mailbox)
+  unfolding historyFrom
+  keeps-all m [] h = h
+  keeps-all m (e ∷ events) h = keeps-all (eventOf m e .mailbox) events (keeps m e h)
 
-  pub holds : {m : Mailbox} → Reached connectors m → Holds connectors m
-  unfolding mailboxFreshOf
-  holds begins = record { count = refl; within = none-within (connectors .count) }
-  holds (goesOn {m = m} e r) = keeps-event m e (holds r)
+  fresh-holds : Holds count (freshMailbox count)
+  unfolding freshMailbox
+  fresh-holds = record { connectors = refl; within = none-within count }
+
+  pub holds : {m : Mailbox} → Reached count m → Holds count m
+  holds {m} r =
+      subst (Holds count) (r .ending)
+      (keeps-all (mailboxFreshOf count .mailbox) (r .events) (subst (Holds count) (sym (made count (r .made) .fresh)) fresh-holds))
 
   -- So seven bits hold the connector shown.
-  pub shown-told : {m : Mailbox} → connectors .count ≤ 8 → Reached connectors m → runsOf (m .state .status) ≡ false → mailboxCciOf m / 2 ^ 1 % 2 ^ 7 ≡ m .state .changes .shown
-  shown-told {m} few r still =
+  pub shown-in-cci : {m : Mailbox} → Reached count m → runsOf (m .state .status) ≡ false → mailboxCciOf m / 2 ^ 1 % 2 ^ 7 ≡ m .state .changes .shown
+  shown-in-cci {m} r still =
       let e = cci-outside m still in
       let low = holds r .within .shown in
+      let few = made count (r .made) .high in
       omega (arith, e, low, few)

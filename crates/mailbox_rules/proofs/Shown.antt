@@ -10,6 +10,8 @@ use lib.ListN.{length}
 use Rattle.basis.specs.Pick.{pick-all}
 use Rattle.commands.specs.Control.{fieldsOf, controlOf}
 use Rattle.commands.specs.declared.control.Parsed.{Parsed}
+use Rattle.commands.specs.declared.control.Parsed.the-variants.{Fields, WrongLength}
+use Rattle.commands.proofs.Fields.{eight-or-not}
 use Rattle.mailbox_state.specs.declared.answer.Answer.{Answer}
 use Rattle.mailbox_state.specs.declared.answer.Answer.the-variants.{Taken}
 use Rattle.mailbox_state.specs.declared.state.Changes.{Changes}
@@ -17,8 +19,7 @@ use Rattle.mailbox_rules.specs.Changes.{lowestOf, notedOf, nextShownOf}
 use Rattle.mailbox_rules.proofs.Command.{ShownBy, stays, reset, acknowledged, write-shown}
 use Rattle.mailbox_rules.proofs.Noted.{Recorded, change-alters}
 use Rattle.mailbox_rules.proofs.Report.{success-leaves, failure-leaves}
-use Rattle.mailbox_rules.specs.Events.{mailboxReadOf, mailboxReportedOf}
-use Rattle.mailbox_rules.specs.History.{Event, writes, succeeds, fails, changes, eventOf}
+use Rattle.mailbox_rules.specs.Events.{Event, writes, succeeds, fails, changes, parsedStepOf, eventOf}
 use Rattle.mailbox_state.specs.declared.mailbox.Mailbox.{Mailbox}
 use Rattle.mailbox_state.specs.declared.mailbox.Outcome.{Outcome}
 
@@ -51,13 +52,14 @@ module _ (m : Mailbox) where
   by-noted c reason a after (inl e) = as-before (ap (λ (s : Changes). s .shown) e)
   by-noted c reason a after (inr (r, e)) = rw e (by-change c reason a r)
 
+  by-parsed : (control : List ℕ) (parsed : Parsed) → (parsed ≡ Fields (fieldsOf control)) ⊎ (parsed ≡ WrongLength)
+      → Shows m (writes control) (parsedStepOf (m .state) parsed .answer) (parsedStepOf (m .state) parsed .state .changes .shown)
+  unfolding parsedStepOf
+  by-parsed control parsed (inl e) = rw e (by-write control _ _ (write-shown (m .state) (fieldsOf control)))
+  by-parsed control parsed (inr e) = rw e (as-before refl)
+
   pub shown-moves : (e : Event) → Showing m e (eventOf m e)
-  unfolding mailboxReadOf mailboxReportedOf controlOf
-  shown-moves (writes control) =
-      pick-all (λ (p : Parsed). Showing m (writes control) (mailboxReadOf m p)) _ _ _
-      (λ y. by-write control _ _ (write-shown (m .state) (fieldsOf control)))
-      (λ n. as-before refl)
-  shown-moves (succeeds bytes) =
-      pick-all (Showing m (succeeds bytes)) _ _ _ (λ y. as-before (ap (λ (s : Changes). s .shown) (success-leaves (m .state) (length bytes)))) (λ n. as-before refl)
+  shown-moves (writes control) = by-parsed control (controlOf control) (eight-or-not control)
+  shown-moves (succeeds bytes) = as-before (ap (λ (s : Changes). s .shown) (success-leaves (m .state) (length bytes)))
   shown-moves fails = as-before (ap (λ (s : Changes). s .shown) (failure-leaves (m .state)))
   shown-moves (changes c reason) = by-noted c reason _ _ (change-alters (m .state) c reason .noted)

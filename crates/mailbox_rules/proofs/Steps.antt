@@ -1,18 +1,23 @@
 -- What every step keeps: how many connectors there are, and that those shown and waiting are among them (01, The mailbox).
 use Prim.Native.Nat.{ℕ}
+use lib.ListN.{length}
 use mathlib.Core.Logic.{_⊎_, inl, inr}
 use mathlib.Core.Path.{_≡_, refl, sym, ap, subst}
 use Rattle.basis.specs.Pick.{pick-all}
 use Rattle.commands.specs.Table.{entryOf}
 use Rattle.commands.proofs.Rows.{named}
 use Rattle.commands.specs.declared.table.Class.{Class}
+use Rattle.commands.specs.Control.{controlOf}
 use Rattle.commands.specs.declared.control.Control.{Control}
+use Rattle.commands.specs.declared.control.Parsed.{Parsed}
+use Rattle.commands.specs.declared.control.Parsed.the-variants.{Fields, WrongLength}
 use Rattle.mailbox_state.specs.declared.answer.Answer.{Answer}
 use Rattle.mailbox_state.specs.declared.state.Changes.{Changes}
 use Rattle.mailbox_state.specs.declared.state.State.{State}
 use Rattle.mailbox_state.specs.declared.step.Step.{Step}
 use Rattle.mailbox_rules.specs.Change.{changeStepOf}
 use Rattle.mailbox_rules.specs.Changes.{notedOf}
+use Rattle.mailbox_rules.specs.Events.{Event, writes, succeeds, fails, changes, parsedStepOf, eventStepOf}
 use Rattle.mailbox_rules.specs.Report.{successStepOf, failureStepOf}
 use Rattle.mailbox_rules.specs.Write.{judgedStepOf, controlStepOf}
 use Rattle.mailbox_rules.proofs.Command.{ShownBy, stays, reset, acknowledged, Takes, taken-takes}
@@ -35,30 +40,40 @@ takes-steps : (state : State) (class : Class) (control : Control) (step : Step) 
 takes-steps state class control step t =
     record { connectors = t .connectors; inside = shown-inside (state .connectors) control (step .answer) (state .changes) (step .state .changes) (t .shown) }
 
-pub write-steps : (state : State) (control : Control) → Steps state (controlStepOf state control)
+write-steps : (state : State) (control : Control) → Steps state (controlStepOf state control)
 unfolding judgedStepOf
 write-steps state control =
-    pick-all (Steps state) _ _ _
-    (λ y. takes-steps state _ control _ (taken-takes state control (entryOf (control .code) .class) (entryOf (control .code) .connector) (named (control .code))))
-    (λ n. still state _ refl refl)
+    pick-all (Steps state) _ _ _ (λ y. still state _ refl refl)
+    (λ n. takes-steps state _ control _ (taken-takes state control (entryOf (control .code) .class) (entryOf (control .code) .connector) (named (control .code))))
 
-pub success-steps : (state : State) (n : ℕ) → Steps state (successStepOf state n)
+success-steps : (state : State) (n : ℕ) → Steps state (successStepOf state n)
 unfolding successStepOf
 success-steps state n =
-    pick-all (Steps state) _ _ _ (λ y. pick-all (Steps state) _ _ _ (λ y. still state _ refl refl) (λ n. still state _ refl refl))
-    (λ n. still state _ refl refl)
+    pick-all (Steps state) _ _ _ (λ y. still state _ refl refl)
+    (λ n. pick-all (Steps state) _ _ _ (λ y. still state _ refl refl) (λ n. still state _ refl refl))
 
-pub failure-steps : (state : State) → Steps state (failureStepOf state)
+failure-steps : (state : State) → Steps state (failureStepOf state)
 unfolding failureStepOf
 failure-steps state = pick-all (Steps state) _ _ _ (λ y. still state _ refl refl) (λ n. still state _ refl refl)
 
 alters-steps : (state : State) (c reason : ℕ) (step : Step) → Alters state c reason step → Steps state step
-alters-steps state c reason step a = record { connectors = ap (λ (s : State). s .connectors) (a .stand-kept); inside = λ w. inside-by (a .noted) w }
+alters-steps state c reason step a = record { connectors = ap (λ (s : State). s .connectors) (a .others); inside = λ w. inside-by (a .noted) w }
   where
     inside-by : (step .state .changes ≡ state .changes) ⊎ (Recorded state c reason × (step .state .changes ≡ notedOf (state .changes) c))
         → Within (state .connectors) (state .changes) → Within (state .connectors) (step .state .changes)
     inside-by (inl e) w = subst (Within (state .connectors)) (sym e) w
     inside-by (inr (r, e)) w = subst (Within (state .connectors)) (sym e) (noted-within (state .connectors) (state .changes) w c (r .low) (r .high))
 
-pub change-steps : (state : State) (c reason : ℕ) → Steps state (changeStepOf state c reason)
+change-steps : (state : State) (c reason : ℕ) → Steps state (changeStepOf state c reason)
 change-steps state c reason = alters-steps state c reason (changeStepOf state c reason) (change-alters state c reason)
+
+parsed-steps : (state : State) (parsed : Parsed) → Steps state (parsedStepOf state parsed)
+unfolding parsedStepOf
+parsed-steps state (Fields control) = write-steps state control
+parsed-steps state WrongLength = still state _ refl refl
+
+pub event-steps : (state : State) (e : Event) → Steps state (eventStepOf state e)
+event-steps state (writes control) = parsed-steps state (controlOf control)
+event-steps state (succeeds bytes) = success-steps state (length bytes)
+event-steps state fails = failure-steps state
+event-steps state (changes c reason) = change-steps state c reason

@@ -1,50 +1,55 @@
--- What comes to a mailbox, and what it leaves (01, The mailbox; 01, Numbers we answer).
+-- What comes to a mailbox, what is decided on it, and what the mailbox answers and is then (01, The mailbox; 01, Numbers we answer).
 use Prim.Native.Nat.{ℕ}
-use mathlib.Core.List.{List}
-use lib.Dec.{eqb}
+use mathlib.Core.List.{List, []}
 use lib.ListN.{length}
-use Rattle.basis.specs.Pick.{pick}
 use Rattle.commands.specs.Control.{controlOf}
 use Rattle.commands.specs.declared.control.Parsed.{Parsed}
 use Rattle.commands.specs.declared.control.Parsed.the-variants.{Fields, WrongLength}
-use Rattle.mailbox_state.specs.Answer.{mailboxNumberOf}
-use Rattle.mailbox_state.specs.declared.answer.Answer.the-variants.{ControlLength}
 use Rattle.mailbox_state.specs.Step.{refused}
+use Rattle.mailbox_state.specs.declared.answer.Answer.the-variants.{ControlLength}
 use Rattle.mailbox_state.specs.declared.state.State.{State}
 use Rattle.mailbox_state.specs.declared.step.Step.{Step}
-use Rattle.mailbox_rules.specs.Write as write
-use Rattle.mailbox_rules.specs.Report.{successStepOf, failureStepOf}
-use Rattle.mailbox_rules.specs.Change as change
-use Rattle.mailbox_rules.specs.Mailbox.{mailbox, mailboxReturns, mailboxKept, settledOf, filledOf}
 use Rattle.mailbox_state.specs.declared.mailbox.Mailbox.{Mailbox}
 use Rattle.mailbox_state.specs.declared.mailbox.Outcome.{Outcome}
+use Rattle.mailbox_rules.specs.Write.{controlStepOf}
+use Rattle.mailbox_rules.specs.Report.{successStepOf, failureStepOf}
+use Rattle.mailbox_rules.specs.Change.{changeStepOf}
+use Rattle.mailbox_rules.specs.MessageIn.{settledOf}
+use Rattle.mailbox_rules.specs.Mailbox.{mailbox, mailboxReturns}
 
--- What a write decides, with no MESSAGE_IN.
+-- A write of these bytes to CONTROL, the port's success with these bytes, its failure, a change on a connector for a reason.
+pub data Event : Type 0 where
+  writes : List ℕ → Event
+  succeeds : List ℕ → Event
+  fails : Event
+  changes : ℕ → ℕ → Event
+
+-- A CONTROL that is not 8 bytes is 1, before everything.
 unfoldable pub parsedStepOf : State → Parsed → Step
-parsedStepOf state (Fields control) = write.controlStepOf state control
 parsedStepOf state WrongLength = refused state ControlLength
+parsedStepOf state (Fields control) = controlStepOf state control
 
 abbrev pub writeStepOf : State → List ℕ → Step
 writeStepOf state control = parsedStepOf state (controlOf control)
 
--- A CONTROL that is not 8 bytes is 1, before everything.
-unfoldable pub mailboxReadOf : Mailbox → Parsed → Outcome
-mailboxReadOf m (Fields control) = settledOf m (write.controlStepOf (m .state) control)
-mailboxReadOf m WrongLength = mailboxKept m ControlLength
+-- What is decided on an event.
+abbrev pub eventStepOf : State → Event → Step
+eventStepOf state (writes control) = writeStepOf state control
+eventStepOf state (succeeds bytes) = successStepOf state (length bytes)
+eventStepOf state fails = failureStepOf state
+eventStepOf state (changes connector reason) = changeStepOf state connector reason
 
-abbrev pub mailboxWriteOf : Mailbox → List ℕ → Outcome
-mailboxWriteOf m control = mailboxReadOf m (controlOf control)
+-- The bytes that the port reports with an event.
+abbrev pub portBytes : Event → List ℕ
+portBytes (writes control) = []
+portBytes (succeeds bytes) = bytes
+portBytes fails = []
+portBytes (changes connector reason) = []
 
--- Port success copies its bytes to MESSAGE_IN, zeros after.
-unfoldable pub mailboxReportedOf : Mailbox → List ℕ → Step → Outcome
-mailboxReportedOf m bytes step =
-    pick (eqb (mailboxNumberOf (step .answer)) 0) (mailboxReturns (mailbox (step .state) (filledOf bytes)) (step .answer)) (mailboxKept m (step .answer))
+-- The step carried out on the mailbox, MESSAGE_IN as its effect says.
+abbrev pub stepReturns : Mailbox → Step → List ℕ → Outcome
+stepReturns m step bytes = mailboxReturns (mailbox (step .state) (settledOf (m .message) (step .effect) bytes)) (step .answer)
 
-abbrev pub mailboxSuccessOf : Mailbox → List ℕ → Outcome
-mailboxSuccessOf m bytes = mailboxReportedOf m bytes (successStepOf (m .state) (length bytes))
-
-abbrev pub mailboxFailureOf : Mailbox → Outcome
-mailboxFailureOf m = settledOf m (failureStepOf (m .state))
-
-abbrev pub mailboxChangeOf : Mailbox → ℕ → ℕ → Outcome
-mailboxChangeOf m connector reason = settledOf m (change.changeStepOf (m .state) connector reason)
+-- The answer and the next mailbox, for every mailbox and every event.
+abbrev pub eventOf : Mailbox → Event → Outcome
+eventOf m e = stepReturns m (eventStepOf (m .state) e) (portBytes e)

@@ -1,9 +1,13 @@
 pub mod Cci
+pub mod Says
 pub mod Changes
 pub mod Refusal
 pub mod Write
 pub mod Report
 pub mod Change
+pub mod MessageIn
 pub mod Mailbox
 pub mod Events
 pub mod History
+pub mod Until
+pub mod Sentences

@@ -2,7 +2,7 @@
 use Prim.Native.Nat.{ℕ}
 use mathlib.Core.Bool.{Bool, not, _&&_, _||_}
 use lib.Dec.{eqb}
-use Rattle.basis.specs.Pick.{pick}
+use Rattle.basis.specs.Pick.{pick, differ}
 use Rattle.commands.specs.declared.table.Class.{Class}
 use Rattle.commands.specs.declared.table.Class.the-variants.{Reset, Cancel, Acknowledge, Enable, Run, NotSupported}
 use Rattle.commands.specs.declared.control.Control.{Control}
@@ -10,6 +10,7 @@ use Rattle.mailbox_state.specs.Status.{runsOf, dueOf}
 use Rattle.mailbox_state.specs.State.{offOf}
 use Rattle.mailbox_state.specs.declared.answer.Answer.{Answer}
 use Rattle.mailbox_state.specs.declared.answer.Answer.the-variants.{Taken, NotificationsOff, CommandRuns, AcknowledgementDue, NothingToClear, NothingToCancel}
+use Rattle.mailbox_state.specs.declared.situation.Situation.{Situation}
 use Rattle.mailbox_state.specs.declared.state.State.{State}
 
 abbrev place : Class → ℕ
@@ -20,40 +21,47 @@ place Enable = 3
 place Run = 4
 place NotSupported = 5
 
--- Of this class.
+-- Whether a command's class is this one.
 abbrev pub is : Class → Class → Bool
 is one class = eqb (place one) (place class)
 
--- ACK with neither bit, or a bit with nothing to clear.
-abbrev pub clearsNothing : Bool → Bool → Bool → Bool → Bool
-clearsNothing due shown change completed = not (change || completed) || (change && not shown) || (completed && not due)
+-- What a write of this CONTROL is judged by.
+abbrev pub situationOf : State → Control → Situation
+situationOf state control =
+    record {
+      off = offOf (state .notifications);
+      runs = runsOf (state .status);
+      due = dueOf (state .status);
+      shown = differ (state .changes .shown) 0;
+      change = control .change;
+      completed = control .completed;
+    }
 
--- Of a class: notifications off, running, acknowledgement due, a connector shown; and ACK's bits 16 and 17.
-unfoldable pub judgedOf : Class → Bool → Bool → Bool → Bool → Bool → Bool → Answer
-judgedOf class off runs due shown change completed =
+-- ACK with neither bit, or a bit with nothing to clear.
+abbrev pub clearsNothing : Situation → Bool
+clearsNothing s = not (s .change || s .completed) || (s .change && not (s .shown)) || (s .completed && not (s .due))
+
+-- 2: notifications off, not PPM_RESET or 0x05. 3: running, not CANCEL. 4: acknowledgement due, not ACK with bit 17. 5 and 6 are ACK's and
+-- CANCEL's own.
+unfoldable pub refusalOf : Class → Situation → Answer
+refusalOf class s =
     pick (is Reset class) Taken
-    (pick (off && not (is Enable class)) NotificationsOff
-    (pick (runs && not (is Cancel class)) CommandRuns
-    (pick (due && not (is Acknowledge class && completed)) AcknowledgementDue
-    (pick (is Acknowledge class && clearsNothing due shown change completed) NothingToClear
-    (pick (is Cancel class && not runs) NothingToCancel
+    (pick (s .off && not (is Enable class)) NotificationsOff
+    (pick (s .runs && not (is Cancel class)) CommandRuns
+    (pick (s .due && not (is Acknowledge class && s .completed)) AcknowledgementDue
+    (pick (is Acknowledge class && clearsNothing s) NothingToClear
+    (pick (is Cancel class && not (s .runs)) NothingToCancel
     Taken)))))
 
-abbrev pub refusalOf : State → Class → Control → Answer
-refusalOf state class control =
-    judgedOf class (offOf (state .notifications)) (runsOf (state .status)) (dueOf (state .status)) (not (eqb (state .changes .shown) 0))
-    (control .change)
-    (control .completed)
+-- The row of a command that runs while notifications are off, which no event leads to: 0x05 is 3, everything else but PPM_RESET is 2.
+abbrev pub runsWhileOff : Class → Answer
+runsWhileOff Reset = Taken
+runsWhileOff Cancel = NotificationsOff
+runsWhileOff Acknowledge = NotificationsOff
+runsWhileOff Enable = CommandRuns
+runsWhileOff Run = NotificationsOff
+runsWhileOff NotSupported = NotificationsOff
 
--- A command that runs while notifications are off: 0x05 is 3, everything else but PPM_RESET is 2.
-abbrev pub unheardOf : Class → Answer
-unheardOf Reset = Taken
-unheardOf Cancel = NotificationsOff
-unheardOf Acknowledge = NotificationsOff
-unheardOf Enable = CommandRuns
-unheardOf Run = NotificationsOff
-unheardOf NotSupported = NotificationsOff
-
--- What stops a command outside a run: 2, then 4.
+-- What refuses a command outside a run: 2, then 4.
 unfoldable pub stoppedOf : Bool → Bool → Answer → Answer
 stoppedOf off due otherwise = pick off NotificationsOff (pick due AcknowledgementDue otherwise)

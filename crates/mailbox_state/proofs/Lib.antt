@@ -1,3 +1,3 @@
 pub mod Kept
 pub mod Numbers
-pub mod Telling
+pub mod Statuses

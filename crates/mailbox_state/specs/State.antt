@@ -1,4 +1,4 @@
--- Where the mailbox stands, all but its MESSAGE_IN (01, The mailbox).
+-- The mailbox's state, all but its MESSAGE_IN (01, The mailbox).
 use Prim.Native.Nat.{ℕ}
 use mathlib.Core.Bool.{Bool, true, false}
 use mathlib.Core.List.{List}

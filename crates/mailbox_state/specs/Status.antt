@@ -1,4 +1,4 @@
--- What is read off what the mailbox last told (01, The mailbox).
+-- What is read off the status of the last command (01, The mailbox).
 use mathlib.Core.Bool.{Bool, true, false}
 use Rattle.mailbox_state.specs.declared.status.CommandStatus.{CommandStatus}
 use Rattle.mailbox_state.specs.declared.status.CommandStatus.the-variants.{Nothing, ResetDone, Busy, Completed, Failed, NotSupported, Cancelled, Acknowledged}

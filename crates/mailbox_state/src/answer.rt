@@ -1,4 +1,4 @@
-// What a call of the mailbox answers.
+// What an event is answered; a definition gives each case its number (01, Numbers we answer).
 pub enum Answer {
     Taken,
     ControlLength,

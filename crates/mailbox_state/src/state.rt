@@ -1,4 +1,4 @@
-// Where the mailbox stands.
+// The mailbox's state without its MESSAGE_IN (01, The mailbox).
 use crate::status::CommandStatus;
 
 // A mask is there only while notifications are on.

@@ -1,17 +1,18 @@
-// What is decided on an event: where the mailbox stands then, its answer, and what it clears.
+// What is decided on an event: the next state, the answer, and what happens to MESSAGE_IN.
 use crate::answer::Answer;
 use crate::state::State;
 
-// What zeroes MESSAGE_IN: PPM_RESET, CANCEL, or a completion without data.
-pub enum Clears {
-    Nothing,
-    Reset,
-    Cancel,
-    NoData,
+// 01, The mailbox: start and ACK keep MESSAGE_IN; reset, cancel and a completion without data zero it; a success fills it.
+pub enum MessageEffect {
+    Kept,
+    ZeroedAtReset,
+    ZeroedAtCancel,
+    ZeroedAtCompletion,
+    Filled,
 }
 
 pub struct Step {
     pub state: State,
     pub answer: Answer,
-    pub clears: Clears,
+    pub effect: MessageEffect,
 }

@@ -1,6 +1,6 @@
 -- P1 to P12 hold, by computation (01, Bench examples).
 use mathlib.Core.Path.{refl}
-use Rattle.basis.specs.Pick.{pick}
+use Rattle.basis.specs.Pick.{pick, differ}
 use Rattle.image.specs.Blocks.{blocksOf}
 use Rattle.image.specs.Sum.{total, sumOf}
 use Rattle.wire.specs.Written.{initiatedBytes, responseBytes}
@@ -11,12 +11,14 @@ use Rattle.mailbox_state.specs.Status.{runsOf, dueOf}
 use Rattle.mailbox_rules.specs.Cci.{cciBitsOf}
 use Rattle.mailbox_rules.specs.Change.{changeStepOf, meetsOf, heardOf, presentStepOf}
 use Rattle.mailbox_rules.specs.Changes.{lowestFrom, markedOf, notedOf, nextShownOf}
-use Rattle.mailbox_rules.specs.Refusal.{judgedOf}
+use Rattle.mailbox_rules.specs.Refusal.{refusalOf}
 use Rattle.mailbox_rules.specs.Write.{connectorThere, startsCommand, takenStepOf, judgedStepOf}
-use Rattle.mailbox_rules.specs.Mailbox.{mailboxFreshOf}
-use Rattle.mailbox_rules.specs.Events.{mailboxReadOf}
+use Rattle.mailbox_state.specs.Connectors.{connectorsNumberOf}
+use Rattle.mailbox_rules.specs.Mailbox.{freshMailbox, mailboxFreshOf}
+use Rattle.mailbox_rules.specs.Events.{parsedStepOf}
+use Rattle.mailbox_rules.specs.History.{historyFrom}
 use Rattle.paper.specs.Table.{Paper}
 
 pub paper : Paper
-unfolding blocksOf sumOf total responseBytes initiatedBytes mailboxFreshOf mailboxReadOf controlOf fieldsOf entryOf judgedStepOf judgedOf takenStepOf startsCommand connectorThere pick offOf runsOf dueOf cciBitsOf changeStepOf presentStepOf heardOf meetsOf notedOf nextShownOf lowestFrom markedOf
+unfolding blocksOf sumOf total responseBytes initiatedBytes connectorsNumberOf freshMailbox mailboxFreshOf historyFrom parsedStepOf controlOf fieldsOf entryOf judgedStepOf refusalOf takenStepOf startsCommand connectorThere pick differ offOf runsOf dueOf cciBitsOf changeStepOf presentStepOf heardOf meetsOf notedOf nextShownOf lowestFrom markedOf
 paper = refl

@@ -8,7 +8,8 @@ use Rattle.image.specs.Sum.{sumOf}
 use Rattle.wire.specs.Written.{responseBytes}
 use Rattle.wire.specs.declared.response.Response.the-variants.{Initiate}
 use Rattle.mailbox_rules.specs.Mailbox.{mailboxFreshOf, mailboxCciOf}
-use Rattle.mailbox_rules.specs.History.{Event, writes, changes, eventOf}
+use Rattle.mailbox_rules.specs.Events.{Event, writes, changes}
+use Rattle.mailbox_rules.specs.History.{historyFrom}
 use Rattle.mailbox_state.specs.declared.mailbox.Mailbox.{Mailbox}
 
 -- CONTROL: the command in the first byte, bits 16 to 31 in the third and fourth.
@@ -16,12 +17,11 @@ abbrev pub control : ℕ → ℕ → ℕ → Event
 control code low high = writes (code ∷ 0 ∷ low ∷ high ∷ 0 ∷ 0 ∷ 0 ∷ 0 ∷ [])
 
 abbrev pub after : Mailbox → List Event → Mailbox
-after m [] = m
-after m (e ∷ es) = after (eventOf m e .mailbox) es
+after m events = historyFrom m events .mailbox
 
 -- Two connectors, after enabling (mask FFFF) and ACK.
 abbrev pub enabled : Mailbox
-enabled = after (mailboxFreshOf (record { count = 2 })) (control 0x05 0xFF 0xFF ∷ control 0x04 0x02 0x00 ∷ [])
+enabled = after (mailboxFreshOf 2 .mailbox) (control 0x05 0xFF 0xFF ∷ control 0x04 0x02 0x00 ∷ [])
 
 -- A file's blocks, a capacity's bytes in a ready INITIATE answer, the sum of accepted bytes, CCI after these events.
 pub data Example : Type 0 where

@@ -2,7 +2,7 @@
 use Prim.Native.Nat.{ℕ}
 use mathlib.Core.List.{List, [], _∷_, _++_}
 use mathlib.Core.Path.{_≡_, refl}
-use Rattle.basis.specs.Pick.{pick}
+use Rattle.basis.specs.Pick.{pick, differ}
 use Rattle.commands.specs.Control.{fieldsOf, controlOf}
 use Rattle.commands.specs.Table.{entryOf}
 use Rattle.printing.specs.Digits.{digitOf, decimalOf}
@@ -15,13 +15,15 @@ use Rattle.mailbox_rules.specs.Cci as cci
 use Rattle.mailbox_rules.specs.Change.{meetsOf, heardOf, presentStepOf}
 use Rattle.mailbox_rules.specs.Change as change
 use Rattle.mailbox_rules.specs.Changes as changes
-use Rattle.mailbox_rules.specs.Refusal.{judgedOf}
+use Rattle.mailbox_rules.specs.Refusal.{refusalOf}
 use Rattle.mailbox_rules.specs.Report.{successStepOf, failureStepOf}
 use Rattle.mailbox_rules.specs.Write.{connectorThere, startsCommand, takenStepOf, judgedStepOf}
-use Rattle.mailbox_rules.specs.Mailbox.{mailboxFreshOf}
-use Rattle.mailbox_rules.specs.Events.{mailboxReadOf, mailboxReportedOf}
-use Rattle.playing.specs.Turn.{eventIn, outcomeOf, printed}
-use Rattle.playing.specs.Replay.{shownOf, printedOf}
+use Rattle.mailbox_state.specs.Connectors.{connectorsNumberOf}
+use Rattle.mailbox_rules.specs.Mailbox.{freshMailbox, mailboxFreshOf}
+use Rattle.mailbox_rules.specs.Events.{parsedStepOf}
+use Rattle.mailbox_rules.specs.History.{historyFrom}
+use Rattle.playing.specs.Turn.{eventIn}
+use Rattle.playing.specs.Replay.{replayedOf, printedOf}
 
 -- The whole case's bytes.
 abbrev bytes : List ℕ
@@ -58,5 +60,5 @@ pub record Cases : Type 0 where
   pub misses : printedOf (masked ++ 0x02 ∷ 0x01 ∷ 0x00 ∷ 0x02 ∷ []) ≡ textOf 0x80000000 0 ++ textOf 0x20000000 0 ++ textOf 0x20000000 0
 
 pub cases : Cases
-unfolding shownOf apartOf turns nextRecordOf eventIn outcomeOf printed digitOf decimalOf tailOf mailboxFreshOf mailboxReadOf mailboxReportedOf controlOf fieldsOf entryOf judgedStepOf judgedOf takenStepOf startsCommand connectorThere pick offOf runsOf dueOf cci.cciBitsOf successStepOf change.changeStepOf presentStepOf heardOf meetsOf changes.notedOf changes.nextShownOf changes.lowestFrom changes.markedOf failureStepOf
+unfolding replayedOf historyFrom apartOf turns nextRecordOf eventIn digitOf decimalOf tailOf connectorsNumberOf freshMailbox mailboxFreshOf parsedStepOf controlOf fieldsOf entryOf judgedStepOf refusalOf takenStepOf startsCommand connectorThere pick differ offOf runsOf dueOf cci.cciBitsOf successStepOf change.changeStepOf presentStepOf heardOf meetsOf changes.notedOf changes.nextShownOf changes.lowestFrom changes.markedOf failureStepOf
 cases = record { whole-case = refl; failure = refl; second = refl; third = refl; meets = refl; misses = refl }

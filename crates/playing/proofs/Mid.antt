@@ -60,9 +60,9 @@ module _ (mailbox : Mailbox) (r : Record) (turn : Turn) (e : turn ≡ turnOf mai
   pub line-bytes : take (turn .line .len) (turn .line .bytes) ≡ printed (outcomeOf mailbox r)
   line-bytes = rw line-is (line-holds (printed (outcomeOf mailbox r)) .1)
 
-  pub turn-state : turn .mailbox ≡ outcomeOf mailbox r .mailbox
+  pub turn-mailbox : turn .mailbox ≡ outcomeOf mailbox r .mailbox
   unfolding turnOf
-  turn-state = ap (λ (t : Turn). t .mailbox) e
+  turn-mailbox = ap (λ (t : Turn). t .mailbox) e
 
 module _ (started : Mailbox) (part before : List ℕ) (mailbox : Mailbox) (taken written : ℕ) (out : List ℕ)
     (mid : Mid started part before mailbox taken written out) where
@@ -113,4 +113,4 @@ module _ (started : Mailbox) (part before : List ℕ) (mailbox : Mailbox) (taken
       → Mid started part before (turn .mailbox) next (written + turn .line .len) now
   mid-turn r next turn now e f h p =
       let len = line-len mailbox r turn f in
-      rw (turn-state mailbox r turn f, len) (mid-goes r next now e (omega arith) (p ∙ ap (pasted out written) (line-bytes mailbox r turn f)))
+      rw (turn-mailbox mailbox r turn f, len) (mid-goes r next now e (omega arith) (p ∙ ap (pasted out written) (line-bytes mailbox r turn f)))

@@ -1,7 +1,7 @@
 -- A part of a recording: how far it comes, why it stops, and that playing on from there joins up to the whole (01, Replay program).
 use Prim.Native.Nat.{ℕ, _+_, _*_, _-_, _<_, _≤_}
 use mathlib.Core.Path.{_≡_, refl, sym, _∙_, ap, subst}
-use mathlib.Core.List.{List, _++_, append-assoc}
+use mathlib.Core.List.{List, _++_, map, append-assoc}
 use native.Mathlib.Omega.{arith}
 use lib.ListN.{length, take, drop, length-drop, length-append}
 use lib.Seq.{drop-drop, drop-append-le, take-append-seam, drop-append-seam}
@@ -17,8 +17,9 @@ use Rattle.recording.specs.declared.record.Record.{Record}
 use Rattle.recording.specs.declared.reader.Read.the-variants.{Found, Ended}
 use Rattle.recording.specs.declared.reader.Ending.the-variants.{Whole, Cut, UnknownKind}
 use Rattle.mailbox_state.specs.declared.mailbox.Mailbox.{Mailbox}
-use Rattle.playing.specs.Turn.{outcomeOf, printed}
-use Rattle.playing.specs.Replay.{linesOf, shownOf, replayOf}
+use Rattle.playing.specs.Turn.{eventIn, outcomeOf, printed}
+use Rattle.playing.specs.Replay.{linesOf, Replayed, replayed, replayedOf, replayOf}
+use Rattle.mailbox_rules.specs.History.{historyFrom}
 use Rattle.playing.specs.Part.{partOf, leadsOf, playOf}
 use Rattle.playing.proofs.Lines.{printed-sized}
 use Rattle.playing.proofs.PartAll.{part-all}
@@ -73,27 +74,38 @@ never-full =
     let l = length-drop next part in
     ih (omega (arith, past, sized, l)))
 
--- The lines of a recording from its first record on.
-replay-found : (m : Mailbox) (s : List ℕ) (r : Record) (next : ℕ) → nextRecordOf s 0 ≡ Found r next → replayOf m s ≡ printed (outcomeOf m r) ++ replayOf (outcomeOf m r .mailbox) (drop next s)
-unfolding shownOf
-replay-found m s r next e =
-    ap (shownOf m) (apart-step s ∙ ap (onward apartOf s) e) ∙ append-assoc (printed (outcomeOf m r)) (linesOf (outcomeOf m r .mailbox) (apartOf (drop next s) .records)) _
+-- A recording whose text comes behind these lines.
+abbrev pub behindLines : List ℕ → Replayed → Replayed
+behindLines lines r = replayed (lines ++ r .text) (r .mailbox)
 
--- Whatever follows the part.
+-- A recording from its first record on.
+replay-found : (m : Mailbox) (s : List ℕ) (r : Record) (next : ℕ) → nextRecordOf s 0 ≡ Found r next
+    → replayOf m s ≡ behindLines (printed (outcomeOf m r)) (replayOf (outcomeOf m r .mailbox) (drop next s))
+unfolding replayedOf historyFrom outcomeOf printed
+replay-found m s r next e =
+    let rest = apartOf (drop next s) in
+    let after = historyFrom (outcomeOf m r .mailbox) (map eventIn (rest .records)) in
+    ap (replayedOf m) (apart-step s ∙ ap (onward apartOf s) e)
+    ∙ ap (λ (t : List ℕ). replayed t (after .mailbox)) (append-assoc (printed (outcomeOf m r)) (linesOf (after .answered)) _)
+
+-- Text and mailbox: what was played, and behind it the rest on the mailbox that it left, whatever follows the part.
 pub part-joins : (m : Mailbox) (room : ℕ) (part more : List ℕ)
-    → replayOf m (part ++ more) ≡ partOf m room (apartOf part) .text ++ replayOf (partOf m room (apartOf part) .mailbox) (drop (partOf m room (apartOf part) .taken) part ++ more)
+    → replayOf m (part ++ more)
+    ≡ behindLines (partOf m room (apartOf part) .text) (replayOf (partOf m room (apartOf part) .mailbox) (drop (partOf m room (apartOf part) .taken) part ++ more))
 part-joins m room part more =
-    part-all (λ m room part q. replayOf m (part ++ more) ≡ q .text ++ replayOf (q .mailbox) (drop (q .taken) part ++ more))
+    part-all (λ m room part q. replayOf m (part ++ more) ≡ behindLines (q .text) (replayOf (q .mailbox) (drop (q .taken) part ++ more)))
     (λ m room part ending e. refl)
     (λ m room part r next e h. refl)
     (λ m room part r next rest e h ih.
     let past = found-past part 0 r next e in
     let size : next ≡ length (recordBytesOf r) = omega (arith, past) in
+    let line = printed (outcomeOf m r) in
     replay-found m (part ++ more) r next (found-stays part more 0 r next e)
-    ∙ ap (λ (s : List ℕ). printed (outcomeOf m r) ++ replayOf (outcomeOf m r .mailbox) s) (drop-append-le next part more (past .2))
-    ∙ ap (λ (t : List ℕ). printed (outcomeOf m r) ++ t)
-    (ih ∙ ap (λ (s : List ℕ). rest .text ++ replayOf (rest .mailbox) (s ++ more)) (drop-drop (rest .taken) next part ∙ ap (λ (k : ℕ). drop (k + rest .taken) part) size))
-    ∙ sym (append-assoc (printed (outcomeOf m r)) (rest .text) _))
+    ∙ ap (λ (s : List ℕ). behindLines line (replayOf (outcomeOf m r .mailbox) s)) (drop-append-le next part more (past .2))
+    ∙ ap (behindLines line)
+    (ih ∙ ap (λ (s : List ℕ). behindLines (rest .text) (replayOf (rest .mailbox) (s ++ more))) (drop-drop (rest .taken) next part ∙ ap (λ (k : ℕ). drop (k + rest .taken) part) size))
+    ∙ (let last = replayOf (rest .mailbox) (drop (length (recordBytesOf r) + rest .taken) part ++ more) in
+    ap (λ (t : List ℕ). replayed t (last .mailbox)) (sym (append-assoc line (rest .text) (last .text)))))
     m room part
 
 -- Where it stops: with the part's end behind the last record, within a record, before an unknown kind, or before a record whose line is longer
@@ -142,9 +154,9 @@ part-leaves m room part =
 
 -- The same of what `play` hands out.
 module _ (m : Mailbox) (part out : List ℕ) (r : Played) (now : List ℕ) (e : left r now ≡ playOf m part out) where
-  pub play-state : r .mailbox ≡ partOf m (length out) (apartOf part) .mailbox
+  pub play-mailbox : r .mailbox ≡ partOf m (length out) (apartOf part) .mailbox
   unfolding leadsOf
-  play-state = ap (λ (x : Left Played). x .answer .mailbox) e
+  play-mailbox = ap (λ (x : Left Played). x .answer .mailbox) e
 
   pub play-taken : r .taken ≡ partOf m (length out) (apartOf part) .taken
   unfolding leadsOf
@@ -155,9 +167,9 @@ module _ (m : Mailbox) (part out : List ℕ) (r : Played) (now : List ℕ) (e : 
   play-stop = ap (λ (x : Left Played). x .answer .stop) e
 
   -- Playing on from where it stopped joins up to the whole, whatever follows.
-  pub play-joins : (more : List ℕ) → replayOf m (part ++ more) ≡ take (r .written) now ++ replayOf (r .mailbox) (drop (r .taken) part ++ more)
-  play-joins more = rw (play-writes m part out r now e .0, play-state, play-taken) (part-joins m (length out) part more)
+  pub play-joins : (more : List ℕ) → replayOf m (part ++ more) ≡ behindLines (take (r .written) now) (replayOf (r .mailbox) (drop (r .taken) part ++ more))
+  play-joins more = rw (play-writes m part out r now e .0, play-mailbox, play-taken) (part-joins m (length out) part more)
 
   pub play-stops : Because (r .mailbox) (length out - r .written) (drop (r .taken) part) (r .stop)
   unfolding leadsOf
-  play-stops = rw (play-state, play-taken, play-stop, ap (λ (x : Left Played). x .answer .written) e) (part-stops m (length out) part)
+  play-stops = rw (play-mailbox, play-taken, play-stop, ap (λ (x : Left Played). x .answer .written) e) (part-stops m (length out) part)

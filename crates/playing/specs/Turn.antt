@@ -8,7 +8,7 @@ use Rattle.recording.specs.declared.record.Record.the-variants.{Control, Change
 use Rattle.printing.specs.Line.{textOf, lineIn}
 use Rattle.mailbox_state.specs.Answer.{mailboxNumberOf}
 use Rattle.mailbox_rules.specs.Mailbox.{mailboxCciOf}
-use Rattle.mailbox_rules.specs.History.{Event, writes, succeeds, fails, changes, eventOf}
+use Rattle.mailbox_rules.specs.Events.{Event, writes, succeeds, fails, changes, eventOf}
 use Rattle.mailbox_state.specs.declared.mailbox.Mailbox.{Mailbox}
 use Rattle.mailbox_state.specs.declared.mailbox.Outcome.{Outcome}
 use Rattle.playing.specs.declared.turn.Turn.{Turn}

@@ -1,6 +1,6 @@
 // A part of a recording played into a lent output.
-use crate::step::clear;
 use crate::step::line_after;
+use crate::step::settle_record;
 use crate::step::step_of;
 use mailbox_state::mailbox::Mailbox;
 use printing::Line;
@@ -20,7 +20,7 @@ pub enum Stop {
     Full,
 }
 
-// The next record stands at `taken`, and the next line goes to `written`.
+// The next record is at `taken`, and the next line goes to `written`.
 pub struct Played {
     pub mailbox: Mailbox,
     pub taken: usize,
@@ -59,7 +59,8 @@ pub fn play(mailbox: Mailbox, part: &[u8], out: &mut [u8]) -> Played
                     };
                 }
                 put(out, written, line);
-                clear(&mut message, step);
+                let effect = step.effect;
+                settle_record(&mut message, effect, record);
                 state = step.state;
                 taken = next;
                 written += line.len;

@@ -1,25 +1,27 @@
-// What a record decides, the line that it prints, and MESSAGE_IN after it where it stands: no record copies those 256 bytes.
+// What a record decides, the line that it prints, and MESSAGE_IN after it, in its place: no record copies those 256 bytes.
 use mailbox_state::answer::Answer;
 use mailbox_state::state::State;
-use mailbox_state::step::Clears;
+use mailbox_state::step::MessageEffect;
 use mailbox_state::step::Step;
 use printing::Line;
 use printing::line_of;
 use recording::ControlBytes;
 use recording::Record;
 ghost use mathlib.Core.Path.{_≡_};
+ghost use lib.ListN.{replicate};
 ghost use Rattle.recording.specs.Record.{controlBytes};
-ghost use Rattle.mailbox_rules.specs.Mailbox.{clearedOf};
-ghost use Rattle.mailbox_rules.specs.Events.{writeStepOf};
-ghost use Rattle.playing.specs.Step.{successStep, stepIn, lineAfter};
+ghost use Rattle.mailbox_rules.specs.MessageIn.{settledOf};
+ghost use Rattle.mailbox_rules.specs.Events.{writeStepOf, eventStepOf, portBytes};
+ghost use Rattle.playing.specs.Turn.{eventIn};
+ghost use Rattle.playing.specs.Step.{lineAfter};
 
 pub(crate) fn step_of(state: State, record: Record) -> Step
-    ensures { λ r. ⌜ r ≡ stepIn state «record» ⌝ }
+    ensures { λ r. ⌜ r ≡ eventStepOf state (eventIn «record») ⌝ }
 {
     match record {
         Record::Control(control) => write(state, control),
         Record::Change { connector, reason } => mailbox_decide::change(state, connector, reason),
-        Record::Success { length } => success(state, length),
+        Record::Success { length } => mailbox_decide::succeed(state, length as usize),
         Record::Failure => mailbox_decide::fail(state),
     }
 }
@@ -31,23 +33,6 @@ fn write(state: State, control: ControlBytes) -> Step
     mailbox::write_step(state, &bytes)
 }
 
-// The bytes that are reported are zeros: they are not in the recording, and MESSAGE_IN is zeroed.
-fn success(state: State, length: u8) -> Step
-    ensures { λ r. ⌜ r ≡ successStep state length ⌝ }
-{
-    let step = mailbox_decide::succeed(state, length as usize);
-    let answer = step.answer;
-    if mailbox_decide::answer_number(answer) != 0 {
-        return mailbox_decide::refused(state, answer);
-    }
-    let state = step.state;
-    Step {
-        state,
-        answer,
-        clears: Clears::NoData,
-    }
-}
-
 pub(crate) fn line_after(state: State, answer: Answer) -> Line
     ensures { λ r. ⌜ r ≡ lineAfter state answer ⌝ }
 {
@@ -56,14 +41,25 @@ pub(crate) fn line_after(state: State, answer: Answer) -> Line
     line_of(cci, mailbox_decide::answer_number(answer))
 }
 
-pub(crate) fn clear(message: &mut [u8; 256], step: Step)
-    ensures { λ _. ⌜ now (message .exit) ≡ clearedOf (now (message .entry)) (step .clears) ⌝ }
+pub(crate) fn settle_record(message: &mut [u8; 256], effect: MessageEffect, record: Record)
+    ensures { λ _. ⌜ now (message .exit) ≡ settledOf (now (message .entry)) effect (portBytes (eventIn «record»)) ⌝ }
 {
-    let clears = step.clears;
-    match clears {
-        Clears::Nothing => {}
-        Clears::Reset => *message = [0; 256],
-        Clears::Cancel => *message = [0; 256],
-        Clears::NoData => *message = [0; 256],
+    match record {
+        Record::Control(_) => mailbox::settle(message, effect, b""),
+        Record::Change {
+            connector: _,
+            reason: _,
+        } => mailbox::settle(message, effect, b""),
+        Record::Success { length } => settle_zeros(message, effect, length),
+        Record::Failure => mailbox::settle(message, effect, b""),
     }
+}
+
+// The bytes of a success are zeros, as many as its record says (01, Replay program).
+fn settle_zeros(message: &mut [u8; 256], effect: MessageEffect, length: u8)
+    ensures { λ _. ⌜ now (message .exit) ≡ settledOf (now (message .entry)) effect (replicate length 0) ⌝ }
+{
+    let zeros = [0; 255];
+    let count = length as usize;
+    mailbox::settle(message, effect, &zeros[..count]);
 }

@@ -1,6 +1,6 @@
 // One record played on a mailbox.
-use crate::step::clear;
 use crate::step::line_after;
+use crate::step::settle_record;
 use crate::step::step_of;
 use mailbox_state::answer::Answer;
 use mailbox_state::mailbox::Mailbox;
@@ -24,7 +24,8 @@ pub fn play_record(mailbox: Mailbox, record: Record) -> Turn
     let state = step.state;
     let answer = step.answer;
     let line = line_after(state, answer);
-    clear(&mut message, step);
+    let effect = step.effect;
+    settle_record(&mut message, effect, record);
     Turn {
         mailbox: Mailbox { state, message },
         answer,

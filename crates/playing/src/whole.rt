@@ -1,6 +1,5 @@
 // How a whole recording begins, and the line that it ends with.
 use crate::part::Stop;
-use mailbox_state::connectors::Connectors;
 use mailbox_state::mailbox::Mailbox;
 use printing::Line;
 use recording::Ending;
@@ -15,10 +14,11 @@ const CONNECTORS: u8 = 2;
 pub fn begin() -> Mailbox
     ensures { λ r. ⌜ r ≡ begun ⌝ }
 {
-    mailbox::fresh(Connectors { count: CONNECTORS })
+    let fresh = mailbox::fresh(CONNECTORS);
+    fresh.mailbox
 }
 
-// The line that ends a recording which ends here: nothing behind a whole one.
+// The line that closes a recording which ends here: none where it is whole.
 pub fn closing(stop: Stop) -> Line
     ensures { λ r. ⌜ r ≡ closingOf stop ⌝ }
 {

@@ -14,7 +14,7 @@ use Rattle.recording.specs.Apart.{apartOf}
 use Rattle.recording.specs.declared.reader.Ending.the-variants.{Whole, Cut, UnknownKind}
 use Rattle.mailbox_state.specs.declared.mailbox.Mailbox.{Mailbox}
 use Rattle.playing.specs.Part.{partOf, playOf}
-use Rattle.playing.proofs.PartLaws.{play-state, play-taken, play-stop, NotFull, never-full, Leaves, part-leaves}
+use Rattle.playing.proofs.PartLaws.{play-mailbox, play-taken, play-stop, NotFull, never-full, Leaves, part-leaves}
 use Rattle.playing.specs.declared.part.Stop.{Stop}
 use Rattle.playing.specs.declared.part.Stop.the-variants.{Ended, Full}
 use Rattle.playing.specs.declared.part.Played.{Played}
@@ -48,7 +48,7 @@ module _ (mailbox : Mailbox) (part out : List ℕ) (r : Played) (now : List ℕ)
       let s = take (filled - r .taken) (drop (r .taken) before) in
       let l : length s ≡ filled - r .taken = length-take-le (filled - r .taken) (drop (r .taken) before) (simp length-drop (omega arith)) in
       record {
-        mailbox = play-state mailbox part out r now e;
+        mailbox = play-mailbox mailbox part out r now e;
         stop = play-stop mailbox part out r now e;
         rest = ap (take (filled - r .taken)) a ∙ take-at s (drop (length s) before) (filled - r .taken) l
             ∙ sym (drop-of-take (r .taken) filled before) ∙ ap (drop (r .taken)) (sym p) ∙ ap (λ (k : ℕ). drop k part) (play-taken mailbox part out r now e);

@@ -1,5 +1,4 @@
 // The mailbox that lines work on, if there is one, and what is said of the last line (01, The mailbox).
-use mailbox_state::connectors::Connectors;
 use mailbox_state::mailbox::Mailbox;
 use saying::Said;
 
@@ -12,9 +11,11 @@ pub(crate) struct Held {
 
 impl Held {
     pub(crate) fn nothing() -> Held {
+        let fresh = mailbox::fresh(0);
+        let mailbox = fresh.mailbox;
         Held {
             there: false,
-            mailbox: mailbox::fresh(Connectors { count: 1 }),
+            mailbox,
             said: Said::nothing(),
         }
     }

@@ -5,7 +5,6 @@ use crate::mailbox_outcome;
 use crate::mailbox_word;
 use crate::mailbox_word::Act;
 use crate::mailbox_word::Step;
-use mailbox_state::connectors::Counted;
 use saying::Said;
 use script::Field;
 
@@ -26,15 +25,12 @@ fn new(words: &[u8], held: Held) -> Held {
     if !count.ends(words) {
         return held.says(Said::not_understood());
     }
-    let counted = mailbox_decide::counted(count.byte());
-    let Counted::Made(connectors) = counted else {
-        let number = mailbox_decide::counted_number(counted);
+    let fresh = mailbox::fresh(count.byte());
+    let number = fresh.number;
+    if number != 0 {
         return Held::nothing().says(Said::nothing().number(number as u64));
-    };
-    mailbox_outcome::left(
-        mailbox_decide::counted_number(counted),
-        mailbox::fresh(connectors),
-    )
+    }
+    mailbox_outcome::left(number, fresh.mailbox)
 }
 
 fn within(step: Step, words: &[u8], held: Held) -> Held {

@@ -5,7 +5,7 @@ use mailbox_state::status::Command;
 use mailbox_state::status::CommandStatus;
 use saying::Said;
 
-// The mailbox is told, and held from here on.
+// The mailbox is printed, and held from here on.
 pub(crate) fn left(number: u8, mailbox: Mailbox) -> Held {
     let state = mailbox.state;
     let status = state.status;

@@ -9,13 +9,13 @@ pub(crate) fn show(recording: &[u8], at: usize, buffer: &mut [u8]) -> Said {
     match read {
         Read::Ended(ending) => ending::add(Said::nothing(), ending),
         Read::Found { record, next } => {
-            let said = status(record).text(b" :").number(next as u64);
+            let said = read_text(record).text(b" :").number(next as u64);
             write(said, record, buffer)
         }
     }
 }
 
-fn status(record: Record) -> Said {
+fn read_text(record: Record) -> Said {
     let said = Said::nothing();
     match record {
         Record::Control(control) => said.text(b" Control").all(&control.bytes()),
@@ -27,7 +27,7 @@ fn status(record: Record) -> Said {
     }
 }
 
-// All of the room is told, so that a byte which is not written shows too.
+// All of the room is printed, so that a byte which is not written shows too.
 fn write(said: Said, record: Record, buffer: &mut [u8]) -> Said {
     let written = recording::write(record, buffer);
     let number = written.number();

@@ -8,5 +8,4 @@ harsolvek-mailbox-fresh-spec =
     (tie.spec
     (λ c κs. search needs)
     (λ c κs. search needs)
-    (λ c κs. search needs)
-    (λ c. rw (c .made .ensures, c .before .counted-number .ensures, c .before .before .counted .ensures)))
+    (λ c. rw (c .pack .ensures, c .before .before .fresh .ensures)))

@@ -7,5 +7,6 @@ change-spec =
     tie.close
     (tie.spec
     (λ c κs. search needs)
+    (λ c. search needs)
     (λ c κs. search needs)
-    (λ c. rw (← c .before .change .ensures) (c .settled .ensures)))
+    (λ c. rw (← c .before .before .change .ensures) (c .settled .ensures)))

@@ -7,5 +7,6 @@ report-failure-spec =
     tie.close
     (tie.spec
     (λ c κs. search needs)
+    (λ c. search needs)
     (λ c κs. search needs)
-    (λ c. rw (← c .before .fail .ensures) (c .settled .ensures)))
+    (λ c. rw (← c .before .before .fail .ensures) (c .settled .ensures)))

@@ -1,5 +1,4 @@
 use borrow.Author.Needs.{needs}
-use Rattle.mailbox_rules.proofs.Settled.{read-settled}
 use Rattle.mailbox.proofs.event.write.Statement.{statement}
 use Rattle.mailbox.proofs.event.write.Tie as tie
 
@@ -8,5 +7,6 @@ write-spec =
     tie.close
     (tie.spec
     (λ c κs. search needs)
+    (λ c. search needs)
     (λ c κs. search needs)
-    (λ c. rw (read-settled _ _, ← c .before .write-step .ensures) (c .settled .ensures)))
+    (λ c. rw (← c .before .before .write-step .ensures) (c .settled .ensures)))

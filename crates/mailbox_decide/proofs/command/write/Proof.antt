@@ -1,12 +1,24 @@
-use Rattle.basis.specs.Pick.{pick}
+use Rattle.basis.specs.Pick.{pick, differ, tests}
 use Rattle.mailbox_rules.specs.Write.{judgedStepOf}
-use Rattle.basis.specs.Pick.{tests}
 use borrow.Author.Needs.{needs}
 use Rattle.mailbox_decide.proofs.command.write.Statement.{statement}
 use Rattle.mailbox_decide.proofs.command.write.Tie as tie
 
+returns : tie.Need-returns
+unfolding judgedStepOf
+returns c =
+    let n = c .before .before in
+    let judged = n .before in
+    search (tests, c .refused .ensures, c .before .if1 .taken, ← n .answer-number .ensures, ← judged .refusal .ensures, ← judged .before .situation .ensures, ← judged .before .before .look .ensures)
+
+returns-2 : tie.Need-returns-2
+unfolding judgedStepOf differ pick
+returns-2 c =
+    let n = c .before .before in
+    let judged = n .before in
+    rw (← judged .before .before .look .ensures, ← judged .before .situation .ensures, ← judged .refusal .ensures, ← n .answer-number .ensures, c .before .if1 .left) (c .taken .ensures)
+
 pub write-spec : {M : Type 1} → statement M
-unfolding judgedStepOf pick
 write-spec =
     tie.close
     (tie.spec
@@ -14,7 +26,7 @@ write-spec =
     (λ c κs. search needs)
     (λ c κs. search needs)
     (λ c κs. search needs)
-    (λ c. search (tests, c .refused .ensures, c .before .if1 .taken, ← c .before .before .answer-number .ensures, ← c .before .before .before .refusal .ensures, ← c .before .before .before .before .look .ensures))
     (λ c κs. search needs)
-    (λ c. let n = c .before .before in
-    rw (← n .before .before .look .ensures, ← n .before .refusal .ensures, ← n .answer-number .ensures, c .before .if1 .left) (c .taken .ensures)))
+    returns
+    (λ c κs. search needs)
+    returns-2)

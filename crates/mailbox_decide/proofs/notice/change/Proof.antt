@@ -11,6 +11,6 @@ change-spec =
     (tie.spec
     (λ c κs. search needs)
     (λ c κs. search needs)
-    (λ c. search (tests, c .present .ensures, c .before .if1 .taken, ← c .before .before .there .ensures))
+    (λ c. search (tests, c .refused .ensures, c .before .if1 .taken, ← c .before .before .there .ensures))
     (λ c κs. search needs)
-    (λ c. search (tests, c .refused .ensures, c .before .if1 .left, ← c .before .before .there .ensures)))
+    (λ c. search (tests, c .present .ensures, c .before .if1 .left, ← c .before .before .there .ensures)))

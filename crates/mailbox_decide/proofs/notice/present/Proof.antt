@@ -10,6 +10,6 @@ present-spec =
     tie.close
     (tie.spec
     (λ c κs. search needs)
+    (λ c. search (tests, c .if1 .taken, ← c .before .heard .ensures))
     (λ c κs. search needs)
-    (λ c. search (tests, c .note .ensures, c .before .if1 .taken, ← c .before .before .heard .ensures))
-    (λ c. search (tests, c .if1 .left, ← c .before .heard .ensures)))
+    (λ c. search (tests, c .note .ensures, c .before .if1 .left, ← c .before .before .heard .ensures)))

@@ -11,6 +11,6 @@ acknowledge-spec =
     (tie.spec
     (λ c κs. search needs)
     (λ c κs. search needs)
-    (λ c. rw (← acknowledges _ _ _ _ _, ← c .before .before .clears-nothing .ensures, c .before .if1 .taken) (c .stopped .ensures))
+    (λ c. let a = c .before .before .before .before .before in rw (← acknowledges (a .args .situation) (a .pre), ← c .before .before .clears-nothing .ensures, c .before .if1 .taken) (c .stopped .ensures))
     (λ c κs. search needs)
-    (λ c. rw (← acknowledges _ _ _ _ _, ← c .before .before .clears-nothing .ensures, c .before .if1 .left) (c .stopped2 .ensures)))
+    (λ c. let a = c .before .before .before .before .before in rw (← acknowledges (a .args .situation) (a .pre), ← c .before .before .clears-nothing .ensures, c .before .if1 .left) (c .stopped2 .ensures)))

@@ -11,6 +11,6 @@ fail-spec =
     (tie.spec
     (λ c κs. search needs)
     (λ c κs. search needs)
-    (λ c. search (tests, c .tell .ensures, c .before .if1 .taken, ← c .before .before .runs .ensures))
+    (λ c. search (tests, c .refused .ensures, c .before .if1 .taken, ← c .before .before .runs .ensures))
     (λ c κs. search needs)
-    (λ c. search (tests, c .refused .ensures, c .before .if1 .left, ← c .before .before .runs .ensures)))
+    (λ c. search (tests, c .with-status .ensures, c .before .if1 .left, ← c .before .before .runs .ensures)))

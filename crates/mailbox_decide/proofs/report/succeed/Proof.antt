@@ -11,9 +11,9 @@ succeed-spec =
     (tie.spec
     (λ c κs. search needs)
     (λ c κs. search needs)
-    (λ c. search (tests, c .refused .ensures, c .before .if2 .taken, c .before .before .if1 .taken, ← c .before .before .before .runs .ensures))
+    (λ c. search (tests, c .refused .ensures, c .before .if1 .taken, ← c .before .before .runs .ensures))
+    (λ c κs. search needs)
+    (λ c. search (tests, c .refused2 .ensures, c .before .if2 .taken, c .before .before .if1 .left, ← c .before .before .before .runs .ensures))
     (λ c. search needs)
     (λ c κs. search needs)
-    (λ c. search (tests, c .tell .ensures, c .before .if2 .left, c .before .before .if1 .taken, ← c .before .before .before .runs .ensures))
-    (λ c κs. search needs)
-    (λ c. search (tests, c .refused2 .ensures, c .before .if1 .left, ← c .before .before .runs .ensures)))
+    (λ c. search (tests, c .with-status .ensures, c .before .if2 .left, c .before .before .if1 .left, ← c .before .before .before .runs .ensures)))

@@ -10,9 +10,8 @@ is-mailbox-spec =
     tie.close
     (tie.spec
     (λ c κs. search needs)
+    (λ c. search (← (c .before .connectors-number .ensures), tests))
     (λ c κs. search needs)
-    (λ c. search (← (c .before .before .counted .ensures), ← (c .before .counted-number .ensures), tests))
     (λ c κs. search needs)
-    (λ c κs. search needs)
-    (λ c. search (← (c .before .before .before .before .before .before .counted .ensures), ← (c .before .before .before .before .before .counted-number .ensures), ← (c .before .before .are-flags .ensures), c .says .ensures, tests))
-    (λ c. search (← (c .before .before .before .before .before .counted .ensures), ← (c .before .before .before .before .counted-number .ensures), ← (c .before .are-flags .ensures), tests)))
+    (λ c. let flags = c .before .before in search (← (flags .before .before .before .connectors-number .ensures), ← (flags .are-flags .ensures), c .says .ensures, tests))
+    (λ c. let flags = c .before in search (← (flags .before .before .before .connectors-number .ensures), ← (flags .are-flags .ensures), tests)))
