@@ -5,6 +5,7 @@ use mailbox_state::mailbox::Mailbox;
 use mailbox_state::mailbox::Outcome;
 use mailbox_state::step::Step;
 ghost use mathlib.Core.Path.{_≡_};
+ghost use Rattle.mailbox_rules.specs.Mailbox.{mailbox, mailboxReturns};
 ghost use Rattle.mailbox_rules.specs.Events.{stepReturns};
 ghost use Rattle.mailbox_flat.specs.Flat.{unpackOf};
 ghost use Rattle.link.specs.Mailbox.{flatMailboxOf, noMailbox, harsolvekMailboxFresh, harsolvekMailboxWrite, harsolvekMailboxSuccess, harsolvekMailboxFailure, harsolvekMailboxChange, harsolvekMailboxCci, harsolvekMailboxMessageIn};
@@ -37,13 +38,23 @@ fn flat(outcome: Outcome) -> MailboxOutcome
     MailboxOutcome { state, number }
 }
 
-// MESSAGE_IN goes straight from the old state to the next one, by the routine that settles every step.
+// MESSAGE_IN goes straight from the old state to the next one where the step keeps it; else it is settled in an array of its own.
 fn settled(state: FlatMailbox, step: Step, bytes: &[u8]) -> MailboxOutcome
     ensures { λ r. ⌜ r ≡ flatMailboxOf (stepReturns (unpackOf state) step (now (bytes .entry))) ⌝ }
 {
-    let mut message = state.message_in;
     let effect = step.effect;
+    if mailbox::keeps(effect) {
+        let message = state.message_in;
+        return moved(step, message);
+    }
+    let mut message = [0; 256];
     mailbox::settle(&mut message, effect, bytes);
+    moved(step, message)
+}
+
+fn moved(step: Step, message: [u8; 256]) -> MailboxOutcome
+    ensures { λ r. ⌜ r ≡ flatMailboxOf (mailboxReturns (mailbox (step .state) message) (step .answer)) ⌝ }
+{
     let answer = step.answer;
     let state = step.state;
     flat(Outcome {

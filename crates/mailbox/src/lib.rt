@@ -12,4 +12,5 @@ pub use event::write_step;
 pub use mailbox::cci;
 pub use mailbox::fresh;
 pub use mailbox::message_in;
+pub use settle_call::keeps;
 pub use settle_call::settle;

@@ -1,6 +1,6 @@
 // A part of a recording played into a lent output.
 use crate::step::line_after;
-use crate::step::settle_record;
+use crate::step::settle_zeros;
 use crate::step::step_of;
 use mailbox_state::mailbox::Mailbox;
 use printing::Line;
@@ -60,7 +60,7 @@ pub fn play(mailbox: Mailbox, part: &[u8], out: &mut [u8]) -> Played
                 }
                 put(out, written, line);
                 let effect = step.effect;
-                settle_record(&mut message, effect, record);
+                settle_zeros(&mut message, effect);
                 state = step.state;
                 taken = next;
                 written += line.len;

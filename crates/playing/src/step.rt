@@ -8,12 +8,12 @@ use printing::line_of;
 use recording::ControlBytes;
 use recording::Record;
 ghost use mathlib.Core.Path.{_≡_};
-ghost use lib.ListN.{replicate};
+ghost use mathlib.Core.List.{[]};
 ghost use Rattle.recording.specs.Record.{controlBytes};
 ghost use Rattle.mailbox_rules.specs.MessageIn.{settledOf};
-ghost use Rattle.mailbox_rules.specs.Events.{writeStepOf, eventStepOf, portBytes};
+ghost use Rattle.mailbox_rules.specs.Events.{writeStepOf, eventStepOf};
 ghost use Rattle.playing.specs.Turn.{eventIn};
-ghost use Rattle.playing.specs.Step.{lineAfter};
+ghost use Rattle.playing.specs.Step.{zeroedOf, lineAfter};
 
 pub(crate) fn step_of(state: State, record: Record) -> Step
     ensures { λ r. ⌜ r ≡ eventStepOf state (eventIn «record») ⌝ }
@@ -41,25 +41,21 @@ pub(crate) fn line_after(state: State, answer: Answer) -> Line
     line_of(cci, mailbox_decide::answer_number(answer))
 }
 
-pub(crate) fn settle_record(message: &mut [u8; 256], effect: MessageEffect, record: Record)
-    ensures { λ _. ⌜ now (message .exit) ≡ settledOf (now (message .entry)) effect (portBytes (eventIn «record»)) ⌝ }
+// The bytes of a recorded success are zeros (01, Replay program), so that MESSAGE_IN is zeroed where it would be filled.
+pub(crate) fn settle_zeros(message: &mut [u8; 256], effect: MessageEffect)
+    ensures { λ _. ⌜ now (message .exit) ≡ settledOf (now (message .entry)) (zeroedOf effect) [] ⌝ }
 {
-    match record {
-        Record::Control(_) => mailbox::settle(message, effect, b""),
-        Record::Change {
-            connector: _,
-            reason: _,
-        } => mailbox::settle(message, effect, b""),
-        Record::Success { length } => settle_zeros(message, effect, length),
-        Record::Failure => mailbox::settle(message, effect, b""),
-    }
+    mailbox::settle(message, zeroed(effect), b"");
 }
 
-// The bytes of a success are zeros, as many as its record says (01, Replay program).
-fn settle_zeros(message: &mut [u8; 256], effect: MessageEffect, length: u8)
-    ensures { λ _. ⌜ now (message .exit) ≡ settledOf (now (message .entry)) effect (replicate length 0) ⌝ }
+fn zeroed(effect: MessageEffect) -> MessageEffect
+    ensures { λ r. ⌜ r ≡ zeroedOf effect ⌝ }
 {
-    let zeros = [0; 255];
-    let count = length as usize;
-    mailbox::settle(message, effect, &zeros[..count]);
+    match effect {
+        MessageEffect::Kept => MessageEffect::Kept,
+        MessageEffect::ZeroedAtReset => MessageEffect::ZeroedAtReset,
+        MessageEffect::ZeroedAtCancel => MessageEffect::ZeroedAtCancel,
+        MessageEffect::ZeroedAtCompletion => MessageEffect::ZeroedAtCompletion,
+        MessageEffect::Filled => MessageEffect::ZeroedAtCompletion,
+    }
 }

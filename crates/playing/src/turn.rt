@@ -1,6 +1,6 @@
 // One record played on a mailbox.
 use crate::step::line_after;
-use crate::step::settle_record;
+use crate::step::settle_zeros;
 use crate::step::step_of;
 use mailbox_state::answer::Answer;
 use mailbox_state::mailbox::Mailbox;
@@ -25,7 +25,7 @@ pub fn play_record(mailbox: Mailbox, record: Record) -> Turn
     let answer = step.answer;
     let line = line_after(state, answer);
     let effect = step.effect;
-    settle_record(&mut message, effect, record);
+    settle_zeros(&mut message, effect);
     Turn {
         mailbox: Mailbox { state, message },
         answer,

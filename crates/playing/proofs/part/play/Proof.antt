@@ -63,8 +63,8 @@ put-requires c κs =
     let turn = turn-is (mailbox (l .state) (l .message)) _ (s .result) (s .ensures) _ _ (c .before .before .before .line-after .ensures) refl in
     (line-fits _ _ _ turn, omega (arith, c .before .if1 .left, l .inv .room))
 
-settle-record-requires : tie.Need-settle-record-requires Inv-loop μ-loop
-settle-record-requires c κs = search needs
+settle-zeros-requires : tie.Need-settle-zeros-requires Inv-loop μ-loop
+settle-zeros-requires c κs = search needs
 
 add-written : tie.Need-add-written Inv-loop μ-loop
 add-written c = let l = c .before .before .before .before .before .before .before .before .before .before .before .before .before .before .before .before .loop in omega (arith, c .before .before .before .before .before .before .before .before .if1 .left, l .inv .room, l .inv .size, c .before .before .before .before .before .before .before .before .before .before .before .before .before .before .before .before .before .before .before .before .before .good)
@@ -81,7 +81,7 @@ loop-again c =
     let g = c .before .before .before .before .before .before .before .before .before .before .before .before .before .before .before .before .before .before .before .before .before .args in
     let l = c .before .before .before .before .before .before .before .before .before .before .before .before .before .before .before .before .loop in
     let s = c .before .before .before .before .before .before .before .before .before .before .before .step-of in
-    let turn = turn-is (mailbox (l .state) (l .message)) _ (s .result) (s .ensures) _ _ (c .before .before .before .before .before .before .before .before .before .before .line-after .ensures) (c .before .before .settle-record .ensures) in
+    let turn = turn-is (mailbox (l .state) (l .message)) _ (s .result) (s .ensures) _ _ (c .before .before .before .before .before .before .before .before .before .before .line-after .ensures) (c .before .before .settle-zeros .ensures) in
     mid-turn (g .mailbox) (now (g .part)) (now (g .out)) (mailbox (l .state) (l .message)) (l .taken) (l .written) (l .out) (l .inv) _ _ _ _ (sym (c .before .before .before .before .before .before .before .before .before .before .before .before .before .before .before .next .ensures) ∙ c .before .before .before .before .before .before .before .before .before .before .before .before .before .read2 .given .1) turn (c .before .before .before .before .before .before .before .before .if1 .left) (c .before .before .before .before .before .before .put .ensures)
 
 pub play-spec : {M : Type 1} → statement M
@@ -102,7 +102,7 @@ play-spec =
     same-length-2
     returns-2
     put-requires
-    settle-record-requires
+    settle-zeros-requires
     add-written
     loop-less
     loop-again)

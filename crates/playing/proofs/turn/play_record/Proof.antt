@@ -11,4 +11,4 @@ play-record-spec =
     (λ c κs. search needs)
     (λ c κs. search needs)
     (λ c. let s = c .before .before .before .before in
-    turn-is (s .before .before .before .args .mailbox) (s .before .before .before .args .«record») (s .step-of .result) (s .step-of .ensures) _ _ (c .before .before .line-after .ensures) (c .settle-record .ensures)))
+    turn-is (s .before .before .before .args .mailbox) (s .before .before .before .args .«record») (s .step-of .result) (s .step-of .ensures) _ _ (c .before .before .line-after .ensures) (c .settle-zeros .ensures)))
