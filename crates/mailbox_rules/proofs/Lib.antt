@@ -19,3 +19,4 @@ pub mod Laws
 pub mod Message
 pub mod Reached
 pub mod Shown
+pub mod Sentences
