@@ -3,3 +3,4 @@ pub mod Receivers
 pub mod Indoors
 pub mod Mailboxes
 pub mod Unique
+pub mod Settling

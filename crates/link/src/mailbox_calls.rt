@@ -6,8 +6,7 @@ use mailbox_state::mailbox::Outcome;
 use mailbox_state::step::Step;
 ghost use mathlib.Core.Path.{_≡_};
 ghost use Rattle.mailbox_rules.specs.Mailbox.{mailbox, mailboxReturns};
-ghost use Rattle.mailbox_rules.specs.Events.{stepReturns};
-ghost use Rattle.mailbox_flat.specs.Flat.{unpackOf};
+ghost use Rattle.mailbox_rules.specs.MessageIn.{zeroMessageIn, settledOf};
 ghost use Rattle.link.specs.Mailbox.{flatMailboxOf, noMailbox, harsolvekMailboxFresh, harsolvekMailboxWrite, harsolvekMailboxSuccess, harsolvekMailboxFailure, harsolvekMailboxChange, harsolvekMailboxCci, harsolvekMailboxMessageIn};
 
 #[repr(C)]
@@ -38,23 +37,26 @@ fn flat(outcome: Outcome) -> MailboxOutcome
     MailboxOutcome { state, number }
 }
 
-// MESSAGE_IN goes straight from the old state to the next one where the step keeps it; else it is settled in an array of its own.
-fn settled(state: FlatMailbox, step: Step, bytes: &[u8]) -> MailboxOutcome
-    ensures { λ r. ⌜ r ≡ flatMailboxOf (stepReturns (unpackOf state) step (now (bytes .entry))) ⌝ }
+// MESSAGE_IN goes straight from the old state to the next one where the step keeps it, so that it is copied once.
+fn kept(state: FlatMailbox, step: Step) -> MailboxOutcome
+    ensures { λ r. ⌜ r ≡ flatMailboxOf (mailboxReturns (mailbox (step .state) (state .«message_in»)) (step .answer)) ⌝ }
 {
-    let effect = step.effect;
-    if mailbox::keeps(effect) {
-        let message = state.message_in;
-        return moved(step, message);
-    }
-    let mut message = [0; 256];
-    mailbox::settle(&mut message, effect, bytes);
-    moved(step, message)
+    let message = state.message_in;
+    let answer = step.answer;
+    let state = step.state;
+    flat(Outcome {
+        mailbox: Mailbox { state, message },
+        answer,
+    })
 }
 
-fn moved(step: Step, message: [u8; 256]) -> MailboxOutcome
-    ensures { λ r. ⌜ r ≡ flatMailboxOf (mailboxReturns (mailbox (step .state) message) (step .answer)) ⌝ }
+// Else what was in it does not matter, and it is settled in an array of its own.
+fn anew(step: Step, bytes: &[u8]) -> MailboxOutcome
+    ensures { λ r. ⌜ r ≡ flatMailboxOf (mailboxReturns (mailbox (step .state) (settledOf zeroMessageIn (step .effect) (now (bytes .entry)))) (step .answer)) ⌝ }
 {
+    let mut message = [0; 256];
+    let effect = step.effect;
+    mailbox::settle(&mut message, effect, bytes);
     let answer = step.answer;
     let state = step.state;
     flat(Outcome {
@@ -92,7 +94,11 @@ pub extern "C" fn harsolvek_mailbox_write(state: FlatMailbox, control: &[u8]) ->
     if state.is_mailbox() {
         let mailbox = state.unpack();
         let step = mailbox::write_step(mailbox.state, control);
-        return settled(state, step, b"");
+        let effect = step.effect;
+        if mailbox::keeps(effect) {
+            return kept(state, step);
+        }
+        return anew(step, b"");
     }
     no_mailbox(state)
 }
@@ -104,7 +110,11 @@ pub extern "C" fn harsolvek_mailbox_success(state: FlatMailbox, bytes: &[u8]) ->
     if state.is_mailbox() {
         let mailbox = state.unpack();
         let step = mailbox_decide::succeed(mailbox.state, bytes.len());
-        return settled(state, step, bytes);
+        let effect = step.effect;
+        if mailbox::keeps(effect) {
+            return kept(state, step);
+        }
+        return anew(step, bytes);
     }
     no_mailbox(state)
 }
@@ -116,7 +126,11 @@ pub extern "C" fn harsolvek_mailbox_failure(state: FlatMailbox) -> MailboxOutcom
     if state.is_mailbox() {
         let mailbox = state.unpack();
         let step = mailbox_decide::fail(mailbox.state);
-        return settled(state, step, b"");
+        let effect = step.effect;
+        if mailbox::keeps(effect) {
+            return kept(state, step);
+        }
+        return anew(step, b"");
     }
     no_mailbox(state)
 }
@@ -132,7 +146,11 @@ pub extern "C" fn harsolvek_mailbox_change(
     if state.is_mailbox() {
         let mailbox = state.unpack();
         let step = mailbox_decide::change(mailbox.state, connector, reason);
-        return settled(state, step, b"");
+        let effect = step.effect;
+        if mailbox::keeps(effect) {
+            return kept(state, step);
+        }
+        return anew(step, b"");
     }
     no_mailbox(state)
 }

@@ -1,0 +1,24 @@
+-- MESSAGE_IN kept, or settled in an array of its own: both ways a step leaves what the mailbox's own call leaves.
+use Prim.Native.Nat.{ℕ}
+use mathlib.Core.Bool.{true, false}
+use mathlib.Core.List.{List}
+use mathlib.Core.Path.{_≡_, sym, ap}
+use Rattle.mailbox_state.specs.declared.step.Step.{Step}
+use Rattle.mailbox_rules.specs.MessageIn.{zeroMessageIn, settledOf, keepsOf}
+use Rattle.mailbox_rules.specs.Mailbox.{mailbox, mailboxReturns}
+use Rattle.mailbox_rules.specs.Events.{stepReturns}
+use Rattle.mailbox_rules.proofs.Message.{settled-anew, settled-keeps}
+use Rattle.mailbox_flat.specs.Flat.{unpackOf}
+use Rattle.mailbox_flat.specs.declared.flat.FlatMailbox.{FlatMailbox}
+use Rattle.link.specs.Mailbox.{flatMailboxOf}
+use Rattle.link.specs.declared.mailbox_calls.MailboxOutcome.{MailboxOutcome}
+
+module _ (f : FlatMailbox) (step : Step) (bytes : List ℕ) where
+  abbrev with-message : List ℕ → MailboxOutcome
+  with-message message = flatMailboxOf (mailboxReturns (mailbox (step .state) message) (step .answer))
+
+  pub kept-settles : keepsOf (step .effect) ≡ true → with-message (f .«message_in») ≡ flatMailboxOf (stepReturns (unpackOf f) step bytes)
+  kept-settles e = ap with-message (sym (settled-keeps (step .effect) (f .«message_in») bytes e))
+
+  pub anew-settles : keepsOf (step .effect) ≡ false → with-message (settledOf zeroMessageIn (step .effect) bytes) ≡ flatMailboxOf (stepReturns (unpackOf f) step bytes)
+  anew-settles e = ap with-message (settled-anew (step .effect) zeroMessageIn (f .«message_in») bytes e)
