@@ -32,8 +32,8 @@ use Rattle.indoor_state.proofs.session.Started.{the-type}
 use Rattle.indoor_rules.proofs.Fresh.{start-fresh}
 use Rattle.line.specs.Line.{Wide}
 use Rattle.line.specs.Line as line
-use Rattle.clean.specs.Run.{carriedOf, cleanBegunOf}
-use Rattle.clean.specs.Turn.{ends}
+use Rattle.clean.specs.Run.{cleanCarriedOf, cleanBegunOf}
+use Rattle.clean.specs.Turn.{endsUnderway}
 use Rattle.clean.specs.On.{cleanWorld, On}
 use Rattle.clean.specs.declared.ran.Ran.the-variants.{FileSize}
 use Rattle.clean.proofs.On.{one-goes}
@@ -83,7 +83,7 @@ module _ (release : Release) (identity : Identity) (file up memory : List ℕ) (
       started = sym did ∙ ap (λ (y : Started). left y up′) is
 
       -- A file that was taken is carried.
-      pub start-carries : carriedOf (session .plan .release) identity file memory ≡ cleanBegunOf release identity file memory
+      pub start-carries : cleanCarriedOf (session .plan .release) identity file memory ≡ cleanBegunOf release identity file memory
       unfolding cleanBegunOf pick
       start-carries =
           let f = start-fresh release file up limit resends session written up′ started in
@@ -91,13 +91,13 @@ module _ (release : Release) (identity : Identity) (file up memory : List ℕ) (
           rw (ne-eqb (length file) 0 (λ z. omega arith), le-ltb imageSizeMost (length file) (f .most), f .offered)
 
       pub start-on : Wide release (r .identity) → length up′ ≡ 260
-          → On file memory (session .plan .release) (r .identity) (ends r session written) memory up′ 0
+          → On file memory (session .plan .release) (r .identity) (endsUnderway r session written) memory up′ 0
       start-on wide long =
           let f = start-fresh release file up limit resends session written up′ started in
           let two = ap length (f .written) in
           let cut = length-take written up′ in
           let one : withSent written up′ [] ≡ take written up′ ∷ [] = one-goes written up′ (λ z. omega arith) in
-          let w : line.World = cleanWorld (ends r session written) memory (take written up′ ∷ []) [] in
+          let w : line.World = cleanWorld (endsUnderway r session written) memory (take written up′ ∷ []) [] in
           let fresh : line.Fresh file memory release (r .identity) limit resends limit resends w = record {
             receiver = made;
             out = up;
@@ -108,7 +108,7 @@ module _ (release : Release) (identity : Identity) (file up memory : List ℕ) (
             requests = refl;
             responses = refl;
           } in
-          subst (λ (q : Release). On file memory q (r .identity) (ends r session written) memory up′ 0) (sym (f .offered))
+          subst (λ (q : Release). On file memory q (r .identity) (endsUnderway r session written) memory up′ 0) (sym (f .offered))
           (record {
             wide = wide;
             deliveries = 0;

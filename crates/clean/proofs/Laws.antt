@@ -25,7 +25,7 @@ use Rattle.indoor_state.specs.declared.phase.Reason.the-variants.{NotNewer, Too
 use Rattle.indoor_state.specs.declared.phase.Phase.the-variants.{Done, Failed}
 use Rattle.indoor_rules.specs.Newer.{newerOf}
 use Rattle.indoor_rules.proofs.Compared.{Newer, newer-only, newer-yes, newer-no}
-use Rattle.clean.specs.Run.{cleanNumberOf, transferredOf, carriedOf, cleanBegunOf, checkedOf, runOf}
+use Rattle.clean.specs.Run.{cleanNumberOf, transferredOf, cleanCarriedOf, cleanBegunOf, checkedOf, cleanRunOf}
 use Rattle.clean.specs.declared.ran.Ran.{Ran}
 use Rattle.clean.specs.declared.ran.Ran.the-variants.{Settings, FileSize, Ended}
 
@@ -49,11 +49,11 @@ ended-count count requests e = cc
 
 module _ (limit resends : ℕ) (identity : Identity) (release : Release) (file image : List ℕ) where
   abbrev ran : Left Ran
-  ran = runOf limit resends identity release file image
+  ran = cleanRunOf limit resends identity release file image
 
   -- 29 whatever the file is
   pub run-29-capacity : 1048575 < length image → ran ≡ left Settings image
-  unfolding runOf pick
+  unfolding cleanRunOf pick
   run-29-capacity h = rw (lt-ltb 1048575 (length image) h)
 
   refused : (x : Checked) → silent.settingsNumberOf x ≡ 29 → checkedOf x release identity file image ≡ left Settings image
@@ -62,14 +62,14 @@ module _ (limit resends : ℕ) (identity : Identity) (release : Release) (file i
   refused Che.Refused e = refl
 
   pub run-29-settings : (Within limit resends → ⊥) → ran ≡ left Settings image
-  unfolding runOf
+  unfolding cleanRunOf
   run-29-settings h =
       pick-all (λ (x : Left Ran). x ≡ left Settings image) (ltb imageSizeMost (length image)) _ _ (λ _. refl)
       (λ _. refused (silent.settingsOf limit resends) (outside-29 limit resends h))
 
   module _ (room : length image ≤ 1048575) (within : Within limit resends) where
     begins : ran ≡ cleanBegunOf release identity file image
-    unfolding runOf checkedOf pick
+    unfolding cleanRunOf checkedOf pick
     begins = rw (le-ltb 1048575 (length image) room, within-made limit resends within)
 
     -- 46 whatever the receiver is
@@ -82,24 +82,24 @@ module _ (limit resends : ℕ) (identity : Identity) (release : Release) (file i
     run-46-long h = begins ∙ rw (ne-eqb (length file) 0 (λ e. omega arith), lt-ltb 1048575 (length file) h)
 
     module _ (some : 1 ≤ length file) (most : length file ≤ 1048575) where
-      carried : ran ≡ carriedOf release identity file image
+      carried : ran ≡ cleanCarriedOf release identity file image
       unfolding cleanBegunOf pick
       carried = begins ∙ rw (ne-eqb (length file) 0 (λ e. omega arith), le-ltb 1048575 (length file) most)
 
       -- 42 also where the file is too large; nothing but GET_FW_ID was sent, and the image is as it was.
       pub run-42 : (Newer release identity → ⊥) → ran ≡ left (Ended (Failed NotNewer) 1) image
-      unfolding carriedOf pick
+      unfolding cleanCarriedOf pick
       run-42 h = carried ∙ rw (newer-no release identity h)
 
       module _ (newer : Newer release identity) where
         -- 43: GET_FW_ID, INITIATE and ABORT were sent, and the image is as it was.
         pub run-43 : length image < length file → ran ≡ left (Ended (Failed TooLarge) 3) image
-        unfolding carriedOf transferredOf pick
+        unfolding cleanCarriedOf transferredOf pick
         run-43 h = carried ∙ rw (newer-yes release identity newer, lt-ltb (length image) (length file) h)
 
         -- Done after exactly n + 4 requests: the image begins with the file, and goes on as it lay.
         pub run-done : length file ≤ length image → ran ≡ left (Ended Done (blocksOf (length file) + 4)) (file ++ drop (length file) image)
-        unfolding carriedOf transferredOf pick
+        unfolding cleanCarriedOf transferredOf pick
         run-done h = carried ∙ rw (newer-yes release identity newer, le-ltb (length image) (length file) h)
 
         pub run-begins : length file ≤ length image → take (length file) (ran .memory) ≡ file
@@ -134,7 +134,7 @@ module _ (limit resends : ℕ) (identity : Identity) (release : Release) (file i
       })
 
   begun-only : Within limit resends → length image ≤ imageSizeMost → Only (cleanBegunOf release identity file image)
-  unfolding cleanBegunOf carriedOf
+  unfolding cleanBegunOf cleanCarriedOf
   begun-only legal room =
       pick-all Only (eqb (length file) 0) _ _ (λ _ requests e. absurd (size-done requests e))
       (λ a. let none = eqb-false (length file) 0 a in
@@ -150,7 +150,7 @@ module _ (limit resends : ℕ) (identity : Identity) (release : Release) (file i
 
   -- Done is told of no other session.
   pub done-only : Only ran
-  unfolding runOf
+  unfolding cleanRunOf
   done-only =
       pick-all Only (ltb imageSizeMost (length image)) _ _ (λ _ requests e. absurd (settings-done requests e))
       (λ t. checked-only (silent.settingsOf limit resends) refl (ltb-false imageSizeMost (length image) t))

@@ -30,9 +30,9 @@ use Rattle.line.proofs.Course.{safe}
 use Rattle.line.proofs.Sent.{sent-length}
 use Rattle.line.proofs.Ends.{most-requests, rests-done, rests-42, rests-43}
 use Rattle.line.proofs.Demand3.{demand3}
-use Rattle.clean.specs.Run.{transferredOf, carriedOf}
-use Rattle.clean.specs.Turn.{ends, Answered, answered, answerOf, Turned, turned, deliveredOf, turnOf}
-use Rattle.clean.specs.On.{turnsMost, cleanWorld, lineOf, On}
+use Rattle.clean.specs.Run.{transferredOf, cleanCarriedOf}
+use Rattle.clean.specs.Turn.{endsUnderway, Answered, answered, answerOf, Turned, turned, deliveredOf, cleanTurnOf}
+use Rattle.clean.specs.On.{turnsMost, cleanWorld, cleanLineOf, On}
 use Rattle.clean.specs.declared.ends.Ends.{Ends}
 use Rattle.clean.specs.declared.ran.Ran.{Ran}
 use Rattle.clean.specs.declared.ran.Ran.the-variants.{Ended}
@@ -51,7 +51,7 @@ module _ (file memory : List ℕ) (release : Release) (identity : Identity) (e :
   abbrev y : Left Outcome
   y = indoorResponseOf (e .indoor) file (take (x .outcome .written) (x .out)) upper
 
-  heard : Clean file memory release identity (suc (on .deliveries)) (carriedUp (lineOf e image upper (on .requests) (on .responses)) [] x)
+  heard : Clean file memory release identity (suc (on .deliveries)) (carriedUp (cleanLineOf e image upper (on .requests) (on .responses)) [] x)
   heard = delivers (on .clean) _ (up (take (e .underway) upper) [] (one-goes (e .underway) upper some) lower room)
 
   delivered-one : length (on .requests) ≡ delivered + 1
@@ -60,24 +60,24 @@ module _ (file memory : List ℕ) (release : Release) (identity : Identity) (e :
   abbrev Then : Answered → Type 0
   Then a = On file memory release identity (a .ends) (x .image) (a .up) (delivered + 1)
 
-  silent : x .outcome .written ≡ 0 → Then (answered (ends (x .outcome .session) (e .indoor) 0) upper)
+  silent : x .outcome .written ≡ 0 → Then (answered (endsUnderway (x .outcome .session) (e .indoor) 0) upper)
   unfolding pick
   silent none = record {
     wide = on .wide;
     deliveries = suc (on .deliveries);
     requests = on .requests;
     responses = withSent (x .outcome .written) (x .out) (on .responses);
-    clean = subst (λ (d : List (List ℕ)). Clean file memory release identity (suc (on .deliveries)) (line (carriedUp (lineOf e image upper (on .requests) (on .responses)) [] x .world) [] d))
+    clean = subst (λ (d : List (List ℕ)). Clean file memory release identity (suc (on .deliveries)) (line (carriedUp (cleanLineOf e image upper (on .requests) (on .responses)) [] x .world) [] d))
         (none-goes (x .outcome .written) (x .out) none) heard;
     count = delivered-one ∙ omega arith;
     room = on .room;
     fits = omega arith;
   }
 
-  told : (x .outcome .written ≡ 0 → ⊥) → Clean file memory release identity (suc (suc (on .deliveries))) (carriedDown (carriedUp (lineOf e image upper (on .requests) (on .responses)) [] x) [] y)
+  told : (x .outcome .written ≡ 0 → ⊥) → Clean file memory release identity (suc (suc (on .deliveries))) (carriedDown (carriedUp (cleanLineOf e image upper (on .requests) (on .responses)) [] x) [] y)
   told more = delivers heard _ (down (take (x .outcome .written) (x .out)) [] (one-goes (x .outcome .written) (x .out) more) upper (let long = on .room in omega arith))
 
-  answers : (x .outcome .written ≡ 0 → ⊥) → Then (answered (ends (x .outcome .session) (y .answer .session) (y .answer .written)) (y .memory))
+  answers : (x .outcome .written ≡ 0 → ⊥) → Then (answered (endsUnderway (x .outcome .session) (y .answer .session) (y .answer .written)) (y .memory))
   answers more = record {
     wide = on .wide;
     deliveries = suc (suc (on .deliveries));
@@ -97,18 +97,18 @@ module _ (file memory : List ℕ) (release : Release) (identity : Identity) (e :
       (λ t. silent (eqb-true (x .outcome .written) 0 t))
       (λ f. answers (eqb-false (x .outcome .written) 0 f))
 
-  turn-delivers : turnOf e file image upper lower ≡ deliveredOf e file image upper lower
-  unfolding turnOf pick
+  turn-delivers : cleanTurnOf e file image upper lower ≡ deliveredOf e file image upper lower
+  unfolding cleanTurnOf pick
   turn-delivers = let long = on .room in rw (le-ltb (length upper) (e .underway) (omega (arith, on .fits)))
 
   -- One more request is delivered.
-  pub turn-on : (e′ : Ends) (image′ upper′ lower′ : List ℕ) → turned e′ image′ upper′ lower′ ≡ turnOf e file image upper lower
+  pub turn-on : (e′ : Ends) (image′ upper′ lower′ : List ℕ) → turned e′ image′ upper′ lower′ ≡ cleanTurnOf e file image upper lower
       → On file memory release identity e′ image′ upper′ (delivered + 1)
   unfolding deliveredOf
   turn-on e′ image′ upper′ lower′ did =
       subst (λ (t : Turned). On file memory release identity (t .ends) (t .image) (t .up) (delivered + 1)) (sym (did ∙ turn-delivers)) answer-on
 
-  turn-room : (e′ : Ends) (image′ upper′ lower′ : List ℕ) → turned e′ image′ upper′ lower′ ≡ turnOf e file image upper lower → length lower′ ≡ length lower
+  turn-room : (e′ : Ends) (image′ upper′ lower′ : List ℕ) → turned e′ image′ upper′ lower′ ≡ cleanTurnOf e file image upper lower → length lower′ ≡ length lower
   unfolding deliveredOf
   turn-room e′ image′ upper′ lower′ did =
       ap (λ (t : Turned). length (t .down)) (did ∙ turn-delivers) ∙ request-length (e .receiver) image (take (e .underway) upper) 0 Ver.Good lower
@@ -116,7 +116,7 @@ module _ (file memory : List ℕ) (release : Release) (identity : Identity) (e :
 module _ (file memory : List ℕ) (release : Release) (identity : Identity) (e : Ends) (image upper : List ℕ) (delivered : ℕ)
     (on : On file memory release identity e image upper delivered) where
   abbrev l : Line
-  l = lineOf e image upper (on .requests) (on .responses)
+  l = cleanLineOf e image upper (on .requests) (on .responses)
 
   goes-or-not : (t : Bool) → eqb (e .underway) 0 ≡ t → turnsMost ≤ delivered → e .underway ≡ 0
   goes-or-not true t h = eqb-true (e .underway) 0 t
@@ -160,8 +160,8 @@ module _ (file memory : List ℕ) (release : Release) (identity : Identity) (e :
         same (Failed TooLarge) 3 memory (r .1 .stands) (r .1 .requests) (r .0))
         (λ f. done new (ltb-false (length memory) (length file) f))
 
-    pub ran : Is (carriedOf release identity file memory)
-    unfolding carriedOf
+    pub ran : Is (cleanCarriedOf release identity file memory)
+    unfolding cleanCarriedOf
     ran =
         pick-all Is (newerOf release identity) _ _ transferred
         (λ f.
@@ -175,7 +175,7 @@ pub record Mid (file memory : List ℕ) (release : Release) (identity : Identity
   pub room : length lower ≡ 260
 
 module _ (file memory : List ℕ) (release : Release) (identity : Identity) (e : Ends) (image upper lower : List ℕ) (remaining : ℕ) (mid : Mid file memory release identity e image upper lower remaining) where
-  pub mid-turn : 0 < remaining → (e .underway ≡ 0 → ⊥) → (e′ : Ends) (image′ upper′ lower′ : List ℕ) → turned e′ image′ upper′ lower′ ≡ turnOf e file image upper lower
+  pub mid-turn : 0 < remaining → (e .underway ≡ 0 → ⊥) → (e′ : Ends) (image′ upper′ lower′ : List ℕ) → turned e′ image′ upper′ lower′ ≡ cleanTurnOf e file image upper lower
       → Mid file memory release identity e′ image′ upper′ lower′ (remaining - 1)
   mid-turn more some e′ image′ upper′ lower′ did =
       let bound = mid .bound in
@@ -193,6 +193,6 @@ module _ (file memory : List ℕ) (release : Release) (identity : Identity) (e :
   mid-size = safe file memory release identity (mid .on .wide) (mid .on .clean) .size
 
   -- No turn is left, or the loop was left because nothing is on its way.
-  pub mid-rests : (remaining ≡ 0) ⊎ (e .underway ≡ 0) → left (Ended (e .indoor .state .phase) (turnsMost - remaining)) image ≡ carriedOf release identity file memory
+  pub mid-rests : (remaining ≡ 0) ⊎ (e .underway ≡ 0) → left (Ended (e .indoor .state .phase) (turnsMost - remaining)) image ≡ cleanCarriedOf release identity file memory
   mid-rests (inl none) = ran file memory release identity e image upper (turnsMost - remaining) (mid .on) (turns-suffice file memory release identity e image upper (turnsMost - remaining) (mid .on) (omega arith))
   mid-rests (inr none) = ran file memory release identity e image upper (turnsMost - remaining) (mid .on) none

@@ -17,7 +17,7 @@ use Rattle.receiver_state.specs.declared.session.Receiver.{Receiver}
 use Rattle.receiver_state.specs.declared.session.Started.the-variants.{Made, Refused}
 use Rattle.receiver_rules.proofs.Fresh.{refused-made, start-fresh}
 use Rattle.indoor_state.specs.declared.plan.Release.{Release}
-use Rattle.clean.specs.Run.{cleanBegunOf, checkedOf, runOf}
+use Rattle.clean.specs.Run.{cleanBegunOf, checkedOf, cleanRunOf}
 use Rattle.clean.specs.declared.ran.Ran.the-variants.{Settings}
 
 module _ (limit resends : ℕ) (identity : Identity) (release : Release) (file memory : List ℕ) where
@@ -27,12 +27,12 @@ module _ (limit resends : ℕ) (identity : Identity) (release : Release) (file m
   checked-29 Che.Refused e = refl
 
   tested-29 : (t : Bool) → ltb imageSizeMost (length memory) ≡ t → pick t Refused (receiverFreshOf (settingsOf limit resends) identity (length memory)) ≡ Refused
-      → left Settings memory ≡ runOf limit resends identity release file memory
-  unfolding runOf pick
+      → left Settings memory ≡ cleanRunOf limit resends identity release file memory
+  unfolding cleanRunOf pick
   tested-29 true t e = rw t
   tested-29 false t e = rw t (checked-29 (settingsOf limit resends) e)
 
-  pub refused-29 : receiverStartOf limit resends identity (length memory) ≡ Refused → left Settings memory ≡ runOf limit resends identity release file memory
+  pub refused-29 : receiverStartOf limit resends identity (length memory) ≡ Refused → left Settings memory ≡ cleanRunOf limit resends identity release file memory
   unfolding receiverStartOf
   refused-29 = tested-29 (ltb imageSizeMost (length memory)) refl
 
@@ -42,8 +42,8 @@ module _ (limit resends : ℕ) (identity : Identity) (release : Release) (file m
   checked-begun r Che.Refused e = absurd (refused-made r e)
 
   tested-begun : (r : Receiver) (t : Bool) → ltb imageSizeMost (length memory) ≡ t → pick t Refused (receiverFreshOf (settingsOf limit resends) identity (length memory)) ≡ Made r
-      → cleanBegunOf release identity file memory ≡ runOf limit resends identity release file memory
-  unfolding runOf pick
+      → cleanBegunOf release identity file memory ≡ cleanRunOf limit resends identity release file memory
+  unfolding cleanRunOf pick
   tested-begun r true t e = absurd (refused-made r e)
   tested-begun r false t e = rw t (checked-begun r (settingsOf limit resends) e)
 
@@ -51,7 +51,7 @@ module _ (limit resends : ℕ) (identity : Identity) (release : Release) (file m
     pub same-identity : r .identity ≡ identity
     same-identity = start-fresh limit resends identity (length memory) r made .who
 
-    pub made-begun : cleanBegunOf release (r .identity) file memory ≡ runOf limit resends identity release file memory
+    pub made-begun : cleanBegunOf release (r .identity) file memory ≡ cleanRunOf limit resends identity release file memory
     unfolding receiverStartOf
     made-begun =
         ap (λ (i : Identity). cleanBegunOf release i file memory) same-identity

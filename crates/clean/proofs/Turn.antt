@@ -18,7 +18,7 @@ use Rattle.receiver_state.specs.declared.session.Outcome.{Outcome}
 use Rattle.receiver_rules.proofs.Walk.{request-walk}
 use Rattle.receiver_rules.proofs.Written.{request-within}
 use Rattle.indoor_state.specs.declared.session.Indoor.{Indoor}
-use Rattle.clean.specs.Turn.{ends, answered, answerOf, turned, turnedOf, deliveredOf, turnOf}
+use Rattle.clean.specs.Turn.{endsUnderway, answered, answerOf, turned, turnedOf, deliveredOf, cleanTurnOf}
 use Rattle.clean.specs.declared.ends.Ends.{Ends}
 
 -- Whatever the receiver answers, and to whatever it was given, lies in the buffer.
@@ -42,11 +42,11 @@ none-read q e = let z : _≡_ {A = ℕ} 0 1 = cc in omega arith
 
 module _ (r : Receiver) (i : Indoor) (file image up down : List ℕ) where
   -- A line at rest stays as it is.
-  pub rest-stays : turnOf (ends r i 0) file image up down ≡ turned (ends r i 0) image up down
-  unfolding turnOf deliveredOf answerOf pick
+  pub rest-stays : cleanTurnOf (endsUnderway r i 0) file image up down ≡ turned (endsUnderway r i 0) image up down
+  unfolding cleanTurnOf deliveredOf answerOf pick
   rest-stays =
       rw (le-ltb (length up) 0 (omega arith))
       (request-walk r image [] 0 Ver.Good down
-      (λ x. turnedOf x (answerOf (x .outcome .session) i file up (x .out) (x .outcome .written)) ≡ turned (ends r i 0) image up down)
+      (λ x. turnedOf x (answerOf (x .outcome .session) i file up (x .out) (x .outcome .written)) ≡ turned (endsUnderway r i 0) image up down)
       refl refl refl refl
       (λ q _ _ e. absurd (none-read q e)))

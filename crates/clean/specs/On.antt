@@ -17,8 +17,8 @@ abbrev pub cleanWorld : Ends → List ℕ → List (List ℕ) → List (List ℕ
 cleanWorld e image requests responses = record { receiver = e .receiver; indoor = e .indoor; image = image; requests = requests; responses = responses }
 
 -- The request in the buffer is all that is on its way.
-abbrev pub lineOf : Ends → List ℕ → List ℕ → List (List ℕ) → List (List ℕ) → Line
-lineOf e image up requests responses = line (cleanWorld e image requests responses) (withSent (e .underway) up []) []
+abbrev pub cleanLineOf : Ends → List ℕ → List ℕ → List (List ℕ) → List (List ℕ) → Line
+cleanLineOf e image up requests responses = line (cleanWorld e image requests responses) (withSent (e .underway) up []) []
 
 -- So many requests were delivered.
 pub record On (file memory : List ℕ) (release : Release) (identity : Identity) (e : Ends) (image up : List ℕ) (delivered : ℕ) : Type 0 where
@@ -26,7 +26,7 @@ pub record On (file memory : List ℕ) (release : Release) (identity : Identity)
   pub deliveries : ℕ
   pub requests : List (List ℕ)
   pub responses : List (List ℕ)
-  pub clean : Clean file memory release identity deliveries (lineOf e image up requests responses)
+  pub clean : Clean file memory release identity deliveries (cleanLineOf e image up requests responses)
   pub count : length requests ≡ delivered + length (withSent (e .underway) up [])
   pub room : length up ≡ 260
   pub fits : e .underway ≤ 260

@@ -43,8 +43,8 @@ transferredOf file image =
     (left (Ended Done (blocksOf (length file) + 4)) (writtenInto file image))
 
 -- 42: nothing but GET_FW_ID was sent.
-unfoldable pub carriedOf : Release → Identity → List ℕ → List ℕ → Left Ran
-carriedOf release identity file image =
+unfoldable pub cleanCarriedOf : Release → Identity → List ℕ → List ℕ → Left Ran
+cleanCarriedOf release identity file image =
     pick (newerOf release identity) (transferredOf file image)
     (left (Ended (Failed NotNewer) 1) image)
 
@@ -53,14 +53,14 @@ unfoldable pub cleanBegunOf : Release → Identity → List ℕ → List ℕ →
 cleanBegunOf release identity file image =
     pick (eqb (length file) 0) (left FileSize image)
     (pick (ltb imageSizeMost (length file)) (left FileSize image)
-    (carriedOf release identity file image))
+    (cleanCarriedOf release identity file image))
 
 -- 29
 unfoldable pub checkedOf : Checked → Release → Identity → List ℕ → List ℕ → Left Ran
 checkedOf (Che.Made settings) release identity file image = cleanBegunOf release identity file image
 checkedOf Che.Refused release identity file image = left Settings image
 
-unfoldable pub runOf : ℕ → ℕ → Identity → Release → List ℕ → List ℕ → Left Ran
-runOf limit resends identity release file image =
+unfoldable pub cleanRunOf : ℕ → ℕ → Identity → Release → List ℕ → List ℕ → Left Ran
+cleanRunOf limit resends identity release file image =
     pick (ltb imageSizeMost (length image)) (left Settings image)
     (checkedOf (settingsOf limit resends) release identity file image)

@@ -13,8 +13,8 @@ use Rattle.indoor_state.specs.declared.session.Indoor.{Indoor}
 use Rattle.indoor_state.specs.declared.session.Outcome.{Outcome}
 use Rattle.clean.specs.declared.ends.Ends.{Ends}
 
-abbrev pub ends : Receiver → Indoor → ℕ → Ends
-ends receiver indoor underway = record { receiver = receiver; indoor = indoor; underway = underway }
+abbrev pub endsUnderway : Receiver → Indoor → ℕ → Ends
+endsUnderway receiver indoor underway = record { receiver = receiver; indoor = indoor; underway = underway }
 
 -- Both ends and the buffer of requests.
 pub record Answered : Type 0 where
@@ -25,11 +25,11 @@ abbrev pub answered : Ends → List ℕ → Answered
 answered e up = record { ends = e; up = up }
 
 abbrev pub afterResponseOf : Receiver → Left Outcome → Answered
-afterResponseOf receiver x = answered (ends receiver (x .answer .session) (x .answer .written)) (x .memory)
+afterResponseOf receiver x = answered (endsUnderway receiver (x .answer .session) (x .answer .written)) (x .memory)
 
 unfoldable pub answerOf : Receiver → Indoor → List ℕ → List ℕ → List ℕ → ℕ → Answered
 answerOf receiver indoor file up down written =
-    pick (eqb written 0) (answered (ends receiver indoor 0) up)
+    pick (eqb written 0) (answered (endsUnderway receiver indoor 0) up)
     (afterResponseOf receiver (indoorResponseOf indoor file (take written down) up))
 
 -- Both ends, the image and the two buffers.
@@ -51,5 +51,5 @@ deliveredOf e file image up down =
     turnedOf x (answerOf (x .outcome .session) (e .indoor) file up (x .out) (x .outcome .written))
 
 -- Ends whose request is longer than the lent buffer stay as they are.
-unfoldable pub turnOf : Ends → List ℕ → List ℕ → List ℕ → List ℕ → Turned
-turnOf e file image up down = pick (ltb (length up) (e .underway)) (turned e image up down) (deliveredOf e file image up down)
+unfoldable pub cleanTurnOf : Ends → List ℕ → List ℕ → List ℕ → List ℕ → Turned
+cleanTurnOf e file image up down = pick (ltb (length up) (e .underway)) (turned e image up down) (deliveredOf e file image up down)

@@ -5,7 +5,7 @@ use receiver_state::verdict::Verdict;
 ghost use mathlib.Core.Path.{_≡_};
 ghost use Prim.Native.Nat.{_≤_};
 ghost use lib.ListN.{length};
-ghost use Rattle.clean.specs.Turn.{turned, deliveredOf, turnOf, answered, answerOf};
+ghost use Rattle.clean.specs.Turn.{turned, deliveredOf, cleanTurnOf, answered, answerOf};
 
 // `underway` counts the bytes of the request on its way; 0 where there is none.
 pub struct Ends {
@@ -17,7 +17,7 @@ pub struct Ends {
 impl Ends {
     // A line at rest stays as it is: no bytes are no message, and the receiver refuses them.
     pub fn turn(self, file: &[u8], image: &mut [u8], up: &mut [u8], down: &mut [u8]) -> Ends
-        ensures { λ r. ⌜ turned r (now (image .exit)) (now (up .exit)) (now (down .exit)) ≡ turnOf self (now (file .entry)) (now (image .entry)) (now (up .entry)) (now (down .entry)) ⌝ }
+        ensures { λ r. ⌜ turned r (now (image .exit)) (now (up .exit)) (now (down .exit)) ≡ cleanTurnOf self (now (file .entry)) (now (image .entry)) (now (up .entry)) (now (down .entry)) ⌝ }
     {
         if up.len() < self.underway {
             return self;
@@ -58,11 +58,11 @@ fn answer(
             underway: 0,
         };
     }
-    let told = indoor::response(indoor, file, &down[..written], up);
-    let session = told.session;
+    let heard = indoor::response(indoor, file, &down[..written], up);
+    let session = heard.session;
     Ends {
         receiver,
         indoor: session,
-        underway: told.written,
+        underway: heard.written,
     }
 }

@@ -13,7 +13,7 @@ ghost use Rattle.basis.specs.Left.{left};
 ghost use Rattle.receiver_rules.specs.Session.{receiverStartOf};
 ghost use Rattle.receiver_state.specs.declared.session.Started.the-variants.{Made};
 ghost use Rattle.line.specs.Line.{Wide};
-ghost use Rattle.clean.specs.Run.{runOf, cleanBegunOf, carriedOf};
+ghost use Rattle.clean.specs.Run.{cleanRunOf, cleanBegunOf, cleanCarriedOf};
 ghost use Rattle.clean.specs.On.{On};
 
 // A file of 4,096 blocks, the most that there are, takes 4,100 requests; every session has ended by then.
@@ -28,7 +28,7 @@ pub fn run(
     file: &[u8],
     image: &mut [u8],
 ) -> Ran
-    ensures { λ r. ⌜ left r (now (image .exit)) ≡ runOf limit resends identity release (now (file .entry)) (now (image .entry)) ⌝ }
+    ensures { λ r. ⌜ left r (now (image .exit)) ≡ cleanRunOf limit resends identity release (now (file .entry)) (now (image .entry)) ⌝ }
 {
     let started = receiver::start(limit, resends, identity, image.len());
     let Started::Made(receiver) = started else {
@@ -65,7 +65,7 @@ fn begin(
 
 fn carry(begun: Ends, file: &[u8], image: &mut [u8], up: &mut [u8]) -> Ran
     requires { ⌜ On (now file) (now image) (begun .indoor .plan .release) (begun .receiver .identity) begun (now image) (now up) 0 ⌝ }
-    ensures { λ r. ⌜ left r (now (image .exit)) ≡ carriedOf (begun .indoor .plan .release) (begun .receiver .identity) (now (file .entry)) (now (image .entry)) ⌝ }
+    ensures { λ r. ⌜ left r (now (image .exit)) ≡ cleanCarriedOf (begun .indoor .plan .release) (begun .receiver .identity) (now (file .entry)) (now (image .entry)) ⌝ }
 {
     let mut down = [0u8; codes::LONGEST];
     let mut ends = begun;

@@ -16,15 +16,15 @@ use Rattle.indoor_state.specs.declared.phase.Reason.the-variants.{Silence, Refu
 use Rattle.indoor_state.specs.declared.phase.Phase.{Phase}
 use Rattle.indoor_state.specs.declared.phase.Phase.the-variants.{Identify, Initiate, Transfer, Validate, Done, Failed}
 use Rattle.indoor_state.specs.declared.session.Indoor.{Indoor}
-use Rattle.indoor_flat.specs.Place.{place, placeOf, reasonOf, phaseOf}
-use Rattle.indoor_flat.specs.Flat.{flat, placed, packOf, unpackOf, isSession}
-use Rattle.indoor_flat.specs.Whole.{Standing, Whole}
-use Rattle.indoor_flat.specs.declared.place.Place.{Place}
+use Rattle.indoor_flat.specs.PhaseNumbers.{indoorPhaseNumbers, indoorPhaseNumbersOf, indoorReasonOf, indoorPhaseOf}
+use Rattle.indoor_flat.specs.Flat.{flatIndoor, indoorPhaseNumbersIn, indoorPackOf, indoorUnpackOf, isIndoorSession}
+use Rattle.indoor_flat.specs.Valid.{IndoorPhaseValid, IndoorSessionValid}
+use Rattle.indoor_flat.specs.declared.phase_numbers.PhaseNumbers.{PhaseNumbers}
 use Rattle.indoor_flat.specs.declared.flat.FlatIndoor.{FlatIndoor}
-use Rattle.indoor_flat.proofs.Sessions.{session-whole, whole-session}
+use Rattle.indoor_flat.proofs.Sessions.{session-valid, valid-session}
 
-reason-back : (reason : Reason) → reasonOf (reasonNumber reason) ≡ reason
-unfolding reasonOf pick
+reason-back : (reason : Reason) → indoorReasonOf (reasonNumber reason) ≡ reason
+unfolding indoorReasonOf pick
 reason-back Silence = refl
 reason-back Refused = refl
 reason-back NotNewer = refl
@@ -32,8 +32,8 @@ reason-back TooLarge = refl
 reason-back WrongNumber = refl
 reason-back NotValid = refl
 
-phase-back : (p : Phase) → phaseOf (placeOf p) ≡ p
-unfolding placeOf phaseOf pick
+phase-back : (p : Phase) → indoorPhaseOf (indoorPhaseNumbersOf p) ≡ p
+unfolding indoorPhaseNumbersOf indoorPhaseOf pick
 phase-back Identify = refl
 phase-back (Initiate wait) = refl
 phase-back (Transfer p) = rw (byte-flag (p .emptied))
@@ -41,11 +41,11 @@ phase-back (Validate wait) = refl
 phase-back Done = refl
 phase-back (Failed reason) = rw (reason-back reason)
 
-pub unpack-pack : (s : Indoor) → unpackOf (packOf s) ≡ s
+pub unpack-pack : (s : Indoor) → indoorUnpackOf (indoorPackOf s) ≡ s
 unpack-pack s = rw (phase-back (s .state .phase))
 
-number-back : (n : ℕ) → 40 ≤ n → n ≤ 45 → reasonNumber (reasonOf n) ≡ n
-unfolding reasonOf
+number-back : (n : ℕ) → 40 ≤ n → n ≤ 45 → reasonNumber (indoorReasonOf n) ≡ n
+unfolding indoorReasonOf
 number-back n least most =
     let P : Reason → Type 0 = λ x. reasonNumber x ≡ n in
     pick-all P (eqb n 40) _ _ (λ t. sym (eqb-true n 40 t))
@@ -55,9 +55,9 @@ number-back n least most =
     (λ d. pick-all P (eqb n 44) _ _ (λ t. sym (eqb-true n 44 t))
     (λ e. omega (arith, eqb-false n 40 a, eqb-false n 41 b, eqb-false n 42 c, eqb-false n 43 d, eqb-false n 44 e))))))
 
-numbers-back : (phase emptied asked wait reason : ℕ) → Standing (place phase emptied asked wait reason)
-    → placeOf (phaseOf (place phase emptied asked wait reason)) ≡ place phase emptied asked wait reason
-unfolding placeOf phaseOf pick
+numbers-back : (phase emptied asked wait reason : ℕ) → IndoorPhaseValid (indoorPhaseNumbers phase emptied asked wait reason)
+    → indoorPhaseNumbersOf (indoorPhaseOf (indoorPhaseNumbers phase emptied asked wait reason)) ≡ indoorPhaseNumbers phase emptied asked wait reason
+unfolding indoorPhaseNumbersOf indoorPhaseOf pick
 numbers-back zero emptied asked wait reason s =
     let bare = s .transfer-alone (λ e. omega arith) in
     rw (bare .0, bare .1, s .wait-alone (λ e. omega arith) (λ e. omega arith) (λ e. omega arith), s .failed-alone (λ e. omega arith))
@@ -77,9 +77,9 @@ numbers-back (suc (suc (suc (suc (suc zero))))) emptied asked wait reason s =
     rw (bare .0, bare .1, s .wait-alone (λ e. omega arith) (λ e. omega arith) (λ e. omega arith), number-back reason (reasons .0) (reasons .1))
 numbers-back (suc (suc (suc (suc (suc (suc phase)))))) emptied asked wait reason s = absurd (omega (arith, s .phases))
 
-pub pack-unpack : (f : FlatIndoor) → isSession f ≡ true → packOf (unpackOf f) ≡ f
+pub pack-unpack : (f : FlatIndoor) → isIndoorSession f ≡ true → indoorPackOf (indoorUnpackOf f) ≡ f
 pack-unpack f e =
-    ap (λ (p : Place). flat (f .plan) p (f .silence) (f .resends)) (numbers-back (f .phase) (f .emptied) (f .asked) (f .wait) (f .reason) (session-whole f e .standing))
+    ap (λ (p : PhaseNumbers). flatIndoor (f .plan) p (f .silence) (f .resends)) (numbers-back (f .phase) (f .emptied) (f .asked) (f .wait) (f .reason) (session-valid f e .in-phase))
 
 reason-least : (reason : Reason) → 40 ≤ reasonNumber reason
 reason-least Silence = omega arith
@@ -98,8 +98,8 @@ reason-most WrongNumber = omega arith
 reason-most NotValid = omega arith
 
 -- A phase that holds nothing, or a wait alone.
-wait-standing : (code wait : ℕ) → code ≤ 4 → ((code ≡ 1 → ⊥) → (code ≡ 3 → ⊥) → wait ≡ 0) → Standing (place code 0 0 wait 0)
-wait-standing code wait few none =
+waiting-valid : (code wait : ℕ) → code ≤ 4 → ((code ≡ 1 → ⊥) → (code ≡ 3 → ⊥) → wait ≡ 0) → IndoorPhaseValid (indoorPhaseNumbers code 0 0 wait 0)
+waiting-valid code wait few none =
     record {
       phases = omega arith;
       flag = omega arith;
@@ -109,11 +109,11 @@ wait-standing code wait few none =
       reasons = λ five. absurd (omega arith);
     }
 
-phase-standing : (p : Phase) → Standing (placeOf p)
-unfolding placeOf
-phase-standing Identify = wait-standing 0 0 (omega arith) (λ _ _. refl)
-phase-standing (Initiate wait) = wait-standing 1 wait (omega arith) (λ not _. absurd (not refl))
-phase-standing (Transfer p) =
+packed-valid : (p : Phase) → IndoorPhaseValid (indoorPhaseNumbersOf p)
+unfolding indoorPhaseNumbersOf
+packed-valid Identify = waiting-valid 0 0 (omega arith) (λ _ _. refl)
+packed-valid (Initiate wait) = waiting-valid 1 wait (omega arith) (λ not _. absurd (not refl))
+packed-valid (Transfer p) =
     record {
       phases = omega arith;
       flag = byte-small (p .emptied);
@@ -122,9 +122,9 @@ phase-standing (Transfer p) =
       failed-alone = λ _. refl;
       reasons = λ five. absurd (omega arith);
     }
-phase-standing (Validate wait) = wait-standing 3 wait (omega arith) (λ _ not. absurd (not refl))
-phase-standing Done = wait-standing 4 0 (omega arith) (λ _ _. refl)
-phase-standing (Failed reason) =
+packed-valid (Validate wait) = waiting-valid 3 wait (omega arith) (λ _ not. absurd (not refl))
+packed-valid Done = waiting-valid 4 0 (omega arith) (λ _ _. refl)
+packed-valid (Failed reason) =
     record {
       phases = omega arith;
       flag = omega arith;
@@ -136,6 +136,6 @@ phase-standing (Failed reason) =
 
 -- The numbers of every session with settings and a file's length that a start takes are a session's.
 pub pack-session : (s : Indoor) → Within (s .plan .settings .limit) (s .plan .settings .resends) → 1 ≤ s .plan .length → s .plan .length ≤ imageSizeMost
-    → isSession (packOf s) ≡ true
+    → isIndoorSession (indoorPackOf s) ≡ true
 pack-session s within some most =
-    whole-session (packOf s) (record { within = within; some = some; most = most; standing = phase-standing (s .state .phase) })
+    valid-session (indoorPackOf s) (record { within = within; some = some; most = most; in-phase = packed-valid (s .state .phase) })

@@ -8,14 +8,14 @@ use Rattle.indoor_state.specs.declared.phase.Progress.{Progress}
 use Rattle.indoor_state.specs.declared.phase.Phase.{Phase}
 use Rattle.indoor_state.specs.declared.phase.Phase.the-variants.{Identify, Initiate, Transfer, Validate, Done, Failed}
 use Rattle.indoor_state.specs.declared.plan.Plan.{Plan}
-use Rattle.indoor_flat.specs.Place.{placeOf}
-use Rattle.indoor_flat.specs.Flat.{none}
+use Rattle.indoor_flat.specs.PhaseNumbers.{indoorPhaseNumbersOf}
+use Rattle.indoor_flat.specs.Flat.{zeroIndoor}
 use Rattle.indoor_flat.specs.declared.flat.FlatIndoor.{FlatIndoor}
 
 pub phase-rows : (wait : ℕ) (p : Progress) (reason : Reason)
-    → map (λ (x : Phase). placeOf x .phase) (Identify ∷ Initiate wait ∷ Transfer p ∷ Validate wait ∷ Done ∷ Failed reason ∷ [])
+    → map (λ (x : Phase). indoorPhaseNumbersOf x .phase) (Identify ∷ Initiate wait ∷ Transfer p ∷ Validate wait ∷ Done ∷ Failed reason ∷ [])
     ≡ 0 ∷ 1 ∷ 2 ∷ 3 ∷ 4 ∷ 5 ∷ []
-unfolding placeOf
+unfolding indoorPhaseNumbersOf
 phase-rows wait p reason = refl
 
 abbrev planNumbers : Plan → List ℕ
@@ -27,5 +27,5 @@ abbrev numbers : FlatIndoor → List ℕ
 numbers f = f .phase ∷ f .emptied ∷ f .asked ∷ f .wait ∷ f .reason ∷ f .silence ∷ f .resends ∷ planNumbers (f .plan)
 
 -- What a refused start hands out is zeros.
-pub none-zeros : numbers none ≡ replicate 16 0
+pub none-zeros : numbers zeroIndoor ≡ replicate 16 0
 none-zeros = refl

@@ -9,12 +9,12 @@ use Rattle.indoor_state.specs.declared.plan.Plan.{Plan}
 use Rattle.indoor_rules.specs.Session.{indoor}
 use Rattle.wire.specs.Codes.{imageSizeMost}
 use Rattle.indoor_state.specs.declared.session.Indoor.{Indoor}
-use Rattle.indoor_flat.specs.Place.{place, placeOf, phaseOf, standsOf}
-use Rattle.indoor_flat.specs.declared.place.Place.{Place}
+use Rattle.indoor_flat.specs.PhaseNumbers.{indoorPhaseNumbers, indoorPhaseNumbersOf, indoorPhaseOf, isIndoorPhase}
+use Rattle.indoor_flat.specs.declared.phase_numbers.PhaseNumbers.{PhaseNumbers}
 use Rattle.indoor_flat.specs.declared.flat.FlatIndoor.{FlatIndoor}
 
-abbrev pub flat : Plan → Place → ℕ → ℕ → FlatIndoor
-flat plan p silence resends = record {
+abbrev pub flatIndoor : Plan → PhaseNumbers → ℕ → ℕ → FlatIndoor
+flatIndoor plan p silence resends = record {
   plan = plan;
   phase = p .phase;
   emptied = p .emptied;
@@ -25,33 +25,33 @@ flat plan p silence resends = record {
   resends = resends;
 }
 
-abbrev pub placed : FlatIndoor → Place
-placed f = place (f .phase) (f .emptied) (f .asked) (f .wait) (f .reason)
+abbrev pub indoorPhaseNumbersIn : FlatIndoor → PhaseNumbers
+indoorPhaseNumbersIn f = indoorPhaseNumbers (f .phase) (f .emptied) (f .asked) (f .wait) (f .reason)
 
-abbrev pub packOf : Indoor → FlatIndoor
-packOf s = flat (s .plan) (placeOf (s .state .phase)) (s .state .silence) (s .state .resends)
+abbrev pub indoorPackOf : Indoor → FlatIndoor
+indoorPackOf s = flatIndoor (s .plan) (indoorPhaseNumbersOf (s .state .phase)) (s .state .silence) (s .state .resends)
 
-abbrev pub unpackOf : FlatIndoor → Indoor
-unpackOf f = indoor (f .plan) (indoorState (phaseOf (placed f)) (f .silence) (f .resends))
+abbrev pub indoorUnpackOf : FlatIndoor → Indoor
+indoorUnpackOf f = indoor (f .plan) (indoorState (indoorPhaseOf (indoorPhaseNumbersIn f)) (f .silence) (f .resends))
 
 -- Numbers of a session: what a start takes, in a phase.
-unfoldable pub isSession : FlatIndoor → Bool
-isSession f =
+unfoldable pub isIndoorSession : FlatIndoor → Bool
+isIndoorSession f =
     pick (eqb (settingsNumberOf (settingsOf (f .plan .settings .limit) (f .plan .settings .resends))) 0)
     (pick (eqb (f .plan .length) 0) false
     (pick (ltb imageSizeMost (f .plan .length)) false
-    (standsOf (placed f))))
+    (isIndoorPhase (indoorPhaseNumbersIn f))))
     false
 
 -- All zero.
-abbrev pub none : FlatIndoor
-none =
-    flat
+abbrev pub zeroIndoor : FlatIndoor
+zeroIndoor =
+    flatIndoor
     (record {
       settings = record { limit = 0; resends = 0 };
       release = record { vendor = 0; product = 0; versions = record { first = 0; second = 0; third = 0; fourth = 0 } };
       length = 0;
     })
-    (place 0 0 0 0 0)
+    (indoorPhaseNumbers 0 0 0 0 0)
     0
     0

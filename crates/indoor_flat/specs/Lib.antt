@@ -1,3 +1,3 @@
-pub mod Place
+pub mod PhaseNumbers
 pub mod Flat
-pub mod Whole
+pub mod Valid

@@ -4,7 +4,7 @@ use indoor_state::plan::Release;
 use silence::Settings;
 use wire::request::Versions;
 ghost use mathlib.Core.Path.{_≡_};
-ghost use Rattle.indoor_flat.specs.Flat.{none};
+ghost use Rattle.indoor_flat.specs.Flat.{zeroIndoor};
 
 // `emptied` is a flag; what a phase does not have is 0 there.
 #[repr(C)]
@@ -22,7 +22,7 @@ pub struct FlatIndoor {
 impl FlatIndoor {
     // All zero: what a refused start hands out, and no session.
     pub fn none() -> FlatIndoor
-        ensures { λ r. ⌜ r ≡ none ⌝ }
+        ensures { λ r. ⌜ r ≡ zeroIndoor ⌝ }
     {
         let settings = Settings {
             limit: 0,

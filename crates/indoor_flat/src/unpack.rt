@@ -1,22 +1,22 @@
 // The session that the numbers say, and whether they are a session's at all: settings and a file's length that a start takes, in a phase.
 use crate::flat::FlatIndoor;
-use crate::place::Place;
+use crate::phase_numbers::PhaseNumbers;
 use indoor_state::phase::State;
 use indoor_state::session::Indoor;
 use silence::Settings;
 use wire::codes;
 ghost use mathlib.Core.Path.{_≡_};
-ghost use Rattle.indoor_flat.specs.Flat.{placed, unpackOf, isSession};
+ghost use Rattle.indoor_flat.specs.Flat.{indoorPhaseNumbersIn, indoorUnpackOf, isIndoorSession};
 
 const LENGTH_MOST: u32 = codes::IMAGE_SIZE_MOST as u32;
 
 impl FlatIndoor {
     pub fn unpack(self) -> Indoor
-        ensures { λ r. ⌜ r ≡ unpackOf self ⌝ }
+        ensures { λ r. ⌜ r ≡ indoorUnpackOf self ⌝ }
     {
         let plan = self.plan;
-        let place = self.place();
-        let phase = place.phase();
+        let numbers = self.phase_numbers();
+        let phase = numbers.phase();
         let state = State {
             phase,
             silence: self.silence,
@@ -26,7 +26,7 @@ impl FlatIndoor {
     }
 
     pub fn is_session(self) -> bool
-        ensures { λ r. ⌜ r ≡ isSession self ⌝ }
+        ensures { λ r. ⌜ r ≡ isIndoorSession self ⌝ }
     {
         let plan = self.plan;
         let settings = plan.settings;
@@ -40,14 +40,14 @@ impl FlatIndoor {
         if LENGTH_MOST < plan.length {
             return false;
         }
-        let place = self.place();
-        place.stands()
+        let numbers = self.phase_numbers();
+        numbers.is_phase()
     }
 
-    fn place(self) -> Place
-        ensures { λ r. ⌜ r ≡ placed self ⌝ }
+    fn phase_numbers(self) -> PhaseNumbers
+        ensures { λ r. ⌜ r ≡ indoorPhaseNumbersIn self ⌝ }
     {
-        Place {
+        PhaseNumbers {
             phase: self.phase,
             emptied: self.emptied,
             asked: self.asked,

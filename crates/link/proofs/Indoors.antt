@@ -28,9 +28,9 @@ use Rattle.indoor_state.specs.declared.session.Outcome.{Outcome}
 use Rattle.indoor_state.specs.declared.session.Started.{Started}
 use Rattle.indoor_state.specs.declared.session.Started.the-variants.{Made, Settings, FileSize, BufferShort}
 use Rattle.indoor_rules.proofs.Laws.{plan-stays, time-plan-stays}
-use Rattle.indoor_flat.specs.Flat.{packOf, unpackOf, isSession, none}
+use Rattle.indoor_flat.specs.Flat.{indoorPackOf, indoorUnpackOf, isIndoorSession, zeroIndoor}
 use Rattle.indoor_flat.specs.declared.flat.FlatIndoor.{FlatIndoor}
-use Rattle.indoor_flat.proofs.Sessions.{session-whole}
+use Rattle.indoor_flat.proofs.Sessions.{session-valid}
 use Rattle.indoor_flat.proofs.Inverse.{unpack-pack, pack-unpack, pack-session}
 use Rattle.link.specs.Indoor.{indoorOutcome, flatIndoorBegun, harsolvekIndoorStart, harsolvekIndoorResponse, harsolvekIndoorTime}
 use Rattle.link.specs.Handed.{HandedIndoor, starts, hears, passes}
@@ -47,7 +47,7 @@ within-own limit resends settings e =
 
 -- What a start leaves where it is taken.
 abbrev Begun : Left Started → Type 0
-Begun x = starting.indoorStartNumberOf (x .answer) ≡ 0 → isSession (flatIndoorBegun (x .answer) (starting.indoorStartNumberOf (x .answer)) .state) ≡ true
+Begun x = starting.indoorStartNumberOf (x .answer) ≡ 0 → isIndoorSession (flatIndoorBegun (x .answer) (starting.indoorStartNumberOf (x .answer)) .state) ≡ true
 
 module _ (release : Release) (file out : List ℕ) where
   begins : (settings : silence.Settings) → Within (settings .limit) (settings .resends) → Begun (start.indoorBeginOf settings release file out)
@@ -74,7 +74,7 @@ begun-number FileSize n = refl
 begun-number BufferShort n = refl
 
 pub start-session : (settings : silence.Settings) (release : Release) (file out : List ℕ) → harsolvekIndoorStart settings release file out .answer .number ≡ 0
-    → isSession (harsolvekIndoorStart settings release file out .answer .state) ≡ true
+    → isIndoorSession (harsolvekIndoorStart settings release file out .answer .state) ≡ true
 start-session settings release file out e =
     let x = start.indoorStartOf (settings .limit) (settings .resends) release file out .answer in
     checked-begins release file out (settings .limit) (settings .resends) (silent.settingsOf (settings .limit) (settings .resends)) refl
@@ -86,73 +86,73 @@ module _ (settings : silence.Settings) (release : Release) (file out : List ℕ)
   started = start.indoorStartOf (settings .limit) (settings .resends) release file out
 
   pub start-taken : (s : Indoor) (written : ℕ) (m : List ℕ) → started ≡ left (Made s written) m
-      → harsolvekIndoorStart settings release file out ≡ left (indoorOutcome (packOf s) written 0) m
+      → harsolvekIndoorStart settings release file out ≡ left (indoorOutcome (indoorPackOf s) written 0) m
   unfolding flatIndoorBegun
   start-taken s written m e = rw e
 
-  pub start-29 : started ≡ left Settings out → harsolvekIndoorStart settings release file out ≡ left (indoorOutcome none 0 29) out
+  pub start-29 : started ≡ left Settings out → harsolvekIndoorStart settings release file out ≡ left (indoorOutcome zeroIndoor 0 29) out
   unfolding flatIndoorBegun
   start-29 e = rw e
 
-  pub start-46 : started ≡ left FileSize out → harsolvekIndoorStart settings release file out ≡ left (indoorOutcome none 0 46) out
+  pub start-46 : started ≡ left FileSize out → harsolvekIndoorStart settings release file out ≡ left (indoorOutcome zeroIndoor 0 46) out
   unfolding flatIndoorBegun
   start-46 e = rw e
 
-  pub start-27 : started ≡ left BufferShort out → harsolvekIndoorStart settings release file out ≡ left (indoorOutcome none 0 27) out
+  pub start-27 : started ≡ left BufferShort out → harsolvekIndoorStart settings release file out ≡ left (indoorOutcome zeroIndoor 0 27) out
   unfolding flatIndoorBegun
   start-27 e = rw e
 
 -- The numbers of a session with the plan of one that is.
-keeps-session : (f : FlatIndoor) (next : Indoor) → isSession f ≡ true → next .plan ≡ f .plan → isSession (packOf next) ≡ true
+keeps-session : (f : FlatIndoor) (next : Indoor) → isIndoorSession f ≡ true → next .plan ≡ f .plan → isIndoorSession (indoorPackOf next) ≡ true
 keeps-session f next e plan =
-    let w = session-whole f e in
+    let w = session-valid f e in
     pack-session next (rw plan (w .within)) (rw plan (w .some)) (rw plan (w .most))
 
 module _ (f : FlatIndoor) (file message out : List ℕ) where
   abbrev heard : Left Outcome
-  heard = inner.indoorResponseOf (unpackOf f) file message out
+  heard = inner.indoorResponseOf (indoorUnpackOf f) file message out
 
-  pub response-through : isSession f ≡ true → harsolvekIndoorResponse f file message out
-      ≡ left (indoorOutcome (packOf (heard .answer .session)) (heard .answer .written) (indoorNumberOf (heard .answer .answer))) (heard .memory)
+  pub response-through : isIndoorSession f ≡ true → harsolvekIndoorResponse f file message out
+      ≡ left (indoorOutcome (indoorPackOf (heard .answer .session)) (heard .answer .written) (indoorNumberOf (heard .answer .answer))) (heard .memory)
   unfolding harsolvekIndoorResponse
   response-through e = pick-yes _ _ _ e
 
-  pub response-29 : isSession f ≡ false → harsolvekIndoorResponse f file message out ≡ left (indoorOutcome f 0 29) out
+  pub response-29 : isIndoorSession f ≡ false → harsolvekIndoorResponse f file message out ≡ left (indoorOutcome f 0 29) out
   unfolding harsolvekIndoorResponse
   response-29 e = pick-no _ _ _ e
 
-  pub response-next : isSession f ≡ true → unpackOf (harsolvekIndoorResponse f file message out .answer .state) ≡ heard .answer .session
-  response-next e = ap (λ x. unpackOf (x .answer .state)) (response-through e) ∙ unpack-pack (heard .answer .session)
+  pub response-next : isIndoorSession f ≡ true → indoorUnpackOf (harsolvekIndoorResponse f file message out .answer .state) ≡ heard .answer .session
+  response-next e = ap (λ x. indoorUnpackOf (x .answer .state)) (response-through e) ∙ unpack-pack (heard .answer .session)
 
-  pub response-session : isSession f ≡ true → isSession (harsolvekIndoorResponse f file message out .answer .state) ≡ true
+  pub response-session : isIndoorSession f ≡ true → isIndoorSession (harsolvekIndoorResponse f file message out .answer .state) ≡ true
   response-session e =
-      ap (λ x. isSession (x .answer .state)) (response-through e) ∙ keeps-session f (heard .answer .session) e (plan-stays (unpackOf f) file message out)
+      ap (λ x. isIndoorSession (x .answer .state)) (response-through e) ∙ keeps-session f (heard .answer .session) e (plan-stays (indoorUnpackOf f) file message out)
 
 module _ (f : FlatIndoor) (file : List ℕ) (elapsed : ℕ) (out : List ℕ) where
   abbrev passed : Left Outcome
-  passed = time.indoorTimeOf (unpackOf f) file elapsed out
+  passed = time.indoorTimeOf (indoorUnpackOf f) file elapsed out
 
-  pub time-through : isSession f ≡ true → harsolvekIndoorTime f file elapsed out
-      ≡ left (indoorOutcome (packOf (passed .answer .session)) (passed .answer .written) (indoorNumberOf (passed .answer .answer))) (passed .memory)
+  pub time-through : isIndoorSession f ≡ true → harsolvekIndoorTime f file elapsed out
+      ≡ left (indoorOutcome (indoorPackOf (passed .answer .session)) (passed .answer .written) (indoorNumberOf (passed .answer .answer))) (passed .memory)
   unfolding harsolvekIndoorTime
   time-through e = pick-yes _ _ _ e
 
-  pub time-29 : isSession f ≡ false → harsolvekIndoorTime f file elapsed out ≡ left (indoorOutcome f 0 29) out
+  pub time-29 : isIndoorSession f ≡ false → harsolvekIndoorTime f file elapsed out ≡ left (indoorOutcome f 0 29) out
   unfolding harsolvekIndoorTime
   time-29 e = pick-no _ _ _ e
 
-  pub time-next : isSession f ≡ true → unpackOf (harsolvekIndoorTime f file elapsed out .answer .state) ≡ passed .answer .session
-  time-next e = ap (λ x. unpackOf (x .answer .state)) (time-through e) ∙ unpack-pack (passed .answer .session)
+  pub time-next : isIndoorSession f ≡ true → indoorUnpackOf (harsolvekIndoorTime f file elapsed out .answer .state) ≡ passed .answer .session
+  time-next e = ap (λ x. indoorUnpackOf (x .answer .state)) (time-through e) ∙ unpack-pack (passed .answer .session)
 
-  pub time-session : isSession f ≡ true → isSession (harsolvekIndoorTime f file elapsed out .answer .state) ≡ true
+  pub time-session : isIndoorSession f ≡ true → isIndoorSession (harsolvekIndoorTime f file elapsed out .answer .state) ≡ true
   time-session e =
-      ap (λ x. isSession (x .answer .state)) (time-through e) ∙ keeps-session f (passed .answer .session) e (time-plan-stays (unpackOf f) file elapsed out)
+      ap (λ x. isIndoorSession (x .answer .state)) (time-through e) ∙ keeps-session f (passed .answer .session) e (time-plan-stays (indoorUnpackOf f) file elapsed out)
 
 -- Every state that is handed out is a session, and the conversions are each other's inverse on it.
-pub handed-session : {f : FlatIndoor} → HandedIndoor f → isSession f ≡ true
+pub handed-session : {f : FlatIndoor} → HandedIndoor f → isIndoorSession f ≡ true
 handed-session (starts settings release file out e) = start-session settings release file out e
 handed-session (hears {f = f} h file message out) = response-session f file message out (handed-session h)
 handed-session (passes {f = f} h file elapsed out) = time-session f file elapsed out (handed-session h)
 
-pub handed-inverse : {f : FlatIndoor} → HandedIndoor f → packOf (unpackOf f) ≡ f
+pub handed-inverse : {f : FlatIndoor} → HandedIndoor f → indoorPackOf (indoorUnpackOf f) ≡ f
 handed-inverse {f} h = pack-unpack f (handed-session h)

@@ -8,14 +8,14 @@ use Rattle.receiver_rules.specs.Time as time
 use Rattle.receiver_state.specs.declared.session.Receiver.{Receiver}
 use Rattle.receiver_rules.proofs.Laws.{settings-stay}
 use Rattle.receiver_rules.proofs.TimeLaws.{time-settings}
-use Rattle.receiver_flat.specs.Flat.{unpackOf}
+use Rattle.receiver_flat.specs.Flat.{receiverUnpackOf}
 use Rattle.receiver_flat.specs.declared.flat.FlatReceiver.{FlatReceiver}
-use Rattle.link.specs.Receiver.{Kept}
+use Rattle.link.specs.Receiver.{SameSettings}
 
-module _ (f : FlatReceiver) (r : Receiver) (e : r ≡ unpackOf f) where
+module _ (f : FlatReceiver) (r : Receiver) (e : r ≡ receiverUnpackOf f) where
   pub request-keeps : (image message : List ℕ) (readiness : ℕ) (verdict : Verdict) (out : List ℕ)
-      → Kept f (inner.receiverRequestOf r image message readiness verdict out .outcome .session)
-  request-keeps image message readiness verdict out = rw e (settings-stay (unpackOf f) image message readiness verdict out)
+      → SameSettings f (inner.receiverRequestOf r image message readiness verdict out .outcome .session)
+  request-keeps image message readiness verdict out = rw e (settings-stay (receiverUnpackOf f) image message readiness verdict out)
 
-  pub time-keeps : (elapsed : ℕ) (out : List ℕ) → Kept f (time.receiverTimeOf r elapsed out .answer .session)
-  time-keeps elapsed out = rw e (time-settings (unpackOf f) elapsed out)
+  pub time-keeps : (elapsed : ℕ) (out : List ℕ) → SameSettings f (time.receiverTimeOf r elapsed out .answer .session)
+  time-keeps elapsed out = rw e (time-settings (receiverUnpackOf f) elapsed out)

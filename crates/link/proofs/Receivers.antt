@@ -22,98 +22,98 @@ use Rattle.receiver_state.specs.declared.sum.Summed.the-variants.{Sum, ImageLen
 use Rattle.receiver_rules.proofs.Laws.{settings-stay}
 use Rattle.receiver_rules.proofs.TimeLaws.{time-settings}
 use Rattle.receiver_rules.proofs.Beginning.{fresh, start-made}
-use Rattle.receiver_flat.specs.Flat.{packOf, unpackOf, isSession, none}
+use Rattle.receiver_flat.specs.Flat.{receiverPackOf, receiverUnpackOf, isReceiverSession, zeroReceiver}
 use Rattle.receiver_flat.specs.Verdict.{verdictOf}
 use Rattle.receiver_flat.specs.declared.flat.FlatReceiver.{FlatReceiver}
-use Rattle.receiver_flat.proofs.Sessions.{taken-within, session-whole}
+use Rattle.receiver_flat.proofs.Sessions.{taken-within, session-valid}
 use Rattle.receiver_flat.proofs.Inverse.{unpack-pack, pack-unpack, pack-session}
-use Rattle.link.specs.Receiver.{receiverOutcome, called, flatReceiverMade, harsolvekReceiverStart, harsolvekReceiverRequest, harsolvekReceiverTime, sums, summedOf, harsolvekReceiverSum}
+use Rattle.link.specs.Receiver.{receiverOutcome, receiverCalled, flatReceiverMade, harsolvekReceiverStart, harsolvekReceiverRequest, harsolvekReceiverTime, imageSum, flatReceiverSummed, harsolvekReceiverSum}
 use Rattle.link.specs.Handed.{HandedReceiver, starts, asks, passes}
 
 module _ (settings : Settings) (identity : Identity) (capacity : ℕ) where
   -- A start that is taken hands out the numbers of the fresh session.
   pub start-taken : Within (settings .limit) (settings .resends) → capacity ≤ imageSizeMost
-      → harsolvekReceiverStart settings identity capacity ≡ receiverOutcome (packOf (fresh (settings .limit) (settings .resends) identity capacity)) 0 0
+      → harsolvekReceiverStart settings identity capacity ≡ receiverOutcome (receiverPackOf (fresh (settings .limit) (settings .resends) identity capacity)) 0 0
   unfolding flatReceiverMade
   start-taken within room = rw (start-made (settings .limit) (settings .resends) identity capacity within room)
 
   -- A refused start hands out no session: 29 and zeros.
-  pub start-refused : session.receiverStartOf (settings .limit) (settings .resends) identity capacity ≡ Refused → harsolvekReceiverStart settings identity capacity ≡ receiverOutcome none 0 29
+  pub start-refused : session.receiverStartOf (settings .limit) (settings .resends) identity capacity ≡ Refused → harsolvekReceiverStart settings identity capacity ≡ receiverOutcome zeroReceiver 0 29
   unfolding flatReceiverMade
   start-refused e = rw e
 
 -- The numbers of a session with the settings and the capacity of one that is.
-keeps-session : (f : FlatReceiver) (next : Receiver) → isSession f ≡ true → next .settings ≡ f .settings → next .capacity ≡ f .capacity
-    → isSession (packOf next) ≡ true
+keeps-session : (f : FlatReceiver) (next : Receiver) → isReceiverSession f ≡ true → next .settings ≡ f .settings → next .capacity ≡ f .capacity
+    → isReceiverSession (receiverPackOf next) ≡ true
 keeps-session f next e settings capacity =
-    let w = session-whole f e in
+    let w = session-valid f e in
     pack-session next (rw settings (w .within)) (rw capacity (w .room))
 
 module _ (f : FlatReceiver) (image message : List ℕ) (readiness verdict later : ℕ) (out : List ℕ) where
   abbrev asked : inner.Effect
-  asked = inner.receiverRequestOf (unpackOf f) image message readiness (verdictOf verdict later) out
+  asked = inner.receiverRequestOf (receiverUnpackOf f) image message readiness (verdictOf verdict later) out
 
-  pub request-through : isSession f ≡ true → harsolvekReceiverRequest f image message readiness verdict later out
-      ≡ called (receiverOutcome (packOf (asked .outcome .session)) (asked .outcome .written) (receiverNumberOf (asked .outcome .answer))) (asked .image) (asked .out)
+  pub request-through : isReceiverSession f ≡ true → harsolvekReceiverRequest f image message readiness verdict later out
+      ≡ receiverCalled (receiverOutcome (receiverPackOf (asked .outcome .session)) (asked .outcome .written) (receiverNumberOf (asked .outcome .answer))) (asked .image) (asked .out)
   unfolding harsolvekReceiverRequest
   request-through e = pick-yes _ _ _ e
 
-  pub request-29 : isSession f ≡ false → harsolvekReceiverRequest f image message readiness verdict later out ≡ called (receiverOutcome f 0 29) image out
+  pub request-29 : isReceiverSession f ≡ false → harsolvekReceiverRequest f image message readiness verdict later out ≡ receiverCalled (receiverOutcome f 0 29) image out
   unfolding harsolvekReceiverRequest
   request-29 e = pick-no _ _ _ e
 
-  pub request-next : isSession f ≡ true → unpackOf (harsolvekReceiverRequest f image message readiness verdict later out .outcome .state) ≡ asked .outcome .session
-  request-next e = ap (λ c. unpackOf (c .outcome .state)) (request-through e) ∙ unpack-pack (asked .outcome .session)
+  pub request-next : isReceiverSession f ≡ true → receiverUnpackOf (harsolvekReceiverRequest f image message readiness verdict later out .outcome .state) ≡ asked .outcome .session
+  request-next e = ap (λ c. receiverUnpackOf (c .outcome .state)) (request-through e) ∙ unpack-pack (asked .outcome .session)
 
-  pub request-session : isSession f ≡ true → isSession (harsolvekReceiverRequest f image message readiness verdict later out .outcome .state) ≡ true
+  pub request-session : isReceiverSession f ≡ true → isReceiverSession (harsolvekReceiverRequest f image message readiness verdict later out .outcome .state) ≡ true
   request-session e =
-      let stays = settings-stay (unpackOf f) image message readiness (verdictOf verdict later) out in
-      ap (λ c. isSession (c .outcome .state)) (request-through e) ∙ keeps-session f (asked .outcome .session) e (stays .0) (stays .2)
+      let stays = settings-stay (receiverUnpackOf f) image message readiness (verdictOf verdict later) out in
+      ap (λ c. isReceiverSession (c .outcome .state)) (request-through e) ∙ keeps-session f (asked .outcome .session) e (stays .0) (stays .2)
 
 module _ (f : FlatReceiver) (elapsed : ℕ) (out : List ℕ) where
   abbrev passed : Left Outcome
-  passed = time.receiverTimeOf (unpackOf f) elapsed out
+  passed = time.receiverTimeOf (receiverUnpackOf f) elapsed out
 
-  pub time-through : isSession f ≡ true → harsolvekReceiverTime f elapsed out
-      ≡ left (receiverOutcome (packOf (passed .answer .session)) (passed .answer .written) (receiverNumberOf (passed .answer .answer))) (passed .memory)
+  pub time-through : isReceiverSession f ≡ true → harsolvekReceiverTime f elapsed out
+      ≡ left (receiverOutcome (receiverPackOf (passed .answer .session)) (passed .answer .written) (receiverNumberOf (passed .answer .answer))) (passed .memory)
   unfolding harsolvekReceiverTime
   time-through e = pick-yes _ _ _ e
 
-  pub time-29 : isSession f ≡ false → harsolvekReceiverTime f elapsed out ≡ left (receiverOutcome f 0 29) out
+  pub time-29 : isReceiverSession f ≡ false → harsolvekReceiverTime f elapsed out ≡ left (receiverOutcome f 0 29) out
   unfolding harsolvekReceiverTime
   time-29 e = pick-no _ _ _ e
 
-  pub time-next : isSession f ≡ true → unpackOf (harsolvekReceiverTime f elapsed out .answer .state) ≡ passed .answer .session
-  time-next e = ap (λ x. unpackOf (x .answer .state)) (time-through e) ∙ unpack-pack (passed .answer .session)
+  pub time-next : isReceiverSession f ≡ true → receiverUnpackOf (harsolvekReceiverTime f elapsed out .answer .state) ≡ passed .answer .session
+  time-next e = ap (λ x. receiverUnpackOf (x .answer .state)) (time-through e) ∙ unpack-pack (passed .answer .session)
 
-  pub time-session : isSession f ≡ true → isSession (harsolvekReceiverTime f elapsed out .answer .state) ≡ true
+  pub time-session : isReceiverSession f ≡ true → isReceiverSession (harsolvekReceiverTime f elapsed out .answer .state) ≡ true
   time-session e =
-      let stays = time-settings (unpackOf f) elapsed out in
-      ap (λ x. isSession (x .answer .state)) (time-through e)
+      let stays = time-settings (receiverUnpackOf f) elapsed out in
+      ap (λ x. isReceiverSession (x .answer .state)) (time-through e)
       ∙ keeps-session f (passed .answer .session) e (stays .0) (stays .2)
 
 module _ (f : FlatReceiver) (image : List ℕ) where
-  pub sum-through : isSession f ≡ true → harsolvekReceiverSum f image ≡ summedOf (sum.receiverSumOf (unpackOf f) image)
+  pub sum-through : isReceiverSession f ≡ true → harsolvekReceiverSum f image ≡ flatReceiverSummed (sum.receiverSumOf (receiverUnpackOf f) image)
   unfolding harsolvekReceiverSum
   sum-through e = pick-yes _ _ _ e
 
-  pub sum-29 : isSession f ≡ false → harsolvekReceiverSum f image ≡ sums 0 29
+  pub sum-29 : isReceiverSession f ≡ false → harsolvekReceiverSum f image ≡ imageSum 0 29
   unfolding harsolvekReceiverSum
   sum-29 e = pick-no _ _ _ e
 
 -- A sum is handed out as it is, and a refused one is 0.
-pub sum-rows : (s : ℕ) → (summedOf (Sum s) ≡ sums s 0) × (summedOf ImageLength ≡ sums 0 28)
+pub sum-rows : (s : ℕ) → (flatReceiverSummed (Sum s) ≡ imageSum s 0) × (flatReceiverSummed ImageLength ≡ imageSum 0 28)
 sum-rows s = (refl, refl)
 
 -- Every state that is handed out is a session, and the conversions are each other's inverse on it.
-pub handed-session : {f : FlatReceiver} → HandedReceiver f → isSession f ≡ true
+pub handed-session : {f : FlatReceiver} → HandedReceiver f → isReceiverSession f ≡ true
 handed-session (starts settings identity capacity e) =
     let taken = taken-within (settings .limit) (settings .resends) identity capacity e in
     let made = fresh (settings .limit) (settings .resends) identity capacity in
-    ap (λ o. isSession (o .state)) (start-taken settings identity capacity (taken .0) (taken .1)) ∙ pack-session made (taken .0) (taken .1)
+    ap (λ o. isReceiverSession (o .state)) (start-taken settings identity capacity (taken .0) (taken .1)) ∙ pack-session made (taken .0) (taken .1)
 handed-session (asks {f = f} h image message readiness verdict later out) =
     request-session f image message readiness verdict later out (handed-session h)
 handed-session (passes {f = f} h elapsed out) = time-session f elapsed out (handed-session h)
 
-pub handed-inverse : {f : FlatReceiver} → HandedReceiver f → packOf (unpackOf f) ≡ f
+pub handed-inverse : {f : FlatReceiver} → HandedReceiver f → receiverPackOf (receiverUnpackOf f) ≡ f
 handed-inverse {f} h = pack-unpack f (handed-session h)

@@ -8,7 +8,7 @@ use Rattle.indoor_flat.specs.declared.flat.FlatIndoor.{FlatIndoor}
 use Rattle.indoor_state.specs.declared.plan.Release.{Release}
 use Rattle.link.specs.Indoor.{harsolvekIndoorStart, harsolvekIndoorResponse, harsolvekIndoorTime}
 use Rattle.link.specs.Mailbox.{harsolvekMailboxFresh, harsolvekMailboxWrite, harsolvekMailboxSuccess, harsolvekMailboxFailure, harsolvekMailboxChange, harsolvekMailboxCci, harsolvekMailboxMessageIn}
-use Rattle.link.specs.Receiver.{harsolvekReceiverStart, called, harsolvekReceiverRequest, harsolvekReceiverTime, harsolvekReceiverSum}
+use Rattle.link.specs.Receiver.{harsolvekReceiverStart, receiverCalled, harsolvekReceiverRequest, harsolvekReceiverTime, harsolvekReceiverSum}
 use Rattle.link.specs.declared.indoor_calls.IndoorOutcome.{IndoorOutcome}
 use Rattle.link.specs.declared.mailbox_calls.MailboxCci.{MailboxCci}
 use Rattle.link.specs.declared.mailbox_calls.MailboxOutcome.{MailboxOutcome}
@@ -87,9 +87,9 @@ pub one-harsolvek-receiver-start : (settings : Settings) (identity : Identity) (
 one-harsolvek-receiver-start settings identity capacity r r′ is is′ = only is is′
 
 pub one-harsolvek-receiver-request : (state : FlatReceiver) (image request : List ℕ) (readiness verdict later : ℕ) (out : List ℕ) (r r′ : ReceiverOutcome) (image-left image-left′ out-left out-left′ : List ℕ)
-    → called r image-left out-left ≡ harsolvekReceiverRequest state image request readiness verdict later out
-    → called r′ image-left′ out-left′ ≡ harsolvekReceiverRequest state image request readiness verdict later out
-    → called r image-left out-left ≡ called r′ image-left′ out-left′
+    → receiverCalled r image-left out-left ≡ harsolvekReceiverRequest state image request readiness verdict later out
+    → receiverCalled r′ image-left′ out-left′ ≡ harsolvekReceiverRequest state image request readiness verdict later out
+    → receiverCalled r image-left out-left ≡ receiverCalled r′ image-left′ out-left′
 one-harsolvek-receiver-request state image request readiness verdict later out r r′ image-left image-left′ out-left out-left′ is is′ = only is is′
 
 pub one-harsolvek-receiver-time : (state : FlatReceiver) (elapsed : ℕ) (out : List ℕ) (r r′ : ReceiverOutcome) (out-left out-left′ : List ℕ)

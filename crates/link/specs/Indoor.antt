@@ -15,7 +15,7 @@ use Rattle.indoor_state.specs.declared.session.Indoor.{Indoor}
 use Rattle.indoor_state.specs.declared.session.Started.{Started}
 use Rattle.indoor_state.specs.declared.session.Started.the-variants.{Made, Settings, FileSize, BufferShort}
 use Rattle.indoor_state.specs.declared.session.Outcome.{Outcome}
-use Rattle.indoor_flat.specs.Flat.{packOf, unpackOf, isSession, none}
+use Rattle.indoor_flat.specs.Flat.{indoorPackOf, indoorUnpackOf, isIndoorSession, zeroIndoor}
 use Rattle.indoor_flat.specs.declared.flat.FlatIndoor.{FlatIndoor}
 use Rattle.link.specs.declared.indoor_calls.IndoorOutcome.{IndoorOutcome}
 
@@ -23,21 +23,21 @@ abbrev pub indoorOutcome : FlatIndoor → ℕ → ℕ → IndoorOutcome
 indoorOutcome state written number = record { state = state; written = written; number = number }
 
 abbrev pub flatIndoorOf : Outcome → IndoorOutcome
-flatIndoorOf o = indoorOutcome (packOf (o .session)) (o .written) (indoorNumberOf (o .answer))
+flatIndoorOf o = indoorOutcome (indoorPackOf (o .session)) (o .written) (indoorNumberOf (o .answer))
 
 -- 29, and nothing changes.
 abbrev pub noIndoor : FlatIndoor → IndoorOutcome
 noIndoor f = indoorOutcome f 0 29
 
 abbrev pub flatIndoorMade : Indoor → ℕ → ℕ → IndoorOutcome
-flatIndoorMade s written number = indoorOutcome (packOf s) written number
+flatIndoorMade s written number = indoorOutcome (indoorPackOf s) written number
 
 -- A refused start hands out no session.
 unfoldable pub flatIndoorBegun : Started → ℕ → IndoorOutcome
 flatIndoorBegun (Made state written) number = flatIndoorMade state written number
-flatIndoorBegun Settings number = indoorOutcome none 0 number
-flatIndoorBegun FileSize number = indoorOutcome none 0 number
-flatIndoorBegun BufferShort number = indoorOutcome none 0 number
+flatIndoorBegun Settings number = indoorOutcome zeroIndoor 0 number
+flatIndoorBegun FileSize number = indoorOutcome zeroIndoor 0 number
+flatIndoorBegun BufferShort number = indoorOutcome zeroIndoor 0 number
 
 abbrev pub flatIndoorStarted : Left Started → Left IndoorOutcome
 flatIndoorStarted x = left (flatIndoorBegun (x .answer) (starting.indoorStartNumberOf (x .answer))) (x .memory)
@@ -49,7 +49,7 @@ abbrev pub flatIndoorLeft : Left Outcome → Left IndoorOutcome
 flatIndoorLeft x = left (flatIndoorOf (x .answer)) (x .memory)
 
 unfoldable pub harsolvekIndoorResponse : FlatIndoor → List ℕ → List ℕ → List ℕ → Left IndoorOutcome
-harsolvekIndoorResponse f file message out = pick (isSession f) (flatIndoorLeft (response.indoorResponseOf (unpackOf f) file message out)) (left (noIndoor f) out)
+harsolvekIndoorResponse f file message out = pick (isIndoorSession f) (flatIndoorLeft (response.indoorResponseOf (indoorUnpackOf f) file message out)) (left (noIndoor f) out)
 
 unfoldable pub harsolvekIndoorTime : FlatIndoor → List ℕ → ℕ → List ℕ → Left IndoorOutcome
-harsolvekIndoorTime f file elapsed out = pick (isSession f) (flatIndoorLeft (time.indoorTimeOf (unpackOf f) file elapsed out)) (left (noIndoor f) out)
+harsolvekIndoorTime f file elapsed out = pick (isIndoorSession f) (flatIndoorLeft (time.indoorTimeOf (indoorUnpackOf f) file elapsed out)) (left (noIndoor f) out)

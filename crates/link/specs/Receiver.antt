@@ -20,7 +20,7 @@ use Rattle.receiver_state.specs.declared.session.Started.the-variants.{Made, Re
 use Rattle.receiver_state.specs.declared.session.Outcome.{Outcome}
 use Rattle.receiver_state.specs.declared.sum.Summed.{Summed}
 use Rattle.receiver_state.specs.declared.sum.Summed.the-variants.{Sum, ImageLength}
-use Rattle.receiver_flat.specs.Flat.{packOf, unpackOf, isSession, none}
+use Rattle.receiver_flat.specs.Flat.{receiverPackOf, receiverUnpackOf, isReceiverSession, zeroReceiver}
 use Rattle.receiver_flat.specs.Verdict.{verdictOf}
 use Rattle.receiver_flat.specs.declared.flat.FlatReceiver.{FlatReceiver}
 use Rattle.link.specs.declared.receiver_calls.ReceiverOutcome.{ReceiverOutcome}
@@ -29,15 +29,15 @@ use Rattle.link.specs.declared.receiver_calls.ImageSum.{ImageSum}
 abbrev pub receiverOutcome : FlatReceiver → ℕ → ℕ → ReceiverOutcome
 receiverOutcome state written number = record { state = state; written = written; number = number }
 
-abbrev pub sums : ℕ → ℕ → ImageSum
-sums sum number = record { sum = sum; number = number }
+abbrev pub imageSum : ℕ → ℕ → ImageSum
+imageSum sum number = record { sum = sum; number = number }
 
 -- A session with the settings, the identity and the capacity of the numbers.
-abbrev pub Kept : FlatReceiver → Receiver → Type 0
-Kept f r = (r .settings ≡ f .settings) × (r .identity ≡ f .identity) × (r .capacity ≡ f .capacity)
+abbrev pub SameSettings : FlatReceiver → Receiver → Type 0
+SameSettings f r = (r .settings ≡ f .settings) × (r .identity ≡ f .identity) × (r .capacity ≡ f .capacity)
 
 abbrev pub flatReceiverOf : Outcome → ReceiverOutcome
-flatReceiverOf o = receiverOutcome (packOf (o .session)) (o .written) (receiverNumberOf (o .answer))
+flatReceiverOf o = receiverOutcome (receiverPackOf (o .session)) (o .written) (receiverNumberOf (o .answer))
 
 -- 29, and nothing changes.
 abbrev pub noReceiver : FlatReceiver → ReceiverOutcome
@@ -45,8 +45,8 @@ noReceiver f = receiverOutcome f 0 29
 
 -- A refused start hands out no session.
 unfoldable pub flatReceiverMade : Started → FlatReceiver
-flatReceiverMade (Made r) = packOf r
-flatReceiverMade Refused = none
+flatReceiverMade (Made r) = receiverPackOf r
+flatReceiverMade Refused = zeroReceiver
 
 abbrev pub flatReceiverBegun : Started → ReceiverOutcome
 flatReceiverBegun started = receiverOutcome (flatReceiverMade started) 0 (starting.receiverStartNumberOf started)
@@ -55,35 +55,35 @@ abbrev pub harsolvekReceiverStart : Settings → Identity → ℕ → ReceiverOu
 harsolvekReceiverStart settings identity capacity = flatReceiverBegun (session.receiverStartOf (settings .limit) (settings .resends) identity capacity)
 
 -- The outcome, the image and the output buffer.
-pub record Called : Type 0 where
+pub record ReceiverCalled : Type 0 where
   pub outcome : ReceiverOutcome
   pub image : List ℕ
   pub out : List ℕ
 
-abbrev pub called : ReceiverOutcome → List ℕ → List ℕ → Called
-called outcome image out = record { outcome = outcome; image = image; out = out }
+abbrev pub receiverCalled : ReceiverOutcome → List ℕ → List ℕ → ReceiverCalled
+receiverCalled outcome image out = record { outcome = outcome; image = image; out = out }
 
-abbrev pub requestedOf : request.Effect → Called
-requestedOf e = called (flatReceiverOf (e .outcome)) (e .image) (e .out)
+abbrev pub flatReceiverRequested : request.Effect → ReceiverCalled
+flatReceiverRequested e = receiverCalled (flatReceiverOf (e .outcome)) (e .image) (e .out)
 
-unfoldable pub harsolvekReceiverRequest : FlatReceiver → List ℕ → List ℕ → ℕ → ℕ → ℕ → List ℕ → Called
+unfoldable pub harsolvekReceiverRequest : FlatReceiver → List ℕ → List ℕ → ℕ → ℕ → ℕ → List ℕ → ReceiverCalled
 harsolvekReceiverRequest f image message readiness verdict later out =
-    pick (isSession f) (requestedOf (request.receiverRequestOf (unpackOf f) image message readiness (verdictOf verdict later) out))
-    (called (noReceiver f) image out)
+    pick (isReceiverSession f) (flatReceiverRequested (request.receiverRequestOf (receiverUnpackOf f) image message readiness (verdictOf verdict later) out))
+    (receiverCalled (noReceiver f) image out)
 
 abbrev pub flatReceiverTimed : Left Outcome → Left ReceiverOutcome
 flatReceiverTimed x = left (flatReceiverOf (x .answer)) (x .memory)
 
 unfoldable pub harsolvekReceiverTime : FlatReceiver → ℕ → List ℕ → Left ReceiverOutcome
-harsolvekReceiverTime f elapsed out = pick (isSession f) (flatReceiverTimed (time.receiverTimeOf (unpackOf f) elapsed out)) (left (noReceiver f) out)
+harsolvekReceiverTime f elapsed out = pick (isReceiverSession f) (flatReceiverTimed (time.receiverTimeOf (receiverUnpackOf f) elapsed out)) (left (noReceiver f) out)
 
 -- A refused sum is 0.
-abbrev pub valueOf : Summed → ℕ
-valueOf (Sum s) = s
-valueOf ImageLength = 0
+abbrev pub sumValueOf : Summed → ℕ
+sumValueOf (Sum s) = s
+sumValueOf ImageLength = 0
 
-abbrev pub summedOf : Summed → ImageSum
-summedOf s = sums (valueOf s) (summing.imageSumNumberOf s)
+abbrev pub flatReceiverSummed : Summed → ImageSum
+flatReceiverSummed s = imageSum (sumValueOf s) (summing.imageSumNumberOf s)
 
 unfoldable pub harsolvekReceiverSum : FlatReceiver → List ℕ → ImageSum
-harsolvekReceiverSum f image = pick (isSession f) (summedOf (sum.receiverSumOf (unpackOf f) image)) (sums 0 29)
+harsolvekReceiverSum f image = pick (isReceiverSession f) (flatReceiverSummed (sum.receiverSumOf (receiverUnpackOf f) image)) (imageSum 0 29)

@@ -8,7 +8,7 @@ use indoor_state::session::Started;
 use silence::Settings;
 ghost use mathlib.Core.Path.{_≡_};
 ghost use Rattle.basis.specs.Left.{left};
-ghost use Rattle.indoor_flat.specs.Flat.{none};
+ghost use Rattle.indoor_flat.specs.Flat.{zeroIndoor};
 ghost use Rattle.link.specs.Indoor.{indoorOutcome, flatIndoorOf, noIndoor, flatIndoorMade, flatIndoorBegun, harsolvekIndoorStart, harsolvekIndoorResponse, harsolvekIndoorTime};
 
 #[repr(C)]
@@ -79,7 +79,7 @@ fn made(session: Indoor, written: usize, number: u8) -> IndoorOutcome
 }
 
 fn refused(number: u8) -> IndoorOutcome
-    ensures { λ r. ⌜ r ≡ indoorOutcome none 0 number ⌝ }
+    ensures { λ r. ⌜ r ≡ indoorOutcome zeroIndoor 0 number ⌝ }
 {
     let state = FlatIndoor::none();
     IndoorOutcome {

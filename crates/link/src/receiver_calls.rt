@@ -9,7 +9,7 @@ use silence::Settings;
 use wire::response::Identity;
 ghost use mathlib.Core.Path.{_≡_};
 ghost use Rattle.basis.specs.Left.{left};
-ghost use Rattle.link.specs.Receiver.{called, Kept, flatReceiverOf, noReceiver, flatReceiverMade, harsolvekReceiverStart, harsolvekReceiverRequest, harsolvekReceiverTime, valueOf, harsolvekReceiverSum};
+ghost use Rattle.link.specs.Receiver.{receiverCalled, SameSettings, flatReceiverOf, noReceiver, flatReceiverMade, harsolvekReceiverStart, harsolvekReceiverRequest, harsolvekReceiverTime, sumValueOf, harsolvekReceiverSum};
 
 #[repr(C)]
 pub struct ReceiverOutcome {
@@ -26,7 +26,7 @@ pub struct ImageSum {
 
 // No call changes settings, identity and capacity: they are handed back as they came, and so need not be taken apart.
 fn flat(came: FlatReceiver, outcome: Outcome) -> ReceiverOutcome
-    requires { ⌜ Kept came (outcome .session) ⌝ }
+    requires { ⌜ SameSettings came (outcome .session) ⌝ }
     ensures { λ r. ⌜ r ≡ flatReceiverOf outcome ⌝ }
 {
     let session = outcome.session;
@@ -100,7 +100,7 @@ pub extern "C" fn harsolvek_receiver_request(
     later: u8,
     out: &mut [u8],
 ) -> ReceiverOutcome
-    ensures { λ r. ⌜ called r (now (image .exit)) (now (out .exit)) ≡ harsolvekReceiverRequest state (now (image .entry)) (now (request .entry)) readiness verdict later (now (out .entry)) ⌝ }
+    ensures { λ r. ⌜ receiverCalled r (now (image .exit)) (now (out .exit)) ≡ harsolvekReceiverRequest state (now (image .entry)) (now (request .entry)) readiness verdict later (now (out .entry)) ⌝ }
 {
     if state.is_session() {
         let session = state.unpack();
@@ -145,7 +145,7 @@ pub extern "C" fn harsolvek_receiver_sum(state: FlatReceiver, image: &[u8]) -> I
 }
 
 fn value(summed: Summed) -> u16
-    ensures { λ r. ⌜ r ≡ valueOf summed ⌝ }
+    ensures { λ r. ⌜ r ≡ sumValueOf summed ⌝ }
 {
     match summed {
         Summed::Sum(sum) => sum,

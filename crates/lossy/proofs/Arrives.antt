@@ -24,11 +24,11 @@ use Rattle.luck.specs.declared.went.Missed.{Missed}
 use Rattle.lossy_ends.specs.declared.ends.Ends.{Ends}
 use Rattle.lossy.specs.declared.carry_call.Carried.{Carried}
 use Rattle.lossy_ends.specs.Both.{Both, both}
-use Rattle.luck.specs.Way.{way, noMessage, messageOnWay, risesOf, nextWay, behindOf}
+use Rattle.luck.specs.Way.{way, noMessage, messageOnWay, risesOf, nextWay, afterArrivalOf}
 use Rattle.luck.specs.Luck.{fateOf, goesOf}
 use Rattle.luck.specs.Went.{missedOf}
 use Rattle.lossy.specs.Arrive.{requestArrives, responseArrives}
-use Rattle.lossy_ends.specs.Ends.{ends}
+use Rattle.lossy_ends.specs.Ends.{lossyEnds}
 use Rattle.lossy.specs.Carry.{missOf, carryRequestOf, carryResponseOf, goOf, carryOf}
 use Rattle.lossy_ends.specs.Over.{OnItsWay, Over}
 use Rattle.lossy_ends.proofs.Stays.{goes-on, above-goes, below-goes}
@@ -37,7 +37,7 @@ abbrev going : Luck → Bool → Way → Fate → Going
 going luck rises w fate = record { luck = luck; rises = rises; way = w; fate = fate }
 
 -- A message that went may arrive once more.
-behind : (w : Way) (buffer : List ℕ) (sent : List (List ℕ)) (stays : Bool) → OnItsWay w buffer sent → OnItsWay (behindOf w stays) buffer sent
+behind : (w : Way) (buffer : List ℕ) (sent : List (List ℕ)) (stays : Bool) → OnItsWay w buffer sent → OnItsWay (afterArrivalOf w stays) buffer sent
 unfolding pick
 behind w buffer sent true o = o
 behind w buffer sent false o = inl refl
@@ -62,22 +62,22 @@ module _ (file : List ℕ) (e : Ends) (image up down : List ℕ) (o : Over file 
   OverCarried x = Over file (x .answer .answer .ends) (x .memory) (x .answer .up) (x .answer .down)
 
   -- The request on its way has arrived.
-  ask-over : (luck : Luck) (fate : Fate) (stays : Bool) → 0 < e .up .bytes → OverCarried (carryRequestOf e (going luck true (e .up) fate) stays image up down)
+  request-over : (luck : Luck) (fate : Fate) (stays : Bool) → 0 < e .up .bytes → OverCarried (carryRequestOf e (going luck true (e .up) fate) stays image up down)
   unfolding requestArrives
-  ask-over luck fate stays some =
+  request-over luck fate stays some =
       let request = messageOnWay (e .up) up in
       let x = receiverRequestOf (e .receiver) image request 0 Good down in
-      above-goes file e image up down o (behindOf (e .up) stays) (behind (e .up) up (o .requests) stays (o .rising)) (x .outcome) (x .image) (x .out)
+      above-goes file e image up down o (afterArrivalOf (e .up) stays) (behind (e .up) up (o .requests) stays (o .rising)) (x .outcome) (x .image) (x .out)
       (receiver.request-leads (e .receiver) image request 0 Good down)
       (toReceiver (o .reached) request (arrived (e .up) up (o .requests) (o .rising) some) image (inl refl) 0 Good down)
 
   -- The response on its way has arrived.
-  tell-over : (luck : Luck) (fate : Fate) (stays : Bool) → 0 < e .down .bytes → OverCarried (left (carryResponseOf e (going luck false (e .down) fate) stays file up down) image)
+  response-over : (luck : Luck) (fate : Fate) (stays : Bool) → 0 < e .down .bytes → OverCarried (left (carryResponseOf e (going luck false (e .down) fate) stays file up down) image)
   unfolding responseArrives
-  tell-over luck fate stays some =
+  response-over luck fate stays some =
       let response = messageOnWay (e .down) down in
       let x = indoorResponseOf (e .indoor) file response up in
-      below-goes file e image up down o (behindOf (e .down) stays) (behind (e .down) down (o .responses) stays (o .falling)) x
+      below-goes file e image up down o (afterArrivalOf (e .down) stays) (behind (e .down) down (o .responses) stays (o .falling)) x
       (indoor.response-leads (e .indoor) file response up)
       (toIndoor (o .reached) response (arrived (e .down) down (o .responses) (o .falling) some) file (inl refl) up)
 
@@ -87,15 +87,15 @@ module _ (file : List ℕ) (e : Ends) (image up down : List ℕ) (o : Over file 
   arrive-over : (luck : Luck) (fate : Fate) (rises stays : Bool) → 0 < next rises .bytes
       → OverCarried (goOf (Arrives stays) e (going luck rises (next rises) fate) file image up down)
   unfolding goOf pick
-  arrive-over luck fate true stays some = ask-over luck fate stays some
-  arrive-over luck fate false stays some = tell-over luck fate stays some
+  arrive-over luck fate true stays some = request-over luck fate stays some
+  arrive-over luck fate false stays some = response-over luck fate stays some
 
   -- Nothing was on its way, or it is lost.
   abbrev OverMissed : Missed → Type 0
-  OverMissed m = Over file (ends (e .receiver) (e .indoor) (m .up) (m .down)) image up down
+  OverMissed m = Over file (lossyEnds (e .receiver) (e .indoor) (m .up) (m .down)) image up down
 
-  stays-over : (up′ down′ : Way) → OnItsWay up′ up (o .requests) → OnItsWay down′ down (o .responses) → Over file (ends (e .receiver) (e .indoor) up′ down′) image up down
-  stays-over up′ down′ = goes-on file e image up down o (ends (e .receiver) (e .indoor) up′ down′) image up down (o .requests) (o .responses) (o .reached)
+  stays-over : (up′ down′ : Way) → OnItsWay up′ up (o .requests) → OnItsWay down′ down (o .responses) → Over file (lossyEnds (e .receiver) (e .indoor) up′ down′) image up down
+  stays-over up′ down′ = goes-on file e image up down o (lossyEnds (e .receiver) (e .indoor) up′ down′) image up down (o .requests) (o .responses) (o .reached)
 
   miss-over : (g : Going) → OverMissed (missedOf g (e .up) (e .down))
   unfolding missedOf

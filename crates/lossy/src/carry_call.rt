@@ -11,8 +11,8 @@ use receiver_state::session::Receiver;
 ghost use mathlib.Core.Path.{_≡_};
 ghost use Rattle.basis.specs.Left.{left};
 ghost use Rattle.lossy_ends.specs.Both.{both};
-ghost use Rattle.lossy_ends.specs.Ends.{ends as endsOf};
-ghost use Rattle.lossy.specs.Carry.{carried, carryOf, missOf, carryRequestOf, carryResponseOf};
+ghost use Rattle.lossy_ends.specs.Ends.{lossyEnds as endsOf};
+ghost use Rattle.lossy.specs.Carry.{lossyCarried, carryOf, missOf, carryRequestOf, carryResponseOf};
 
 // `rises` says whether it is the request that went, `way` which part of its buffer that was, and `luck` is what the next message goes by.
 pub struct Carried {
@@ -40,9 +40,9 @@ pub fn carry(
         return miss(ends, going);
     };
     if going.rises {
-        return ask(ends, going, stays, image, up, down);
+        return carry_request(ends, going, stays, image, up, down);
     }
-    tell(ends, going, stays, file, up, down)
+    carry_response(ends, going, stays, file, up, down)
 }
 
 fn miss(ends: Ends, going: Going) -> Carried
@@ -50,7 +50,7 @@ fn miss(ends: Ends, going: Going) -> Carried
 {
     let missed = going.missed(ends.up, ends.down);
     let went = missed.went;
-    made(
+    outcome(
         ends.receiver,
         ends.indoor,
         missed.up,
@@ -61,7 +61,7 @@ fn miss(ends: Ends, going: Going) -> Carried
 }
 
 // The request arrives.
-fn ask(
+fn carry_request(
     ends: Ends,
     going: Going,
     stays: bool,
@@ -74,7 +74,7 @@ fn ask(
     let way = going.way;
     let roof = arrive::request(ends.receiver, way, ends.down, image, up, down);
     let answered = roof.answered;
-    made(
+    outcome(
         roof.receiver,
         ends.indoor,
         way.behind(stays),
@@ -85,13 +85,20 @@ fn ask(
 }
 
 // The response arrives.
-fn tell(ends: Ends, going: Going, stays: bool, file: &[u8], up: &mut [u8], down: &[u8]) -> Carried
+fn carry_response(
+    ends: Ends,
+    going: Going,
+    stays: bool,
+    file: &[u8],
+    up: &mut [u8],
+    down: &[u8],
+) -> Carried
     ensures { λ r. ⌜ both r (now (up .exit)) (now (down .entry)) ≡ carryResponseOf ends going stays (now (file .entry)) (now (up .entry)) (now (down .entry)) ⌝ }
 {
     let way = going.way;
     let indoors = arrive::response(ends.indoor, way, ends.up, file, up, down);
     let answered = indoors.answered;
-    made(
+    outcome(
         ends.receiver,
         indoors.indoor,
         indoors.up,
@@ -101,8 +108,15 @@ fn tell(ends: Ends, going: Going, stays: bool, file: &[u8], up: &mut [u8], down:
     )
 }
 
-fn made(receiver: Receiver, indoor: Indoor, up: Way, down: Way, going: Going, went: Went) -> Carried
-    ensures { λ r. ⌜ r ≡ carried (endsOf receiver indoor up down) going went ⌝ }
+fn outcome(
+    receiver: Receiver,
+    indoor: Indoor,
+    up: Way,
+    down: Way,
+    going: Going,
+    went: Went,
+) -> Carried
+    ensures { λ r. ⌜ r ≡ lossyCarried (endsOf receiver indoor up down) going went ⌝ }
 {
     let luck = going.luck;
     let way = going.way;

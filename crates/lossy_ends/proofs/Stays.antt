@@ -25,8 +25,8 @@ use Rattle.line.specs.Line.{Reached}
 use Rattle.line.proofs.Demand3.{demand3}
 use Rattle.luck.specs.declared.way.Way.{Way}
 use Rattle.lossy_ends.specs.declared.ends.Ends.{Ends}
-use Rattle.luck.specs.Way.{way, afterOf}
-use Rattle.lossy_ends.specs.Ends.{ends}
+use Rattle.luck.specs.Way.{way, afterWriteOf}
+use Rattle.lossy_ends.specs.Ends.{lossyEnds}
 use Rattle.lossy_ends.specs.Over.{lossyWorld, OnItsWay, Over, Same}
 
 module _ (w : Way) (out : List ℕ) (sent : List (List ℕ)) (o : OnItsWay w out sent) (bytes out′ : List ℕ) (written : ℕ)
@@ -41,7 +41,7 @@ module _ (w : Way) (out : List ℕ) (sent : List (List ℕ)) (o : OnItsWay w out
   after-by false t = inr (List·Memᴰ·head refl)
 
   -- What a call wrote is on its way; where it wrote nothing, what was on its way is so still.
-  after : OnItsWay (afterOf w written) out′ (withSent written out′ sent)
+  after : OnItsWay (afterWriteOf w written) out′ (withSent written out′ sent)
   after = after-by (eqb written 0) refl
 
 module _ (file : List ℕ) (e : Ends) (image up down : List ℕ) (o : Over file e image up down) where
@@ -64,18 +64,18 @@ module _ (file : List ℕ) (e : Ends) (image up down : List ℕ) (o : Over file 
   -- The receiver has written what its answer says, and so has the indoor end.
   pub above-goes : (rising : Way) → OnItsWay rising up (o .requests) → (x : ReceiverOutcome) (image′ down′ : List ℕ) → receiver.Leads (e .receiver) down x down′
       → Reached file (o .memory) (o .release) (o .identity)
-      (lossyWorld (ends (x .session) (e .indoor) rising (afterOf (e .down) (x .written))) image′ (o .requests) (withSent (x .written) down′ (o .responses)))
-      → Over file (ends (x .session) (e .indoor) rising (afterOf (e .down) (x .written))) image′ up down′
+      (lossyWorld (lossyEnds (x .session) (e .indoor) rising (afterWriteOf (e .down) (x .written))) image′ (o .requests) (withSent (x .written) down′ (o .responses)))
+      → Over file (lossyEnds (x .session) (e .indoor) rising (afterWriteOf (e .down) (x .written))) image′ up down′
   above-goes rising on x image′ down′ l reached =
-      goes-on (ends (x .session) (e .indoor) rising (afterOf (e .down) (x .written))) image′ up down′ (o .requests) (withSent (x .written) down′ (o .responses)) reached on
+      goes-on (lossyEnds (x .session) (e .indoor) rising (afterWriteOf (e .down) (x .written))) image′ up down′ (o .requests) (withSent (x .written) down′ (o .responses)) reached on
       (after (e .down) down (o .responses) (o .falling) (receiverBytesOf (e .receiver) (x .answer)) down′ (x .written) (l .first) (l .written))
 
   pub below-goes : (falling : Way) → OnItsWay falling down (o .responses) → (x : Left IndoorOutcome) → indoor.Leads (e .indoor .plan) file up x
       → Reached file (o .memory) (o .release) (o .identity)
-      (lossyWorld (ends (e .receiver) (x .answer .session) (afterOf (e .up) (x .answer .written)) falling) image (withSent (x .answer .written) (x .memory) (o .requests)) (o .responses))
-      → Over file (ends (e .receiver) (x .answer .session) (afterOf (e .up) (x .answer .written)) falling) image (x .memory) down
+      (lossyWorld (lossyEnds (e .receiver) (x .answer .session) (afterWriteOf (e .up) (x .answer .written)) falling) image (withSent (x .answer .written) (x .memory) (o .requests)) (o .responses))
+      → Over file (lossyEnds (e .receiver) (x .answer .session) (afterWriteOf (e .up) (x .answer .written)) falling) image (x .memory) down
   below-goes falling on x l reached =
-      goes-on (ends (e .receiver) (x .answer .session) (afterOf (e .up) (x .answer .written)) falling) image (x .memory) down
+      goes-on (lossyEnds (e .receiver) (x .answer .session) (afterWriteOf (e .up) (x .answer .written)) falling) image (x .memory) down
       (withSent (x .answer .written) (x .memory) (o .requests)) (o .responses) reached
       (after (e .up) up (o .requests) (o .rising) (indoorBytesOf (e .indoor .plan) file (x .answer .answer)) (x .memory) (x .answer .written) (l .first) (l .written))
       on

@@ -6,12 +6,12 @@ use Rattle.lossy_ends.specs.declared.roof.Roof.{Roof}
 use Rattle.lossy_ends.specs.declared.indoors.Indoors.{Indoors}
 use Rattle.lossy_ends.specs.declared.ends.Ends.{Ends}
 
-abbrev pub ends : Receiver → Indoor → Way → Way → Ends
-ends receiver indoor up down = record { receiver = receiver; indoor = indoor; up = up; down = down }
+abbrev pub lossyEnds : Receiver → Indoor → Way → Way → Ends
+lossyEnds receiver indoor up down = record { receiver = receiver; indoor = indoor; up = up; down = down }
 
 -- The receiver was called, or the indoor end; what is on its way to it is then as told.
 abbrev pub roofEnds : Ends → Way → Roof → Ends
-roofEnds e rising x = ends (x .receiver) (e .indoor) rising (x .down)
+roofEnds e rising x = lossyEnds (x .receiver) (e .indoor) rising (x .down)
 
 abbrev pub indoorEnds : Ends → Way → Indoors → Ends
-indoorEnds e falling x = ends (e .receiver) (x .indoor) (x .up) falling
+indoorEnds e falling x = lossyEnds (e .receiver) (x .indoor) (x .up) falling

@@ -2,7 +2,7 @@
 use Rattle.basis.specs.Left.{Left, left}
 use Rattle.indoor_state.specs.Answer.{indoorNumberOf}
 use Rattle.indoor_state.specs.declared.session.Outcome.{Outcome}
-use Rattle.luck.specs.Way.{afterOf}
+use Rattle.luck.specs.Way.{afterWriteOf}
 use Rattle.luck.specs.Called.{answeredOf}
 use Rattle.luck.specs.declared.way.Way.{Way}
 use Rattle.lossy_ends.specs.declared.indoors.Indoors.{Indoors}
@@ -10,7 +10,7 @@ use Rattle.lossy_ends.specs.declared.indoors.Indoors.{Indoors}
 abbrev pub indoorsOf : Outcome → Way → Indoors
 indoorsOf x rising = record {
   indoor = x .session;
-  up = afterOf rising (x .written);
+  up = afterWriteOf rising (x .written);
   answered = answeredOf (indoorNumberOf (x .answer)) rising (x .written);
 }
 

@@ -1,7 +1,7 @@
 -- What a call of the receiver makes of it and of what is on its way down.
 use Rattle.receiver_state.specs.Answer.{receiverNumberOf}
 use Rattle.receiver_state.specs.declared.session.Outcome.{Outcome}
-use Rattle.luck.specs.Way.{afterOf}
+use Rattle.luck.specs.Way.{afterWriteOf}
 use Rattle.luck.specs.Called.{answeredOf}
 use Rattle.luck.specs.declared.way.Way.{Way}
 use Rattle.lossy_ends.specs.declared.roof.Roof.{Roof}
@@ -9,6 +9,6 @@ use Rattle.lossy_ends.specs.declared.roof.Roof.{Roof}
 abbrev pub roofOf : Outcome → Way → Roof
 roofOf x falling = record {
   receiver = x .session;
-  down = afterOf falling (x .written);
+  down = afterWriteOf falling (x .written);
   answered = answeredOf (receiverNumberOf (x .answer)) falling (x .written);
 }

@@ -24,7 +24,7 @@ use Rattle.lossy_ends.specs.declared.ends.Ends.{Ends}
 use Rattle.lossy_session.specs.declared.start_call.Limits.{Limits}
 use Rattle.lossy_session.specs.declared.start_call.Started.the-variants.{Made, Refused}
 use Rattle.luck.specs.Way.{noMessage, wayOf}
-use Rattle.lossy_ends.specs.Ends.{ends}
+use Rattle.lossy_ends.specs.Ends.{lossyEnds}
 use Rattle.lossy_session.specs.Start.{joinedOf, bothMadeOf, bothStartOf}
 use Rattle.lossy_ends.specs.Over.{lossyWorld, Over}
 
@@ -59,7 +59,7 @@ module _ (roof indoors : Limits) (identity : Identity) (release : Release) (file
           requests = take written up′ ∷ [];
           responses = [];
           reached = begins (roof .silence) (roof .resends) (indoors .silence) (indoors .resends)
-              (lossyWorld (ends r session (wayOf written) noMessage) memory (take written up′ ∷ []) [])
+              (lossyWorld (lossyEnds r session (wayOf written) noMessage) memory (take written up′ ∷ []) [])
               (record { receiver = made; out = up; written = written; out′ = up′; indoor = started; image = refl; requests = refl; responses = refl });
           rising = inr (List·Memᴰ·head refl);
           falling = inl refl;

@@ -5,12 +5,12 @@ use Rattle.lossy_session.specs.Clock.{roofPasses, indoorPasses}
 use Rattle.lossy_ends.specs.declared.roof.Roof.{Roof}
 use Rattle.lossy_ends.specs.declared.indoors.Indoors.{Indoors}
 use Rattle.lossy_ends.specs.Both.{Both, both}
-use Rattle.lossy_ends.specs.Ends.{ends}
+use Rattle.lossy_ends.specs.Ends.{lossyEnds}
 use Rattle.lossy_ends.specs.declared.ends.Ends.{Ends}
 use Rattle.lossy_session.specs.declared.pass_call.Passed.{Passed}
 
 abbrev pub bothPassedOf : Roof → Indoors → Passed
-bothPassedOf x y = record { ends = ends (x .receiver) (y .indoor) (y .up) (x .down); above = x .answered; below = y .answered }
+bothPassedOf x y = record { ends = lossyEnds (x .receiver) (y .indoor) (y .up) (x .down); above = x .answered; below = y .answered }
 
 unfoldable pub bothPassOf : Ends → ℕ → List ℕ → List ℕ → List ℕ → Both Passed
 bothPassOf e elapsed file up down =

@@ -12,13 +12,13 @@ use Rattle.indoor_state.specs.declared.plan.Release.{Release}
 use Rattle.indoor_state.specs.declared.session.Started as Ind
 use Rattle.indoor_state.specs.declared.session.Started.the-variants as IndStarted
 use Rattle.luck.specs.Way.{noMessage, wayOf}
-use Rattle.lossy_ends.specs.Ends.{ends}
+use Rattle.lossy_ends.specs.Ends.{lossyEnds}
 use Rattle.lossy_session.specs.declared.start_call.Limits.{Limits}
 use Rattle.lossy_session.specs.declared.start_call.Started.{Started}
 use Rattle.lossy_session.specs.declared.start_call.Started.the-variants.{Made, Refused}
 
 unfoldable pub joinedOf : Receiver → Ind.Started → Started
-joinedOf r (IndStarted.Made session written) = Made (ends r session (wayOf written) noMessage)
+joinedOf r (IndStarted.Made session written) = Made (lossyEnds r session (wayOf written) noMessage)
 joinedOf r IndStarted.Settings = Refused 29
 joinedOf r IndStarted.FileSize = Refused 46
 joinedOf r IndStarted.BufferShort = Refused 27

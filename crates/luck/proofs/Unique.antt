@@ -6,7 +6,7 @@ use mathlib.Core.Path.{_≡_}
 use Rattle.basis.specs.Only.{only}
 use Rattle.luck.specs.Called.{answeredOf}
 use Rattle.luck.specs.Luck.{goesOf, seededOf}
-use Rattle.luck.specs.Way.{wayOf, messageOnWay, behindOf, afterOf}
+use Rattle.luck.specs.Way.{wayOf, messageOnWay, afterArrivalOf, afterWriteOf}
 use Rattle.luck.specs.Went.{missedOf}
 use Rattle.luck.specs.declared.called.Answered.{Answered}
 use Rattle.luck.specs.declared.luck.Going.{Going}
@@ -46,14 +46,14 @@ pub one-message : (self : Way) (buffer r r′ : List ℕ)
 one-message self buffer r r′ is is′ = only is is′
 
 pub one-behind : (self : Way) (stays : Bool) (r r′ : Way)
-    → r ≡ behindOf self stays
-    → r′ ≡ behindOf self stays
+    → r ≡ afterArrivalOf self stays
+    → r′ ≡ afterArrivalOf self stays
     → r ≡ r′
 one-behind self stays r r′ is is′ = only is is′
 
 pub one-after : (self : Way) (written : ℕ) (r r′ : Way)
-    → r ≡ afterOf self written
-    → r′ ≡ afterOf self written
+    → r ≡ afterWriteOf self written
+    → r′ ≡ afterWriteOf self written
     → r ≡ r′
 one-after self written r r′ is is′ = only is is′
 

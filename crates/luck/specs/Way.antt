@@ -27,12 +27,12 @@ abbrev pub nextWay : Way → Way → Bool → Way
 nextWay rising falling rises = pick rises rising falling
 
 -- Behind a message that went.
-abbrev pub behindOf : Way → Bool → Way
-behindOf w stays = pick stays (way (w .bytes) true) noMessage
+abbrev pub afterArrivalOf : Way → Bool → Way
+afterArrivalOf w stays = pick stays (way (w .bytes) true) noMessage
 
 -- After a call that has written so many bytes.
-abbrev pub afterOf : Way → ℕ → Way
-afterOf w written = pick (eqb written 0) w (wayOf written)
+abbrev pub afterWriteOf : Way → ℕ → Way
+afterWriteOf w written = pick (eqb written 0) w (wayOf written)
 
 -- Such a call has put its message in the place of one that has never arrived.
 abbrev pub pushedOf : Way → ℕ → Bool

@@ -1,6 +1,6 @@
 // A message on its way, one way: how many bytes of its buffer it takes, 0 for none, and whether it has arrived before.
 ghost use mathlib.Core.Path.{_≡_};
-ghost use Rattle.luck.specs.Way.{noMessage, wayOf, messageOnWay, risesOf, nextWay, behindOf, afterOf, pushedOf};
+ghost use Rattle.luck.specs.Way.{noMessage, wayOf, messageOnWay, risesOf, nextWay, afterArrivalOf, afterWriteOf, pushedOf};
 
 pub struct Way {
     pub bytes: usize,
@@ -59,7 +59,7 @@ impl Way {
 
     // What is on its way behind a message that went: the message itself once more, or nothing.
     pub fn behind(self, stays: bool) -> Way
-        ensures { λ r. ⌜ r ≡ behindOf self stays ⌝ }
+        ensures { λ r. ⌜ r ≡ afterArrivalOf self stays ⌝ }
     {
         if stays {
             return Way {
@@ -72,7 +72,7 @@ impl Way {
 
     // What is on its way after a call that has written so many bytes.
     pub fn after(self, written: usize) -> Way
-        ensures { λ r. ⌜ r ≡ afterOf self written ⌝ }
+        ensures { λ r. ⌜ r ≡ afterWriteOf self written ⌝ }
     {
         if written == 0 {
             return self;

@@ -3,7 +3,7 @@ use Prim.Native.Nat.{ℕ, _≤_}
 use mathlib.Core.Path.{_≡_, refl, _∙_, ap}
 use mathlib.Core.List.{List, [], _++_, map, append-nil}
 use native.Mathlib.Omega.{arith}
-use Rattle.printing.specs.Line.{longest, stopText, lineIn, stopOf}
+use Rattle.printing.specs.Line.{lineLongest, stopText, lineIn, stopOf}
 use Rattle.recording.specs.Reading.{nextRecordOf}
 use Rattle.recording.specs.Apart.{apart, onward, apartOf, writtenOf}
 use Rattle.recording.proofs.TakenApart.{apart-step, apart-written}
@@ -53,7 +53,7 @@ pub stop-last : (m : Mailbox) (rs : List Record) (rest more : List ℕ) → next
 stop-last m rs rest more e = replay-written m rs (rest ++ more) UnknownKind (unknown-stays rest more 0 e)
 
 -- The line that ends a recording fits into its array.
-pub closing-fits : (stop : Stop) → closingOf stop .len ≤ longest
+pub closing-fits : (stop : Stop) → closingOf stop .len ≤ lineLongest
 unfolding closingOf lineIn
 closing-fits (Stop.Ended Whole) = omega arith
 closing-fits (Stop.Ended Cut) = omega arith

@@ -4,7 +4,7 @@ use mathlib.Core.Bool.{true}
 use mathlib.Core.Path.{_≡_, _∙_, ap}
 use native.Mathlib.Omega.{arith}
 use lib.ListN.{length, take, replicate, length-replicate, replicate-append-replicate}
-use Rattle.printing.specs.Line.{longest, textOf}
+use Rattle.printing.specs.Line.{lineLongest, textOf}
 use Rattle.printing.proofs.Texts.{line-holds, line-sized, Says, line-says}
 use Rattle.recording.specs.declared.record.Record.{Record}
 use Rattle.recording.specs.declared.record.Record.the-variants.{Success}
@@ -18,7 +18,7 @@ use Rattle.mailbox_rules.proofs.Message.{success-fills}
 use Rattle.playing.specs.Turn.{eventIn, outcomeOf, printed, turnOf}
 
 -- 11 to 13 bytes.
-pub printed-sized : (m : Mailbox) (r : Record) → (11 ≤ length (printed (outcomeOf m r))) × (length (printed (outcomeOf m r)) ≤ longest)
+pub printed-sized : (m : Mailbox) (r : Record) → (11 ≤ length (printed (outcomeOf m r))) × (length (printed (outcomeOf m r)) ≤ lineLongest)
 unfolding printed
 printed-sized m r = line-sized (mailboxCciOf (outcomeOf m r .mailbox)) (mailboxNumberOf (outcomeOf m r .answer))
 

@@ -11,7 +11,7 @@ use Rattle.basis.specs.Pick.{pick-yes, pick-no}
 use Rattle.basis.specs.Left.{Left, left}
 use Rattle.lent.specs.Put.{pasted}
 use Rattle.lent.proofs.Laws.{pasted-there, pasted-behind, pasted-length}
-use Rattle.printing.specs.Line.{longest, lineIn}
+use Rattle.printing.specs.Line.{lineLongest, lineIn}
 use Rattle.printing.proofs.Texts.{line-holds}
 use Rattle.recording.specs.Reading.{nextRecordOf}
 use Rattle.recording.specs.Writing.{recordBytesOf}
@@ -54,7 +54,7 @@ module _ (mailbox : Mailbox) (r : Record) (turn : Turn) (e : turn ≡ turnOf mai
   pub line-len : turn .line .len ≡ length (printed (outcomeOf mailbox r))
   line-len = rw line-is (line-holds (printed (outcomeOf mailbox r)) .0)
 
-  pub line-fits : turn .line .len ≤ longest
+  pub line-fits : turn .line .len ≤ lineLongest
   line-fits = rw line-len (printed-sized mailbox r .1)
 
   pub line-bytes : take (turn .line .len) (turn .line .bytes) ≡ printed (outcomeOf mailbox r)

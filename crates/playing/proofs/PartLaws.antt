@@ -6,7 +6,7 @@ use native.Mathlib.Omega.{arith}
 use lib.ListN.{length, take, drop, length-drop, length-append}
 use lib.Seq.{drop-drop, drop-append-le, take-append-seam, drop-append-seam}
 use Rattle.basis.specs.Left.{Left, left}
-use Rattle.printing.specs.Line.{longest}
+use Rattle.printing.specs.Line.{lineLongest}
 use Rattle.recording.specs.Reading.{nextRecordOf}
 use Rattle.recording.specs.Writing.{recordBytesOf}
 use Rattle.recording.specs.Apart.{onward, apartOf}
@@ -60,9 +60,9 @@ NotFull (Stop.Ended ending) = Unit
 NotFull Stop.Full = ⊥
 
 -- Where there is room for the longest line to every byte of the part, none does: a record has one byte at least.
-pub never-full : (m : Mailbox) (room : ℕ) (part : List ℕ) → longest * length part ≤ room → NotFull (partOf m room (apartOf part) .stop)
+pub never-full : (m : Mailbox) (room : ℕ) (part : List ℕ) → lineLongest * length part ≤ room → NotFull (partOf m room (apartOf part) .stop)
 never-full =
-    part-all (λ m room part q. longest * length part ≤ room → NotFull (q .stop))
+    part-all (λ m room part q. lineLongest * length part ≤ room → NotFull (q .stop))
     (λ m room part ending e h. tt)
     (λ m room part r next e h k.
     let past = found-past part 0 r next e in

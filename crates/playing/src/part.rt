@@ -11,7 +11,7 @@ ghost use Prim.Native.Nat.{_+_, _≤_};
 ghost use lib.ListN.{length, take};
 ghost use Rattle.basis.specs.Left.{left};
 ghost use Rattle.lent.specs.Put.{pasted};
-ghost use Rattle.printing.specs.Line.{longest};
+ghost use Rattle.printing.specs.Line.{lineLongest};
 ghost use Rattle.playing.specs.Part.{playOf};
 
 // Why no further record was played: none is found at the place, or its line does not fit into the output.
@@ -70,7 +70,7 @@ pub fn play(mailbox: Mailbox, part: &[u8], out: &mut [u8]) -> Played
 }
 
 fn put(out: &mut [u8], at: usize, line: Line)
-    requires { ⌜ line .len ≤ longest ⌝ }
+    requires { ⌜ line .len ≤ lineLongest ⌝ }
     requires { ⌜ at + line .len ≤ length (now out) ⌝ }
     ensures { λ _. ⌜ now (out .exit) ≡ pasted (now (out .entry)) at (take (line .len) (line .bytes)) ⌝ }
 {

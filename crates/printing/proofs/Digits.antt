@@ -8,7 +8,7 @@ use native.Mathlib.Omega.{arith}
 use borrow.Author.Tests.{lt-ltb, le-ltb, ltb-true, ltb-false}
 use lib.Dec.{ltb}
 use Rattle.basis.specs.Pick.{pick-yes, pick-no, pick-all}
-use Rattle.printing.specs.Digits.{figure, digitOf, hexOf, decimalOf, digitIn, behind, numberIn}
+use Rattle.printing.specs.Digits.{figure, digitOf, hexOf, decimalOf, digitIn, digitsBehind, numberIn}
 
 -- The code has one digit after the other.
 pub hex-eight : (x : ℕ) → hexOf 8 x ≡
@@ -30,17 +30,17 @@ digit-read n h = pick-all (λ (c : ℕ). digitIn c ≡ n) (ltb n 10) _ _
     (λ t. let k = ltb-false n 10 t in pick-no _ _ _ (le-ltb (0x41 + (n - 10)) 0x41 (omega arith)) ∙ omega arith)
 
 -- A number's upper digits, and then its lower ones, are the number.
-read-on : (k x : ℕ) → behind 16 (x / 16 ^ k) (hexOf k x) ≡ x
+read-on : (k x : ℕ) → digitsBehind 16 (x / 16 ^ k) (hexOf k x) ≡ x
 read-on zero x = div-one x
 read-on (suc k) x =
     let q = x / 16 ^ k in
     let up : x / 16 ^ suc k ≡ q / 16 = ap (λ (d : ℕ). x / d) (pow-suc 16 k) ∙ sym (div-div-eq-div-mul x (16 ^ k) 16) in
     let low : digitIn (digitOf (q % 16)) ≡ q % 16 = digit-read (q % 16) (omega arith) in
     let e : 16 * (x / 16 ^ suc k) + digitIn (digitOf (q % 16)) ≡ q = rw (up, low) (omega arith) in
-    ap (λ (r : ℕ). behind 16 r (hexOf k x)) e ∙ read-on k x
+    ap (λ (r : ℕ). digitsBehind 16 r (hexOf k x)) e ∙ read-on k x
 
 pub hex-read : (k x : ℕ) → x < 16 ^ k → numberIn 16 (hexOf k x) ≡ x
-hex-read k x h = ap (λ (r : ℕ). behind 16 r (hexOf k x)) (sym (div-eq-of-lt h)) ∙ read-on k x
+hex-read k x h = ap (λ (r : ℕ). digitsBehind 16 r (hexOf k x)) (sym (div-eq-of-lt h)) ∙ read-on k x
 
 pub figure-read : (n : ℕ) → n < 10 → digitIn (figure n) ≡ n
 unfolding digitIn

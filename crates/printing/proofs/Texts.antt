@@ -9,7 +9,7 @@ use lib.Seq.{take-at, take-append-seam, getD-at}
 use borrow.Author.Tests.{ltb-false}
 use Rattle.basis.specs.Pick.{pick-all}
 use Rattle.printing.specs.Digits.{figure, hexOf, decimalOf}
-use Rattle.printing.specs.Line.{space, newline, longest, tailOf, tailIn, textOf, lineIn, lineOf, cciIn, answerIn}
+use Rattle.printing.specs.Line.{space, newline, lineLongest, tailOf, tailIn, textOf, lineIn, lineOf, cciIn, answerIn}
 use Rattle.printing.proofs.Digits.{hex-read, decimal-read}
 use Rattle.printing.specs.declared.text.Line.{Line}
 
@@ -26,7 +26,7 @@ pub line-joined : (cci n : ℕ) → _≡_ {A = Line} (record { bytes = hexOf 8 c
 unfolding lineIn tailIn
 line-joined cci n =
     let s = tail-short n in
-    let e : longest - length (hexOf 8 cci ++ tailOf n) ≡ 5 - length (tailOf n) = omega arith in
+    let e : lineLongest - length (hexOf 8 cci ++ tailOf n) ≡ 5 - length (tailOf n) = omega arith in
     let f : 8 + length (tailOf n) ≡ length (textOf cci n) = omega arith in
     rw (e, f)
 

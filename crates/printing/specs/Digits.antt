@@ -28,9 +28,9 @@ decimalOf n =
 unfoldable pub digitIn : ℕ → ℕ
 digitIn c = pick (ltb c 0x41) (c - 0x30) (c - 0x41 + 10)
 
-abbrev pub behind : ℕ → ℕ → List ℕ → ℕ
-behind base read [] = read
-behind base read (c ∷ cs) = behind base (base * read + digitIn c) cs
+abbrev pub digitsBehind : ℕ → ℕ → List ℕ → ℕ
+digitsBehind base read [] = read
+digitsBehind base read (c ∷ cs) = digitsBehind base (base * read + digitIn c) cs
 
 abbrev pub numberIn : ℕ → List ℕ → ℕ
-numberIn base text = behind base 0 text
+numberIn base text = digitsBehind base 0 text

@@ -30,11 +30,11 @@ padded room text = text ++ replicate (room - length text) 0
 unfoldable pub tailIn : List ℕ → Tail
 tailIn text = record { bytes = padded 5 text; len = length text }
 
-abbrev pub longest : ℕ
-longest = 13
+abbrev pub lineLongest : ℕ
+lineLongest = 13
 
 unfoldable pub lineIn : List ℕ → Line
-lineIn text = record { bytes = padded longest text; len = length text }
+lineIn text = record { bytes = padded lineLongest text; len = length text }
 
 abbrev pub lineOf : ℕ → ℕ → Line
 lineOf cci number = lineIn (textOf cci number)

@@ -7,10 +7,10 @@ use Rattle.wire.specs.declared.response.Identity.{Identity}
 use Rattle.receiver_state.specs.declared.phase.Accepted.{Accepted}
 use Rattle.receiver_state.specs.declared.phase.Progress.{Progress}
 use Rattle.receiver_state.specs.declared.phase.Phase.the-variants.{Idle, Transfer, Await, Good}
-use Rattle.receiver_flat.specs.Flat.{codeOf, none}
+use Rattle.receiver_flat.specs.Flat.{receiverPhaseCode, zeroReceiver}
 use Rattle.receiver_flat.specs.declared.flat.FlatReceiver.{FlatReceiver}
 
-pub phase-rows : (p : Progress) (a : Accepted) → map codeOf (Idle ∷ Transfer p ∷ Await a ∷ Good a ∷ []) ≡ 0 ∷ 1 ∷ 2 ∷ 3 ∷ []
+pub phase-rows : (p : Progress) (a : Accepted) → map receiverPhaseCode (Idle ∷ Transfer p ∷ Await a ∷ Good a ∷ []) ≡ 0 ∷ 1 ∷ 2 ∷ 3 ∷ []
 phase-rows p a = refl
 
 abbrev identityNumbers : Identity → List ℕ
@@ -24,5 +24,5 @@ numbers f =
     ∷ f .resends ∷ identityNumbers (f .identity)
 
 -- What a refused start hands out is zeros.
-pub none-zeros : numbers none ≡ replicate 22 0
+pub none-zeros : numbers zeroReceiver ≡ replicate 22 0
 none-zeros = refl

@@ -19,8 +19,8 @@ use Rattle.receiver_state.specs.Session.{receiverStartNumberOf}
 use Rattle.receiver_state.specs.declared.session.Started.{Started}
 use Rattle.receiver_state.specs.declared.session.Started.the-variants as Sta
 use Rattle.receiver_rules.proofs.Beginning.{start-made}
-use Rattle.receiver_flat.specs.Flat.{standsOf, isSession, none}
-use Rattle.receiver_flat.specs.Whole.{Standing, Whole}
+use Rattle.receiver_flat.specs.Flat.{isReceiverPhase, isReceiverSession, zeroReceiver}
+use Rattle.receiver_flat.specs.Valid.{ReceiverPhaseValid, ReceiverSessionValid}
 use Rattle.receiver_flat.specs.declared.flat.FlatReceiver.{FlatReceiver}
 
 module _ (limit resends : ℕ) (identity : Identity) (capacity : ℕ) where
@@ -38,17 +38,17 @@ module _ (limit resends : ℕ) (identity : Identity) (capacity : ℕ) where
       (λ t e. (fresh-within (silent.settingsOf limit resends) refl e, ltb-false imageSizeMost capacity t))
 
 module _ (code : ℕ) (accepted : Accepted) (short : ℕ) where
-  stands-standing : standsOf code accepted short ≡ true → Standing code accepted short
-  unfolding standsOf
-  stands-standing =
-      let P : Bool → Type 0 = λ b. b ≡ true → Standing code accepted short in
+  phase-valid : isReceiverPhase code accepted short ≡ true → ReceiverPhaseValid code accepted short
+  unfolding isReceiverPhase
+  phase-valid =
+      let P : Bool → Type 0 = λ b. b ≡ true → ReceiverPhaseValid code accepted short in
       pick-all P (eqb code 1) _ _
       (λ t e.
       let one = eqb-true code 1 t in
       record { phases = omega arith; flag = leb-true short 1 e; transfer-alone = λ not. absurd (not one); idle-empty = λ z. absurd (omega arith) })
       (λ _. pick-all P (eqb short 0) _ _
       (λ t.
-      let none = eqb-true short 0 t in
+      let isZero = eqb-true short 0 t in
       pick-all P (eqb code 0) _ _
       (λ z e.
       let zero = eqb-true code 0 z in
@@ -56,40 +56,40 @@ module _ (code : ℕ) (accepted : Accepted) (short : ℕ) where
       record {
         phases = omega arith;
         flag = omega arith;
-        transfer-alone = λ _. none;
+        transfer-alone = λ _. isZero;
         idle-empty = λ _. (eqb-true (accepted .blocks) 0 (both .0), eqb-true (accepted .bytes) 0 (both .1));
       })
       (λ z e.
       let few = leb-true code 3 e in
-      record { phases = few; flag = omega arith; transfer-alone = λ _. none; idle-empty = λ zero. absurd (eqb-false code 0 z zero) }))
+      record { phases = few; flag = omega arith; transfer-alone = λ _. isZero; idle-empty = λ zero. absurd (eqb-false code 0 z zero) }))
       (λ _ e. absurd (true≢false (sym e))))
 
-  standing-stands : Standing code accepted short → standsOf code accepted short ≡ true
-  unfolding standsOf
-  standing-stands s =
+  valid-phase : ReceiverPhaseValid code accepted short → isReceiverPhase code accepted short ≡ true
+  unfolding isReceiverPhase
+  valid-phase s =
       let P : Bool → Type 0 = λ b. b ≡ true in
       let few = s .phases in
       pick-all P (eqb code 1) _ _ (λ t. let flag = s .flag in search tests)
-      (λ t. let none = s .transfer-alone (eqb-false code 1 t) in pick-all P (eqb short 0) _ _
+      (λ t. let isZero = s .transfer-alone (eqb-false code 1 t) in pick-all P (eqb short 0) _ _
       (λ _. pick-all P (eqb code 0) _ _
       (λ z. let both = s .idle-empty (eqb-true code 0 z) in let blocks = both .0 in let bytes = both .1 in search tests)
       (λ z. search tests))
-      (λ n. absurd (eqb-false short 0 n none)))
+      (λ n. absurd (eqb-false short 0 n isZero)))
 
-pub session-whole : (f : FlatReceiver) → isSession f ≡ true → Whole f
-unfolding isSession
-session-whole f e =
-    let both = pick-both _ (standsOf (f .phase) (f .accepted) (f .«last_short»)) e in
+pub session-valid : (f : FlatReceiver) → isReceiverSession f ≡ true → ReceiverSessionValid f
+unfolding isReceiverSession
+session-valid f e =
+    let both = pick-both _ (isReceiverPhase (f .phase) (f .accepted) (f .«last_short»)) e in
     let taken = taken-within (f .settings .limit) (f .settings .resends) (f .identity) (f .capacity) (eqb-true _ 0 (both .0)) in
-    record { within = taken .0; room = taken .1; standing = stands-standing (f .phase) (f .accepted) (f .«last_short») (both .1) }
+    record { within = taken .0; room = taken .1; in-phase = phase-valid (f .phase) (f .accepted) (f .«last_short») (both .1) }
 
-pub whole-session : (f : FlatReceiver) → Whole f → isSession f ≡ true
-unfolding isSession
-whole-session f w =
+pub valid-session : (f : FlatReceiver) → ReceiverSessionValid f → isReceiverSession f ≡ true
+unfolding isReceiverSession
+valid-session f w =
     let made = start-made (f .settings .limit) (f .settings .resends) (f .identity) (f .capacity) (w .within) (w .room) in
-    let stands = standing-stands (f .phase) (f .accepted) (f .«last_short») (w .standing) in
-    rw (made, stands) (search tests)
+    let phase = valid-phase (f .phase) (f .accepted) (f .«last_short») (w .in-phase) in
+    rw (made, phase) (search tests)
 
 -- All zero is no session: its silence limit is 0.
-pub none-session : isSession none ≡ true → ⊥
-none-session e = let low = session-whole none e .within .low in omega arith
+pub none-session : isReceiverSession zeroReceiver ≡ true → ⊥
+none-session e = let low = session-valid zeroReceiver e .within .low in omega arith

@@ -1,3 +1,3 @@
 pub mod Flat
 pub mod Verdict
-pub mod Whole
+pub mod Valid

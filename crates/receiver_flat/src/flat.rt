@@ -4,7 +4,7 @@ use silence::Settings;
 use wire::request::Versions;
 use wire::response::Identity;
 ghost use mathlib.Core.Path.{_≡_};
-ghost use Rattle.receiver_flat.specs.Flat.{none};
+ghost use Rattle.receiver_flat.specs.Flat.{zeroReceiver};
 
 // `accepted` is zero in Idle; `last_short` is a flag in Transfer and 0 elsewhere.
 #[repr(C)]
@@ -30,7 +30,7 @@ pub(crate) const GOOD: u8 = 3;
 impl FlatReceiver {
     // All zero: what a refused start hands out, and no session.
     pub fn none() -> FlatReceiver
-        ensures { λ r. ⌜ r ≡ none ⌝ }
+        ensures { λ r. ⌜ r ≡ zeroReceiver ⌝ }
     {
         let settings = Settings {
             limit: 0,
@@ -52,7 +52,7 @@ impl FlatReceiver {
 }
 
 fn blank() -> Identity
-    ensures { λ r. ⌜ r ≡ none .identity ⌝ }
+    ensures { λ r. ⌜ r ≡ zeroReceiver .identity ⌝ }
 {
     let versions = Versions {
         first: 0,

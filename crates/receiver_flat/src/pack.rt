@@ -5,10 +5,10 @@ use receiver_state::phase::Accepted;
 use receiver_state::phase::Phase;
 use receiver_state::session::Receiver;
 ghost use mathlib.Core.Path.{_≡_};
-ghost use Rattle.receiver_flat.specs.Flat.{place, placeOf, packOf};
+ghost use Rattle.receiver_flat.specs.Flat.{receiverPhaseNumbers, receiverPhaseNumbersOf, receiverPackOf};
 
 // What a phase says, as numbers.
-struct Place {
+struct PhaseNumbers {
     accepted: Accepted,
     phase: u8,
     last_short: u8,
@@ -16,45 +16,45 @@ struct Place {
 
 impl FlatReceiver {
     pub fn pack(session: Receiver) -> FlatReceiver
-        ensures { λ r. ⌜ r ≡ packOf session ⌝ }
+        ensures { λ r. ⌜ r ≡ receiverPackOf session ⌝ }
     {
         let settings = session.settings;
         let identity = session.identity;
         let phase = session.phase;
-        let place = Place::of(phase);
-        let accepted = place.accepted;
+        let numbers = PhaseNumbers::of(phase);
+        let accepted = numbers.accepted;
         FlatReceiver {
             settings,
             identity,
             capacity: session.capacity,
             accepted,
-            phase: place.phase,
-            last_short: place.last_short,
+            phase: numbers.phase,
+            last_short: numbers.last_short,
             silence: session.silence,
             resends: session.resends,
         }
     }
 }
 
-impl Place {
-    fn new(phase: u8, accepted: Accepted, short: u8) -> Place
-        ensures { λ r. ⌜ r ≡ place phase accepted short ⌝ }
+impl PhaseNumbers {
+    fn new(phase: u8, accepted: Accepted, short: u8) -> PhaseNumbers
+        ensures { λ r. ⌜ r ≡ receiverPhaseNumbers phase accepted short ⌝ }
     {
-        Place {
+        PhaseNumbers {
             accepted,
             phase,
             last_short: short,
         }
     }
 
-    fn of(phase: Phase) -> Place
-        ensures { λ r. ⌜ r ≡ placeOf phase ⌝ }
+    fn of(phase: Phase) -> PhaseNumbers
+        ensures { λ r. ⌜ r ≡ receiverPhaseNumbersOf phase ⌝ }
     {
         match phase {
-            Phase::Idle => Place::new(flat::IDLE, receiver_decide::nothing_accepted(), 0),
-            Phase::Transfer(p) => Place::new(flat::TRANSFER, p.accepted, p.short as u8),
-            Phase::Await(a) => Place::new(flat::AWAIT, a, 0),
-            Phase::Good(a) => Place::new(flat::GOOD, a, 0),
+            Phase::Idle => PhaseNumbers::new(flat::IDLE, receiver_decide::nothing_accepted(), 0),
+            Phase::Transfer(p) => PhaseNumbers::new(flat::TRANSFER, p.accepted, p.short as u8),
+            Phase::Await(a) => PhaseNumbers::new(flat::AWAIT, a, 0),
+            Phase::Good(a) => PhaseNumbers::new(flat::GOOD, a, 0),
         }
     }
 }

@@ -7,11 +7,11 @@ use receiver_state::phase::Phase;
 use receiver_state::phase::Progress;
 use receiver_state::session::Receiver;
 ghost use mathlib.Core.Path.{_≡_};
-ghost use Rattle.receiver_flat.specs.Flat.{phaseOf, unpackOf, standsOf, isSession};
+ghost use Rattle.receiver_flat.specs.Flat.{receiverPhaseOf, receiverUnpackOf, isReceiverPhase, isReceiverSession};
 
 impl FlatReceiver {
     pub fn unpack(self) -> Receiver
-        ensures { λ r. ⌜ r ≡ unpackOf self ⌝ }
+        ensures { λ r. ⌜ r ≡ receiverUnpackOf self ⌝ }
     {
         let settings = self.settings;
         let identity = self.identity;
@@ -28,7 +28,7 @@ impl FlatReceiver {
     }
 
     pub fn is_session(self) -> bool
-        ensures { λ r. ⌜ r ≡ isSession self ⌝ }
+        ensures { λ r. ⌜ r ≡ isReceiverSession self ⌝ }
     {
         let settings = self.settings;
         let identity = self.identity;
@@ -42,13 +42,13 @@ impl FlatReceiver {
         if receiver::started_number(started) != 0 {
             return false;
         }
-        stands(self.phase, accepted, self.last_short)
+        is_phase(self.phase, accepted, self.last_short)
     }
 }
 
-// A code that is no phase's is read as Idle; `stands` tells the two apart.
+// A code that is no phase's is read as Idle; `is_phase` tells the two apart.
 fn phase_of(code: u8, accepted: Accepted, short: u8) -> Phase
-    ensures { λ r. ⌜ r ≡ phaseOf code accepted short ⌝ }
+    ensures { λ r. ⌜ r ≡ receiverPhaseOf code accepted short ⌝ }
 {
     if code == flat::TRANSFER {
         return Phase::Transfer(Progress {
@@ -66,8 +66,8 @@ fn phase_of(code: u8, accepted: Accepted, short: u8) -> Phase
 }
 
 // Whether the numbers are some phase's.
-fn stands(code: u8, accepted: Accepted, short: u8) -> bool
-    ensures { λ r. ⌜ r ≡ standsOf code accepted short ⌝ }
+fn is_phase(code: u8, accepted: Accepted, short: u8) -> bool
+    ensures { λ r. ⌜ r ≡ isReceiverPhase code accepted short ⌝ }
 {
     if code == flat::TRANSFER {
         return short <= 1;

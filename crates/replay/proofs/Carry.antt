@@ -9,7 +9,7 @@ use lib.ListN.{length, take, drop, length-drop}
 use lib.Seq.{take-add, length-take-le, take-at, take-nil}
 use Rattle.basis.specs.Left.{left}
 use Rattle.lent.specs.Led.{writtenInto}
-use Rattle.printing.specs.Line.{longest}
+use Rattle.printing.specs.Line.{lineLongest}
 use Rattle.recording.specs.Apart.{apartOf}
 use Rattle.recording.specs.declared.reader.Ending.the-variants.{Whole, Cut, UnknownKind}
 use Rattle.mailbox_state.specs.declared.mailbox.Mailbox.{Mailbox}
@@ -36,7 +36,7 @@ few bytes (Ended UnknownKind) l p u = absurd (true≢false u)
 few bytes Full l p u = absurd p
 
 module _ (mailbox : Mailbox) (part out : List ℕ) (r : Played) (now : List ℕ) (e : left r now ≡ playOf mailbox part out) where
-  pub held-few : longest * length part ≤ length out → unknownOf (r .stop) ≡ false → length part - r .taken ≤ heldMost
+  pub held-few : lineLongest * length part ≤ length out → unknownOf (r .stop) ≡ false → length part - r .taken ≤ heldMost
   held-few room u =
       let q = partOf mailbox (length out) (apartOf part) in
       rw (play-taken mailbox part out r now e) (few (length part - q .taken) (q .stop) (part-leaves mailbox (length out) part) (never-full mailbox (length out) part room) (ap unknownOf (sym (play-stop mailbox part out r now e)) ∙ u))

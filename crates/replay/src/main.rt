@@ -6,7 +6,7 @@ mod say;
 use progress::Progress;
 ghost use Prim.Native.Nat.{_*_, _<_, _≤_};
 ghost use lib.ListN.{length};
-ghost use Rattle.printing.specs.Line.{longest};
+ghost use Rattle.printing.specs.Line.{lineLongest};
 ghost use Rattle.replay.specs.Held.{heldMost};
 
 // As much as is read at once.
@@ -29,7 +29,7 @@ fn over(buffer: &mut [u8; ROOM], out: &mut [u8; LINES]) {
 // A proved loop has to end, and nothing says that a recording does: the turns are counted down from a number that no run uses up.
 fn replay(buffer: &mut [u8], out: &mut [u8])
     requires { ⌜ heldMost < length (now buffer) ⌝ }
-    requires { ⌜ longest * length (now buffer) ≤ length (now out) ⌝ }
+    requires { ⌜ lineLongest * length (now buffer) ≤ length (now out) ⌝ }
 {
     let mut progress = Progress::begin();
     let mut turns = u64::MAX;

@@ -9,7 +9,7 @@ ghost use mathlib.Core.Bool.{true, false};
 ghost use mathlib.Core.Path.{_≡_};
 ghost use Prim.Native.Nat.{_*_, _<_, _≤_};
 ghost use lib.ListN.{length, take};
-ghost use Rattle.printing.specs.Line.{longest};
+ghost use Rattle.printing.specs.Line.{lineLongest};
 ghost use Rattle.replay.specs.Held.{begins, heldMost, Carried, Onward, unknownKind, unknownOf};
 
 // The first `held` bytes of the buffer are not played yet, and `stop` says why.
@@ -37,7 +37,7 @@ impl Progress {
     pub(crate) fn turn(self, buffer: &mut [u8], out: &mut [u8]) -> Progress
         requires { ⌜ self .held ≤ heldMost ⌝ }
         requires { ⌜ heldMost < length (now buffer) ⌝ }
-        requires { ⌜ longest * length (now buffer) ≤ length (now out) ⌝ }
+        requires { ⌜ lineLongest * length (now buffer) ≤ length (now out) ⌝ }
         ensures { λ r. ⌜ r .held ≤ heldMost ⌝ }
         ensures { λ r. ⌜ (r .runs ≡ true → Onward (self .mailbox) (take (self .held) (now (buffer .entry))) (length (now (out .entry))) r (now (buffer .exit))) ⌝ }
     {
@@ -57,7 +57,7 @@ impl Progress {
     // The first `filled` bytes are played and their lines written at once. An unknown kind ends the replay, whatever follows it.
     fn played(self, buffer: &mut [u8], filled: usize, out: &mut [u8]) -> Progress
         requires { ⌜ filled ≤ length (now buffer) ⌝ }
-        requires { ⌜ longest * length (now buffer) ≤ length (now out) ⌝ }
+        requires { ⌜ lineLongest * length (now buffer) ≤ length (now out) ⌝ }
         ensures { λ r. ⌜ r .held ≤ heldMost ⌝ }
         ensures { λ r. ⌜ (r .runs ≡ true → Carried (self .mailbox) (take filled (now (buffer .entry))) (length (now (out .entry))) r (now (buffer .exit))) ⌝ }
     {

@@ -2,7 +2,7 @@
 use libc::STDOUT_FILENO;
 use printing::Line;
 ghost use Prim.Native.Nat.{_≤_};
-ghost use Rattle.printing.specs.Line.{longest};
+ghost use Rattle.printing.specs.Line.{lineLongest};
 
 pub(crate) fn text(text: &[u8]) -> bool {
     let is_written = io::write_all(STDOUT_FILENO, text);
@@ -13,7 +13,7 @@ pub(crate) fn text(text: &[u8]) -> bool {
 }
 
 pub(crate) fn line(line: Line) -> bool
-    requires { ⌜ line .len ≤ longest ⌝ }
+    requires { ⌜ line .len ≤ lineLongest ⌝ }
 {
     let bytes = line.bytes;
     let len = line.len;

@@ -6,14 +6,14 @@ use lib.ListN.{replicate}
 use Rattle.basis.specs.Pick.{pick}
 use Rattle.printing.specs.Digits.{digitOf}
 use Rattle.bytes.specs.Bytes.{indexOf, indexAfter}
-use Rattle.script.specs.Words.{firstOf, wordAt}
-use Rattle.script.specs.Digits.{digitOf as digitIn}
-use Rattle.script.specs.Decimal.{addedOf, stepOf}
-use Rattle.script.specs.Fields.{nextOf, endsOf}
-use Rattle.saying.specs.Said.{said, emptyText, notUnderstood, printedOf, textOf, characterOf, linesOf}
-use Rattle.saying.specs.Hex.{byteOf, wideOf, shownOf}
+use Rattle.script.specs.Words.{firstWordOf, scriptWordAt}
+use Rattle.script.specs.Digits.{digitReadOf as digitIn}
+use Rattle.script.specs.Decimal.{addedOf, decimalStepOf}
+use Rattle.script.specs.Fields.{nextFieldOf, fieldsEndOf}
+use Rattle.saying.specs.Said.{said, emptyText, notUnderstood, saidTextOf, appendedOf, characterOf, saidLinesOf}
+use Rattle.saying.specs.Hex.{hexByteTextOf, hexWordTextOf, hexShownOf}
 use Rattle.saying.specs.Decimal.{frontOf, numberTextOf, rangeOf}
-use Rattle.saying.specs.Look.{namesOf, lookOf}
+use Rattle.saying.specs.Look.{lookFitsOf, lookOf}
 use Rattle.saying.specs.declared.said.Said.{Said}
 
 abbrev blank : Said
@@ -22,18 +22,18 @@ blank = said 0 (replicate 32 0)
 -- " 0A", " 80000000", " 01 FF", " -" for no bytes; " 300", " 3", " 3-5"; " a/b" for two lines, " -" for none;
 -- " 01 02" for the two bytes from place 1 on of AA 01 02, and two from place 2 on are not understood.
 pub record Cases : Type 0 where
-  pub byte : printedOf (byteOf blank 0x0A) ≡ 0x20 ∷ 0x30 ∷ 0x41 ∷ []
-  pub wide : printedOf (wideOf blank 0x80000000) ≡ 0x20 ∷ 0x38 ∷ 0x30 ∷ 0x30 ∷ 0x30 ∷ 0x30 ∷ 0x30 ∷ 0x30 ∷ 0x30 ∷ []
-  pub bytes : printedOf (shownOf blank (0x01 ∷ 0xFF ∷ [])) ≡ 0x20 ∷ 0x30 ∷ 0x31 ∷ 0x20 ∷ 0x46 ∷ 0x46 ∷ []
-  pub no-bytes : printedOf (shownOf blank []) ≡ 0x20 ∷ 0x2D ∷ []
-  pub number : printedOf (numberTextOf blank 300) ≡ 0x20 ∷ 0x33 ∷ 0x30 ∷ 0x30 ∷ []
-  pub one : printedOf (rangeOf blank 3 3) ≡ 0x20 ∷ 0x33 ∷ []
-  pub two : printedOf (rangeOf blank 3 5) ≡ 0x20 ∷ 0x33 ∷ 0x2D ∷ 0x35 ∷ []
-  pub lines : printedOf (linesOf blank (0x61 ∷ 0x0A ∷ 0x62 ∷ [])) ≡ 0x20 ∷ 0x61 ∷ 0x2F ∷ 0x62 ∷ []
-  pub looked : printedOf (lookOf (0x20 ∷ 0x31 ∷ 0x20 ∷ 0x32 ∷ []) (0xAA ∷ 0x01 ∷ 0x02 ∷ [])) ≡ 0x20 ∷ 0x30 ∷ 0x31 ∷ 0x20 ∷ 0x30 ∷ 0x32 ∷ []
+  pub byte : saidTextOf (hexByteTextOf blank 0x0A) ≡ 0x20 ∷ 0x30 ∷ 0x41 ∷ []
+  pub wide : saidTextOf (hexWordTextOf blank 0x80000000) ≡ 0x20 ∷ 0x38 ∷ 0x30 ∷ 0x30 ∷ 0x30 ∷ 0x30 ∷ 0x30 ∷ 0x30 ∷ 0x30 ∷ []
+  pub bytes : saidTextOf (hexShownOf blank (0x01 ∷ 0xFF ∷ [])) ≡ 0x20 ∷ 0x30 ∷ 0x31 ∷ 0x20 ∷ 0x46 ∷ 0x46 ∷ []
+  pub no-bytes : saidTextOf (hexShownOf blank []) ≡ 0x20 ∷ 0x2D ∷ []
+  pub number : saidTextOf (numberTextOf blank 300) ≡ 0x20 ∷ 0x33 ∷ 0x30 ∷ 0x30 ∷ []
+  pub one : saidTextOf (rangeOf blank 3 3) ≡ 0x20 ∷ 0x33 ∷ []
+  pub two : saidTextOf (rangeOf blank 3 5) ≡ 0x20 ∷ 0x33 ∷ 0x2D ∷ 0x35 ∷ []
+  pub lines : saidTextOf (saidLinesOf blank (0x61 ∷ 0x0A ∷ 0x62 ∷ [])) ≡ 0x20 ∷ 0x61 ∷ 0x2F ∷ 0x62 ∷ []
+  pub looked : saidTextOf (lookOf (0x20 ∷ 0x31 ∷ 0x20 ∷ 0x32 ∷ []) (0xAA ∷ 0x01 ∷ 0x02 ∷ [])) ≡ 0x20 ∷ 0x30 ∷ 0x31 ∷ 0x20 ∷ 0x30 ∷ 0x32 ∷ []
   pub too-far : lookOf (0x20 ∷ 0x32 ∷ 0x20 ∷ 0x32 ∷ []) (0xAA ∷ 0x01 ∷ 0x02 ∷ []) ≡ notUnderstood
-  pub no-lines : printedOf (linesOf blank []) ≡ 0x20 ∷ 0x2D ∷ []
+  pub no-lines : saidTextOf (saidLinesOf blank []) ≡ 0x20 ∷ 0x2D ∷ []
 
 pub cases : Cases
-unfolding pick emptyText textOf characterOf linesOf shownOf frontOf rangeOf digitOf indexOf indexAfter firstOf wordAt digitIn addedOf stepOf nextOf endsOf namesOf lookOf
+unfolding pick emptyText appendedOf characterOf saidLinesOf hexShownOf frontOf rangeOf digitOf indexOf indexAfter firstWordOf scriptWordAt digitIn addedOf decimalStepOf nextFieldOf fieldsEndOf lookFitsOf lookOf
 cases = record { byte = refl; wide = refl; bytes = refl; no-bytes = refl; number = refl; one = refl; two = refl; lines = refl; looked = refl; too-far = refl; no-lines = refl }

@@ -12,7 +12,7 @@ use Rattle.basis.specs.Left.{Left, left}
 use Rattle.lent.specs.Put.{pasted, putOf}
 use Rattle.lent.specs.declared.Placed.{Placed}
 use Rattle.lent.specs.declared.Placed.the-variants.{Stored, NoRoom}
-use Rattle.saying.specs.Said.{said, textOf}
+use Rattle.saying.specs.Said.{said, appendedOf}
 use Rattle.saying.specs.declared.said.Said.{Said}
 
 differ : Stored ≡ NoRoom → ⊥
@@ -51,10 +51,10 @@ module _ (d : List ℕ) (at : ℕ) (s : List ℕ) where
     unfolding putOf
     stored-fits e = leb-true (at + length s) (length d) (has-room (leb (at + length s) (length d)) (sym answer ∙ e))
 
-    pub text-added : x .answer ≡ Stored → said (at + length s) (x .memory) ≡ textOf (said at d) s
-    unfolding putOf textOf
+    pub text-added : x .answer ≡ Stored → said (at + length s) (x .memory) ≡ appendedOf (said at d) s
+    unfolding putOf appendedOf
     text-added e = ap (said (at + length s)) memory ∙ added (leb (at + length s) (length d)) (sym answer ∙ e)
 
-    pub text-kept : x .answer ≡ NoRoom → said at (x .memory) ≡ textOf (said at d) s
-    unfolding putOf textOf
+    pub text-kept : x .answer ≡ NoRoom → said at (x .memory) ≡ appendedOf (said at d) s
+    unfolding putOf appendedOf
     text-kept e = ap (said at) memory ∙ kept (leb (at + length s) (length d)) (sym answer ∙ e)

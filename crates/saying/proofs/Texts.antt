@@ -10,29 +10,29 @@ use Rattle.basis.specs.Bytes.{byteAt}
 use Rattle.basis.specs.Pick.{pick, pick-yes, pick-no, pick-all}
 use Rattle.lent.proofs.Laws.{pasted-there}
 use Rattle.lent.specs.Put.{pasted}
-use Rattle.printing.specs.Digits.{figure, behind, numberIn}
+use Rattle.printing.specs.Digits.{figure, digitsBehind, numberIn}
 use Rattle.printing.proofs.Digits.{figure-read}
-use Rattle.saying.specs.Said.{said, printedOf, textOf}
+use Rattle.saying.specs.Said.{said, saidTextOf, appendedOf}
 use Rattle.saying.specs.Decimal.{frontOf, decimalTextOf}
 use Rattle.saying.specs.declared.said.Said.{Said}
 use Rattle.saying.proofs.Decimals.{less-left, digits-all}
 
-pub text-behind : (t : Said) (s : List ℕ) → t .len + length s ≤ length (t .bytes) → printedOf (textOf t s) ≡ printedOf t ++ s
-unfolding textOf
+pub text-behind : (t : Said) (s : List ℕ) → t .len + length s ≤ length (t .bytes) → saidTextOf (appendedOf t s) ≡ saidTextOf t ++ s
+unfolding appendedOf
 text-behind t s room =
-    ap printedOf (pick-yes (leb (t .len + length s) (length (t .bytes))) (said (t .len + length s) (pasted (t .bytes) (t .len) s)) t (le-leb (t .len + length s) (length (t .bytes)) room))
+    ap saidTextOf (pick-yes (leb (t .len + length s) (length (t .bytes))) (said (t .len + length s) (pasted (t .bytes) (t .len) s)) t (le-leb (t .len + length s) (length (t .bytes)) room))
     ∙ pasted-there (t .bytes) (t .len) s (omega arith)
 
-last-read : (n : ℕ) (cs : List ℕ) → behind 10 (n / 10) (figure (n % 10) ∷ cs) ≡ behind 10 n cs
+last-read : (n : ℕ) (cs : List ℕ) → digitsBehind 10 (n / 10) (figure (n % 10) ∷ cs) ≡ digitsBehind 10 n cs
 last-read n cs =
     let low = figure-read (n % 10) (omega arith) in
-    ap (λ (r : ℕ). behind 10 r cs) (omega arith)
+    ap (λ (r : ℕ). digitsBehind 10 r cs) (omega arith)
 
-front-read : (k n : ℕ) (cs : List ℕ) → n < 10 ^ k → behind 10 0 (frontOf k n cs) ≡ behind 10 n cs
+front-read : (k n : ℕ) (cs : List ℕ) → n < 10 ^ k → digitsBehind 10 0 (frontOf k n cs) ≡ digitsBehind 10 n cs
 unfolding frontOf
-front-read zero n cs h = ap (λ (r : ℕ). behind 10 r cs) (omega arith)
-front-read (suc k) n cs h = pick-all (λ (l : List ℕ). behind 10 0 l ≡ behind 10 n cs) (eqb n 0) _ _
-    (λ t. ap (λ (r : ℕ). behind 10 r cs) (sym (eqb-true n 0 t)))
+front-read zero n cs h = ap (λ (r : ℕ). digitsBehind 10 r cs) (omega arith)
+front-read (suc k) n cs h = pick-all (λ (l : List ℕ). digitsBehind 10 0 l ≡ digitsBehind 10 n cs) (eqb n 0) _ _
+    (λ t. ap (λ (r : ℕ). digitsBehind 10 r cs) (sym (eqb-true n 0 t)))
     (λ _. front-read k (n / 10) (figure (n % 10) ∷ cs) (less-left k (suc k) n (omega arith) h) ∙ last-read n cs)
 
 -- Every number of 64 bits, and none begins with a zero but 0 itself.

@@ -4,9 +4,9 @@ use mathlib.Core.List.{List}
 use mathlib.Core.Path.{_≡_}
 use Rattle.basis.specs.Only.{only}
 use Rattle.saying.specs.Decimal.{numberTextOf, rangeOf}
-use Rattle.saying.specs.Hex.{byteOf, wideOf, allOf, shownOf}
+use Rattle.saying.specs.Hex.{hexByteTextOf, hexWordTextOf, hexBytesTextOf, hexShownOf}
 use Rattle.saying.specs.Look.{lookOf}
-use Rattle.saying.specs.Said.{emptyText, notUnderstood, textOf, linesOf}
+use Rattle.saying.specs.Said.{emptyText, notUnderstood, appendedOf, saidLinesOf}
 use Rattle.saying.specs.declared.said.Said.{Said}
 
 pub one-number : (self : Said) (n : ℕ) (r r′ : Said)
@@ -22,26 +22,26 @@ pub one-range : (self : Said) (first last : ℕ) (r r′ : Said)
 one-range self first last r r′ is is′ = only is is′
 
 pub one-hex : (self : Said) (b : ℕ) (r r′ : Said)
-    → r ≡ byteOf self b
-    → r′ ≡ byteOf self b
+    → r ≡ hexByteTextOf self b
+    → r′ ≡ hexByteTextOf self b
     → r ≡ r′
 one-hex self b r r′ is is′ = only is is′
 
 pub one-wide : (self : Said) (n : ℕ) (r r′ : Said)
-    → r ≡ wideOf self n
-    → r′ ≡ wideOf self n
+    → r ≡ hexWordTextOf self n
+    → r′ ≡ hexWordTextOf self n
     → r ≡ r′
 one-wide self n r r′ is is′ = only is is′
 
 pub one-all : (self : Said) (s : List ℕ) (r r′ : Said)
-    → r ≡ allOf self s
-    → r′ ≡ allOf self s
+    → r ≡ hexBytesTextOf self s
+    → r′ ≡ hexBytesTextOf self s
     → r ≡ r′
 one-all self s r r′ is is′ = only is is′
 
 pub one-shown : (self : Said) (s : List ℕ) (r r′ : Said)
-    → r ≡ shownOf self s
-    → r′ ≡ shownOf self s
+    → r ≡ hexShownOf self s
+    → r′ ≡ hexShownOf self s
     → r ≡ r′
 one-shown self s r r′ is is′ = only is is′
 
@@ -64,13 +64,13 @@ pub one-not-understood : (r r′ : Said)
 one-not-understood r r′ is is′ = only is is′
 
 pub one-text : (self : Said) (s : List ℕ) (r r′ : Said)
-    → r ≡ textOf self s
-    → r′ ≡ textOf self s
+    → r ≡ appendedOf self s
+    → r′ ≡ appendedOf self s
     → r ≡ r′
 one-text self s r r′ is is′ = only is is′
 
 pub one-lines : (self : Said) (s : List ℕ) (r r′ : Said)
-    → r ≡ linesOf self s
-    → r′ ≡ linesOf self s
+    → r ≡ saidLinesOf self s
+    → r′ ≡ saidLinesOf self s
     → r ≡ r′
 one-lines self s r r′ is is′ = only is is′

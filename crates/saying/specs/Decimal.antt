@@ -4,7 +4,8 @@ use mathlib.Core.List.{List, [], _∷_}
 use lib.Dec.{eqb}
 use Rattle.basis.specs.Pick.{pick}
 use Rattle.printing.specs.Digits.{figure}
-use Rattle.saying.specs.Said.{space, hyphen, textOf}
+use Rattle.printing.specs.Line.{space}
+use Rattle.saying.specs.Said.{hyphen, appendedOf}
 use Rattle.saying.specs.declared.said.Said.{Said}
 
 -- The number's digits in front of what stands there: at most so many, and none for 0.
@@ -17,10 +18,10 @@ abbrev pub decimalTextOf : ℕ → List ℕ
 decimalTextOf n = frontOf 19 (n / 10) (figure (n % 10) ∷ [])
 
 abbrev pub numberTextOf : Said → ℕ → Said
-numberTextOf t n = textOf (textOf t (space ∷ [])) (decimalTextOf n)
+numberTextOf t n = appendedOf (appendedOf t (space ∷ [])) (decimalTextOf n)
 
 -- One number where both are the same.
 unfoldable pub rangeOf : Said → ℕ → ℕ → Said
 rangeOf t first last =
     pick (eqb first last) (numberTextOf t first)
-    (textOf (textOf (numberTextOf t first) (hyphen ∷ [])) (decimalTextOf last))
+    (appendedOf (appendedOf (numberTextOf t first) (hyphen ∷ [])) (decimalTextOf last))

@@ -5,18 +5,19 @@ use lib.Dec.{eqb}
 use lib.ListN.{length}
 use Rattle.basis.specs.Pick.{pick}
 use Rattle.printing.specs.Digits.{hexOf}
-use Rattle.saying.specs.Said.{space, textOf, noneOf}
+use Rattle.printing.specs.Line.{space}
+use Rattle.saying.specs.Said.{appendedOf, noneOf}
 use Rattle.saying.specs.declared.said.Said.{Said}
 
-abbrev pub byteOf : Said → ℕ → Said
-byteOf t b = textOf t (space ∷ hexOf 2 b)
+abbrev pub hexByteTextOf : Said → ℕ → Said
+hexByteTextOf t b = appendedOf t (space ∷ hexOf 2 b)
 
-abbrev pub wideOf : Said → ℕ → Said
-wideOf t n = textOf (textOf t (space ∷ [])) (hexOf 8 n)
+abbrev pub hexWordTextOf : Said → ℕ → Said
+hexWordTextOf t n = appendedOf (appendedOf t (space ∷ [])) (hexOf 8 n)
 
-abbrev pub allOf : Said → List ℕ → Said
-allOf t s = foldl byteOf t s
+abbrev pub hexBytesTextOf : Said → List ℕ → Said
+hexBytesTextOf t s = foldl hexByteTextOf t s
 
 -- A hyphen for no bytes.
-unfoldable pub shownOf : Said → List ℕ → Said
-shownOf t s = pick (eqb (length s) 0) (noneOf t) (allOf t s)
+unfoldable pub hexShownOf : Said → List ℕ → Said
+hexShownOf t s = pick (eqb (length s) 0) (noneOf t) (hexBytesTextOf t s)

@@ -5,30 +5,30 @@ use mathlib.Core.List.{List}
 use lib.Dec.{leb}
 use lib.ListN.{length, take, drop}
 use Rattle.basis.specs.Pick.{pick}
-use Rattle.script.specs.Fields.{before, nextOf, endsOf}
-use Rattle.script.specs.Spelling.{room}
+use Rattle.script.specs.Fields.{fieldsBegun, nextFieldOf, fieldsEndOf}
+use Rattle.script.specs.Spelling.{spelledRoom}
 use Rattle.script.specs.declared.field.Field.{Field}
 use Rattle.saying.specs.Said.{emptyText, notUnderstood}
-use Rattle.saying.specs.Hex.{shownOf}
+use Rattle.saying.specs.Hex.{hexShownOf}
 use Rattle.saying.specs.declared.said.Said.{Said}
 
-abbrev pub placeOf : List ℕ → List ℕ → Field
-placeOf words memory = nextOf before words (length memory)
+abbrev pub lookPlaceOf : List ℕ → List ℕ → Field
+lookPlaceOf words memory = nextFieldOf fieldsBegun words (length memory)
 
-abbrev pub countOf : List ℕ → List ℕ → Field
-countOf words memory = nextOf (placeOf words memory) words room
+abbrev pub lookCountOf : List ℕ → List ℕ → Field
+lookCountOf words memory = nextFieldOf (lookPlaceOf words memory) words spelledRoom
 
-abbrev pub behindOf : List ℕ → List ℕ → List ℕ
-behindOf words memory = drop (placeOf words memory .value) memory
+abbrev pub lookFromOf : List ℕ → List ℕ → List ℕ
+lookFromOf words memory = drop (lookPlaceOf words memory .value) memory
 
 -- Whether they are the line's only words, and the memory has as many bytes from the place on.
-unfoldable pub namesOf : List ℕ → List ℕ → Bool
-namesOf words memory =
-    pick (endsOf (countOf words memory) words)
-    (leb (countOf words memory .value) (length (behindOf words memory)))
+unfoldable pub lookFitsOf : List ℕ → List ℕ → Bool
+lookFitsOf words memory =
+    pick (fieldsEndOf (lookCountOf words memory) words)
+    (leb (lookCountOf words memory .value) (length (lookFromOf words memory)))
     false
 
 unfoldable pub lookOf : List ℕ → List ℕ → Said
 lookOf words memory =
-    pick (namesOf words memory) (shownOf emptyText (take (countOf words memory .value) (behindOf words memory)))
+    pick (lookFitsOf words memory) (hexShownOf emptyText (take (lookCountOf words memory .value) (lookFromOf words memory)))
     notUnderstood

@@ -2,7 +2,7 @@
 use crate::said::Said;
 ghost use mathlib.Core.Path.{_≡_};
 ghost use lib.ListN.{length, drop};
-ghost use Rattle.saying.specs.Said.{textOf};
+ghost use Rattle.saying.specs.Said.{appendedOf};
 ghost use Rattle.saying.specs.Decimal.{decimalTextOf, numberTextOf, rangeOf};
 
 // As many as a number of 64 bits has.
@@ -27,7 +27,7 @@ impl Said {
     }
 
     fn decimal(self, n: u64) -> Said
-        ensures { λ r. ⌜ r ≡ textOf self (decimalTextOf n) ⌝ }
+        ensures { λ r. ⌜ r ≡ appendedOf self (decimalTextOf n) ⌝ }
     {
         let mut digits = [0u8; DIGITS];
         let from = spell(n, &mut digits);

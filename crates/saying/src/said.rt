@@ -1,7 +1,7 @@
 // The text behind a line. Each piece has its space in front.
 use lent::Placed;
 ghost use mathlib.Core.Path.{_≡_};
-ghost use Rattle.saying.specs.Said.{emptyText, notUnderstood, textOf, linesOf, characterOf};
+ghost use Rattle.saying.specs.Said.{emptyText, notUnderstood, appendedOf, saidLinesOf, characterOf};
 
 // More than the longest text, that of a replay: 4,000 bytes of lines and what stands around them.
 const ROOM: usize = 4096;
@@ -31,7 +31,7 @@ impl Said {
 
     // A piece that has no room is left out.
     pub fn text(self, s: &[u8]) -> Said
-        ensures { λ r. ⌜ r ≡ textOf self (now (s .entry)) ⌝ }
+        ensures { λ r. ⌜ r ≡ appendedOf self (now (s .entry)) ⌝ }
     {
         let len = self.len;
         let mut bytes = self.bytes;
@@ -47,7 +47,7 @@ impl Said {
 
     // Lines of text within the answer: `/` for each newline, and `-` for no text.
     pub fn lines(self, s: &[u8]) -> Said
-        ensures { λ r. ⌜ r ≡ linesOf self (now (s .entry)) ⌝ }
+        ensures { λ r. ⌜ r ≡ saidLinesOf self (now (s .entry)) ⌝ }
     {
         if s.len() == 0 {
             return self.text(b" -");

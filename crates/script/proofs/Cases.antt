@@ -6,11 +6,11 @@ use mathlib.Core.Path.{_≡_, refl}
 use lib.ListN.{take}
 use Rattle.basis.specs.Pick.{pick}
 use Rattle.bytes.specs.Bytes.{indexOf, indexAfter}
-use Rattle.script.specs.Words.{firstOf, restOf, wordAt}
-use Rattle.script.specs.Digits.{digitOf, byteOf}
-use Rattle.script.specs.Decimal.{noNumber, addedOf, stepOf, decimalOf}
-use Rattle.script.specs.Runs.{countedOf, timesOf, runOf}
-use Rattle.script.specs.Spelling.{zeros, spelledIn, grown, turns, spellOf}
+use Rattle.script.specs.Words.{firstWordOf, afterFirstWordOf, scriptWordAt}
+use Rattle.script.specs.Digits.{digitReadOf, byteReadOf}
+use Rattle.script.specs.Decimal.{noNumber, addedOf, decimalStepOf, decimalReadOf}
+use Rattle.script.specs.Runs.{countedRunOf, timesOf, byteRunOf}
+use Rattle.script.specs.Spelling.{spelledZeros, spelledIn, spelledGrown, spelledTurns, spellOf}
 
 -- " 01 AA*2" and " 1G", as the words of a line.
 abbrev bytes : List ℕ
@@ -21,15 +21,15 @@ noByte = 0x20 ∷ 0x31 ∷ 0x47 ∷ []
 
 -- The first word of "ab c" and what stands behind it; the number 10 up to 10 and up to 9, and no characters; the bytes 01 AA AA, and none.
 pub record Cases : Type 0 where
-  pub first-word : firstOf (0x61 ∷ 0x62 ∷ 0x20 ∷ 0x63 ∷ []) ≡ 0x61 ∷ 0x62 ∷ []
-  pub behind-it : restOf (0x61 ∷ 0x62 ∷ 0x20 ∷ 0x63 ∷ []) ≡ 0x20 ∷ 0x63 ∷ []
-  pub ten : decimalOf (0x31 ∷ 0x30 ∷ []) 10 ≡ record { known = true; value = 10 }
-  pub too-much : decimalOf (0x31 ∷ 0x30 ∷ []) 9 ≡ noNumber
-  pub nothing : decimalOf [] 9 ≡ noNumber
+  pub first-word : firstWordOf (0x61 ∷ 0x62 ∷ 0x20 ∷ 0x63 ∷ []) ≡ 0x61 ∷ 0x62 ∷ []
+  pub behind-it : afterFirstWordOf (0x61 ∷ 0x62 ∷ 0x20 ∷ 0x63 ∷ []) ≡ 0x20 ∷ 0x63 ∷ []
+  pub ten : decimalReadOf (0x31 ∷ 0x30 ∷ []) 10 ≡ record { known = true; value = 10 }
+  pub too-much : decimalReadOf (0x31 ∷ 0x30 ∷ []) 9 ≡ noNumber
+  pub nothing : decimalReadOf [] 9 ≡ noNumber
   pub three : spellOf bytes .len ≡ 3
   pub they-are : take 3 (spellOf bytes .bytes) ≡ 0x01 ∷ 0xAA ∷ 0xAA ∷ []
   pub no-byte : spellOf noByte .known ≡ false
 
 pub cases : Cases
-unfolding pick indexOf indexAfter firstOf restOf wordAt digitOf byteOf addedOf stepOf countedOf timesOf runOf zeros spelledIn grown turns
+unfolding pick indexOf indexAfter firstWordOf afterFirstWordOf scriptWordAt digitReadOf byteReadOf addedOf decimalStepOf countedRunOf timesOf byteRunOf spelledZeros spelledIn spelledGrown spelledTurns
 cases = record { first-word = refl; behind-it = refl; ten = refl; too-much = refl; nothing = refl; three = refl; they-are = refl; no-byte = refl }

@@ -6,9 +6,9 @@ use mathlib.Core.List.{List, [], _++_}
 use native.Mathlib.Omega.{arith}
 use lib.ListN.{length, drop, replicate, length-append, length-drop, length-replicate}
 use lib.Seq.{paste, take-all, take-append-seam, drop-append-add, drop-drop}
-use Rattle.script.specs.Words.{wordAt}
-use Rattle.script.specs.Runs.{runOf}
-use Rattle.script.specs.Spelling.{room, zeros, unspelled, spelledIn, grown, onward, behind, spellOf}
+use Rattle.script.specs.Words.{scriptWordAt}
+use Rattle.script.specs.Runs.{byteRunOf}
+use Rattle.script.specs.Spelling.{spelledRoom, spelledZeros, unspelled, spelledIn, spelledGrown, spelledOnward, spelledBehind, spellOf}
 use Rattle.script.specs.declared.run.Run.{Run}
 use Rattle.script.specs.declared.run.Run.the-variants.{Of, Other}
 use Rattle.script.specs.declared.spelling.Spelled.{Spelled}
@@ -18,25 +18,25 @@ use Rattle.script.proofs.Turns.{behind-end, behind-at}
 pub record Mid (words bytes : List ℕ) (len at : ℕ) : Type 0 where
   pub read : List ℕ
   pub is-len : len ≡ length read
-  pub is-bytes : bytes ≡ read ++ drop (length read) zeros
-  pub fits : len ≤ room
+  pub is-bytes : bytes ≡ read ++ drop (length read) spelledZeros
+  pub fits : len ≤ spelledRoom
   pub place : at ≤ length words
-  pub run : behind (drop at words) read ≡ spellOf words
+  pub run : spelledBehind (drop at words) read ≡ spellOf words
 
-pub mid-begins : (words bytes : List ℕ) → bytes ≡ zeros → Mid words bytes 0 0
+pub mid-begins : (words bytes : List ℕ) → bytes ≡ spelledZeros → Mid words bytes 0 0
 mid-begins words bytes e = record { read = []; is-len = refl; is-bytes = e; fits = omega arith; place = omega arith; run = refl }
 
 -- Bytes put behind those that lead the zeros lead them too.
-put-behind : (read s : List ℕ) (n : ℕ) → length s ≡ n → paste (read ++ drop (length read) zeros) (length read) s n ≡ (read ++ s) ++ drop (length (read ++ s)) zeros
+put-behind : (read s : List ℕ) (n : ℕ) → length s ≡ n → paste (read ++ drop (length read) spelledZeros) (length read) s n ≡ (read ++ s) ++ drop (length (read ++ s)) spelledZeros
 put-behind read s n e =
-    rw (take-append-seam read (drop (length read) zeros), take-all n s (omega arith), drop-append-add read (drop (length read) zeros) n, drop-drop n (length read) zeros, length-append read s, e)
+    rw (take-append-seam read (drop (length read) spelledZeros), take-all n s (omega arith), drop-append-add read (drop (length read) spelledZeros) n, drop-drop n (length read) spelledZeros, length-append read s, e)
 
-zeros-long : length zeros ≡ room
-unfolding zeros
-zeros-long = length-replicate {A = ℕ} room 0
+zeros-long : length spelledZeros ≡ spelledRoom
+unfolding spelledZeros
+zeros-long = length-replicate {A = ℕ} spelledRoom 0
 
 module _ (words bytes : List ℕ) (len at : ℕ) (mid : Mid words bytes len at) where
-  pub mid-room : length bytes ≡ room
+  pub mid-room : length bytes ≡ spelledRoom
   mid-room =
       let all = zeros-long in
       let fits = mid .fits in
@@ -49,26 +49,26 @@ module _ (words bytes : List ℕ) (len at : ℕ) (mid : Mid words bytes len at) 
       let none : length (drop at words) ≡ 0 = simp length-drop (omega arith) in
       rw (mid .is-bytes, mid .is-len) (sym (behind-end (drop at words) (mid .read) none) ∙ mid .run)
 
-  step : (run : Run) → at < length words → runOf (wordAt words at) ≡ run
-      → onward (λ r. behind (drop (at + 1 + length (wordAt words at)) words) r) (mid .read) run ≡ spellOf words
+  step : (run : Run) → at < length words → byteRunOf (scriptWordAt words at) ≡ run
+      → spelledOnward (λ r. spelledBehind (drop (at + 1 + length (scriptWordAt words at)) words) r) (mid .read) run ≡ spellOf words
   step run h e =
-      sym (behind-at words at (mid .read) h ∙ ap (onward (λ r. behind (drop (at + 1 + length (wordAt words at)) words) r) (mid .read)) e) ∙ mid .run
+      sym (behind-at words at (mid .read) h ∙ ap (spelledOnward (λ r. spelledBehind (drop (at + 1 + length (scriptWordAt words at)) words) r) (mid .read)) e) ∙ mid .run
 
-  pub mid-other : at < length words → runOf (wordAt words at) ≡ Other → unspelled ≡ spellOf words
+  pub mid-other : at < length words → byteRunOf (scriptWordAt words at) ≡ Other → unspelled ≡ spellOf words
   mid-other h e = step Other h e
 
-  pub mid-more : (byte times n : ℕ) (word out : List ℕ) → at < length words → runOf (wordAt words at) ≡ Of byte times → word ≡ wordAt words at
-      → n ≡ min times (room - len) → out ≡ paste bytes len (replicate n byte) n → Mid words out (len + n) (at + 1 + length word)
-  unfolding grown
+  pub mid-more : (byte times n : ℕ) (word out : List ℕ) → at < length words → byteRunOf (scriptWordAt words at) ≡ Of byte times → word ≡ scriptWordAt words at
+      → n ≡ min times (spelledRoom - len) → out ≡ paste bytes len (replicate n byte) n → Mid words out (len + n) (at + 1 + length word)
+  unfolding spelledGrown
   mid-more byte times n word out h e w k o =
       let within = word-within words at h in
       let copies : length (replicate {A = ℕ} n byte) ≡ n = length-replicate n byte in
-      let as-often : n ≡ min times (room - length (mid .read)) = k ∙ ap (λ (l : ℕ). min times (room - l)) (mid .is-len) in
-      let more : grown (mid .read) byte times ≡ mid .read ++ replicate n byte = ap (λ (m : ℕ). mid .read ++ replicate m byte) (sym as-often) in
+      let as-often : n ≡ min times (spelledRoom - length (mid .read)) = k ∙ ap (λ (l : ℕ). min times (spelledRoom - l)) (mid .is-len) in
+      let more : spelledGrown (mid .read) byte times ≡ mid .read ++ replicate n byte = ap (λ (m : ℕ). mid .read ++ replicate m byte) (sym as-often) in
       let long = length-append (mid .read) (replicate n byte) in
       let len-is = mid .is-len in
       record {
-        read = grown (mid .read) byte times;
+        read = spelledGrown (mid .read) byte times;
         is-len = rw more (omega arith);
         is-bytes = rw more (o ∙ rw (mid .is-bytes, mid .is-len) (put-behind (mid .read) (replicate n byte) n copies));
         fits = omega arith;

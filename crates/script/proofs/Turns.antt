@@ -7,57 +7,57 @@ use native.Mathlib.Omega.{arith}
 use borrow.Author.Tests.{eq-eqb, ne-eqb}
 use lib.ListN.{length, drop, length-drop}
 use Rattle.basis.specs.Pick.{pick-yes, pick-no}
-use Rattle.script.specs.Words.{restOf, wordAt}
-use Rattle.script.specs.Runs.{runOf}
-use Rattle.script.specs.Spelling.{spelledIn, grown, onward, turns, behind}
+use Rattle.script.specs.Words.{afterFirstWordOf, scriptWordAt}
+use Rattle.script.specs.Runs.{byteRunOf}
+use Rattle.script.specs.Spelling.{spelledIn, spelledGrown, spelledOnward, spelledTurns, spelledBehind}
 use Rattle.script.specs.declared.run.Run.{Run}
 use Rattle.script.specs.declared.run.Run.the-variants.{Of, Other}
 use Rattle.script.specs.declared.spelling.Spelled.{Spelled}
 use Rattle.script.proofs.WordLaws.{rest-short, word-on, rest-on}
 
 -- The same rest behind a word.
-rest-same : (f g : List ℕ → Spelled) (read : List ℕ) (run : Run) → ((r : List ℕ) → f r ≡ g r) → onward f read run ≡ onward g read run
-rest-same f g read (Of byte times) e = e (grown read byte times)
+rest-same : (f g : List ℕ → Spelled) (read : List ℕ) (run : Run) → ((r : List ℕ) → f r ≡ g r) → spelledOnward f read run ≡ spelledOnward g read run
+rest-same f g read (Of byte times) e = e (spelledGrown read byte times)
 rest-same f g read Other e = refl
 
-turn-end : (left : ℕ) (words read : List ℕ) → length words ≡ 0 → turns left words read ≡ spelledIn read
-unfolding turns
+turn-end : (left : ℕ) (words read : List ℕ) → length words ≡ 0 → spelledTurns left words read ≡ spelledIn read
+unfolding spelledTurns
 turn-end zero words read e = refl
 turn-end (suc left) words read e = pick-yes _ _ _ (eq-eqb (length words) 0 e)
 
 turn-more : (left : ℕ) (words read : List ℕ) → 0 < length words
-    → turns (suc left) words read ≡ onward (turns left (restOf (drop 1 words))) read (runOf (wordAt words 0))
-unfolding turns
+    → spelledTurns (suc left) words read ≡ spelledOnward (spelledTurns left (afterFirstWordOf (drop 1 words))) read (byteRunOf (scriptWordAt words 0))
+unfolding spelledTurns
 turn-more left words read h = pick-no _ _ _ (ne-eqb (length words) 0 (λ e. omega arith))
 
 -- More turns than characters change nothing.
-enough : (j k : ℕ) (words read : List ℕ) → length words ≤ j → length words ≤ k → turns j words read ≡ turns k words read
+enough : (j k : ℕ) (words read : List ℕ) → length words ≤ j → length words ≤ k → spelledTurns j words read ≡ spelledTurns k words read
 enough zero k words read a b = turn-end zero words read (omega arith) ∙ sym (turn-end k words read (omega arith))
 enough (suc j) zero words read a b = turn-end (suc j) words read (omega arith) ∙ sym (turn-end zero words read (omega arith))
 enough (suc j) (suc k) [] read a b = turn-end (suc j) [] read refl ∙ sym (turn-end (suc k) [] read refl)
 enough (suc j) (suc k) (c ∷ words) read a b =
     let h = rest-short words in
     turn-more j (c ∷ words) read (omega arith)
-    ∙ rest-same (turns j (restOf words)) (turns k (restOf words)) read (runOf (wordAt (c ∷ words) 0)) (λ r. enough j k (restOf words) r (omega arith) (omega arith))
+    ∙ rest-same (spelledTurns j (afterFirstWordOf words)) (spelledTurns k (afterFirstWordOf words)) read (byteRunOf (scriptWordAt (c ∷ words) 0)) (λ r. enough j k (afterFirstWordOf words) r (omega arith) (omega arith))
     ∙ sym (turn-more k (c ∷ words) read (omega arith))
 
-pub behind-end : (words read : List ℕ) → length words ≡ 0 → behind words read ≡ spelledIn read
+pub behind-end : (words read : List ℕ) → length words ≡ 0 → spelledBehind words read ≡ spelledIn read
 behind-end words read e = turn-end (length words) words read e
 
-behind-more : (words read : List ℕ) → 0 < length words → behind words read ≡ onward (λ r. behind (restOf (drop 1 words)) r) read (runOf (wordAt words 0))
+behind-more : (words read : List ℕ) → 0 < length words → spelledBehind words read ≡ spelledOnward (λ r. spelledBehind (afterFirstWordOf (drop 1 words)) r) read (byteRunOf (scriptWordAt words 0))
 behind-more words read h =
-    let rest : List ℕ = restOf (drop 1 words) in
+    let rest : List ℕ = afterFirstWordOf (drop 1 words) in
     let short = rest-short (drop 1 words) in
     let less = length-drop 1 words in
     enough (length words) (suc (length words)) words read (le-refl (length words)) (omega arith)
     ∙ turn-more (length words) words read h
-    ∙ rest-same (turns (length words) rest) (λ r. behind rest r) read (runOf (wordAt words 0)) (λ r. enough (length words) (length rest) rest r (omega arith) (le-refl (length rest)))
+    ∙ rest-same (spelledTurns (length words) rest) (λ r. spelledBehind rest r) read (byteRunOf (scriptWordAt words 0)) (λ r. enough (length words) (length rest) rest r (omega arith) (le-refl (length rest)))
 
 -- And so from every place on.
 pub behind-at : (words : List ℕ) (at : ℕ) (read : List ℕ) → at < length words
-    → behind (drop at words) read ≡ onward (λ r. behind (drop (at + 1 + length (wordAt words at)) words) r) read (runOf (wordAt words at))
+    → spelledBehind (drop at words) read ≡ spelledOnward (λ r. spelledBehind (drop (at + 1 + length (scriptWordAt words at)) words) r) read (byteRunOf (scriptWordAt words at))
 behind-at words at read h =
     let more : 0 < length (drop at words) = simp length-drop (omega arith) in
     behind-more (drop at words) read more
-    ∙ ap (λ (l : List ℕ). onward (λ r. behind l r) read (runOf (wordAt (drop at words) 0))) (rest-on words at)
-    ∙ ap (λ (w : List ℕ). onward (λ r. behind (drop (at + 1 + length (wordAt words at)) words) r) read (runOf w)) (word-on words at)
+    ∙ ap (λ (l : List ℕ). spelledOnward (λ r. spelledBehind l r) read (byteRunOf (scriptWordAt (drop at words) 0))) (rest-on words at)
+    ∙ ap (λ (w : List ℕ). spelledOnward (λ r. spelledBehind (drop (at + 1 + length (scriptWordAt words at)) words) r) read (byteRunOf w)) (word-on words at)

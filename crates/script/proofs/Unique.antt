@@ -5,42 +5,42 @@ use mathlib.Core.List.{List}
 use mathlib.Core.Path.{_≡_}
 use lib.ListN.{drop, take, length}
 use Rattle.basis.specs.Only.{only}
-use Rattle.script.specs.Decimal.{decimalOf}
-use Rattle.script.specs.Fields.{before, nextOf, byteIn, wordIn, endsOf}
+use Rattle.script.specs.Decimal.{decimalReadOf}
+use Rattle.script.specs.Fields.{fieldsBegun, nextFieldOf, fieldByteOf, fieldWordOf, fieldsEndOf}
 use Rattle.script.specs.Heading.{asksOf}
 use Rattle.script.specs.Spelling.{spellOf}
-use Rattle.script.specs.Words.{firstOf, restOf}
+use Rattle.script.specs.Words.{firstWordOf, afterFirstWordOf}
 use Rattle.script.specs.declared.field.Field.{Field}
 use Rattle.script.specs.declared.number.Number.{Number}
 use Rattle.script.specs.declared.spelling.Spelled.{Spelled}
 
 pub one-none : (r r′ : Field)
-    → r ≡ before
-    → r′ ≡ before
+    → r ≡ fieldsBegun
+    → r′ ≡ fieldsBegun
     → r ≡ r′
 one-none r r′ is is′ = only is is′
 
 pub one-next : (self : Field) (words : List ℕ) (most : ℕ) (r r′ : Field)
-    → r ≡ nextOf self words most
-    → r′ ≡ nextOf self words most
+    → r ≡ nextFieldOf self words most
+    → r′ ≡ nextFieldOf self words most
     → r ≡ r′
 one-next self words most r r′ is is′ = only is is′
 
 pub one-byte : (self : Field) (r r′ : ℕ)
-    → r ≡ byteIn self
-    → r′ ≡ byteIn self
+    → r ≡ fieldByteOf self
+    → r′ ≡ fieldByteOf self
     → r ≡ r′
 one-byte self r r′ is is′ = only is is′
 
 pub one-word : (self : Field) (r r′ : ℕ)
-    → r ≡ wordIn self
-    → r′ ≡ wordIn self
+    → r ≡ fieldWordOf self
+    → r′ ≡ fieldWordOf self
     → r ≡ r′
 one-word self r r′ is is′ = only is is′
 
 pub one-ends : (self : Field) (words : List ℕ) (r r′ : Bool)
-    → r ≡ endsOf self words
-    → r′ ≡ endsOf self words
+    → r ≡ fieldsEndOf self words
+    → r′ ≡ fieldsEndOf self words
     → r ≡ r′
 one-ends self words r r′ is is′ = only is is′
 
@@ -51,8 +51,8 @@ pub one-asks : (line : List ℕ) (r r′ : Bool)
 one-asks line r r′ is is′ = only is is′
 
 pub one-decimal : (s : List ℕ) (most : ℕ) (r r′ : Number)
-    → r ≡ decimalOf s most
-    → r′ ≡ decimalOf s most
+    → r ≡ decimalReadOf s most
+    → r′ ≡ decimalReadOf s most
     → r ≡ r′
 one-decimal s most r r′ is is′ = only is is′
 
@@ -81,13 +81,13 @@ pub one-spell : (words : List ℕ) (r r′ : Spelled)
 one-spell words r r′ is is′ = only is is′
 
 pub one-first : (s r r′ : List ℕ)
-    → r ≡ firstOf s
-    → r′ ≡ firstOf s
+    → r ≡ firstWordOf s
+    → r′ ≡ firstWordOf s
     → r ≡ r′
 one-first s r r′ is is′ = only is is′
 
 pub one-rest : (s r r′ : List ℕ)
-    → r ≡ restOf s
-    → r′ ≡ restOf s
+    → r ≡ afterFirstWordOf s
+    → r′ ≡ afterFirstWordOf s
     → r ≡ r′
 one-rest s r r′ is is′ = only is is′

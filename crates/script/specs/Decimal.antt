@@ -5,7 +5,7 @@ use mathlib.Core.List.{List, foldl}
 use lib.Dec.{ltb}
 use lib.ListN.{length}
 use Rattle.basis.specs.Pick.{pick}
-use Rattle.script.specs.Digits.{digitOf}
+use Rattle.script.specs.Digits.{digitReadOf}
 use Rattle.script.specs.declared.number.Number.{Number}
 
 abbrev pub noNumber : Number
@@ -19,12 +19,12 @@ addedOf most n d =
     (record { known = true; value = 10 * n + d }))
 
 -- One character more behind what was read.
-unfoldable pub stepOf : ℕ → Number → ℕ → Number
-stepOf most read c = pick (read .known) (addedOf most (read .value) (digitOf c)) noNumber
+unfoldable pub decimalStepOf : ℕ → Number → ℕ → Number
+decimalStepOf most read c = pick (read .known) (addedOf most (read .value) (digitReadOf c)) noNumber
 
 -- No characters are no number.
-abbrev pub begun : List ℕ → Number
-begun s = record { known = ltb 0 (length s); value = 0 }
+abbrev pub decimalBegun : List ℕ → Number
+decimalBegun s = record { known = ltb 0 (length s); value = 0 }
 
-abbrev pub decimalOf : List ℕ → ℕ → Number
-decimalOf s most = foldl (stepOf most) (begun s) s
+abbrev pub decimalReadOf : List ℕ → ℕ → Number
+decimalReadOf s most = foldl (decimalStepOf most) (decimalBegun s) s

@@ -10,16 +10,16 @@ abbrev pub noDigit : ℕ
 noDigit = 16
 
 -- 0 to 9, then A to F.
-unfoldable pub digitOf : ℕ → ℕ
-digitOf c =
+unfoldable pub digitReadOf : ℕ → ℕ
+digitReadOf c =
     pick (ltb c 0x30) noDigit
     (pick (leb c 0x39) (c - 0x30)
     (pick (ltb c 0x41) noDigit
     (pick (leb c 0x46) (c - 0x41 + 10)
     noDigit)))
 
-unfoldable pub byteOf : ℕ → ℕ → Byte
-byteOf high low =
-    pick (ltb 15 (digitOf high)) NoByte
-    (pick (ltb 15 (digitOf low)) NoByte
-    (Is (16 * digitOf high + digitOf low)))
+unfoldable pub byteReadOf : ℕ → ℕ → Byte
+byteReadOf high low =
+    pick (ltb 15 (digitReadOf high)) NoByte
+    (pick (ltb 15 (digitReadOf low)) NoByte
+    (Is (16 * digitReadOf high + digitReadOf low)))

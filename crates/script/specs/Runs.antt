@@ -5,8 +5,8 @@ use lib.Dec.{eqb, ltb}
 use lib.ListN.{length, drop}
 use Rattle.basis.specs.Bytes.{byteAt}
 use Rattle.basis.specs.Pick.{pick}
-use Rattle.script.specs.Digits.{byteOf}
-use Rattle.script.specs.Decimal.{decimalOf}
+use Rattle.script.specs.Digits.{byteReadOf}
+use Rattle.script.specs.Decimal.{decimalReadOf}
 use Rattle.script.specs.declared.digit.Byte.{Byte}
 use Rattle.script.specs.declared.digit.Byte.the-variants.{Is, NoByte}
 use Rattle.script.specs.declared.number.Number.{Number}
@@ -22,19 +22,19 @@ timesMost = 9999
 abbrev pub asOften : ℕ → Number → Run
 asOften byte n = pick (n .known) (Of byte (n .value)) Other
 
-unfoldable pub countedOf : ℕ → List ℕ → Run
-countedOf byte digits = asOften byte (decimalOf digits timesMost)
+unfoldable pub countedRunOf : ℕ → List ℕ → Run
+countedRunOf byte digits = asOften byte (decimalReadOf digits timesMost)
 
 -- Nothing, or a star and the count.
 unfoldable pub timesOf : ℕ → List ℕ → Run
 timesOf byte tail =
     pick (eqb (length tail) 0) (Of byte 1)
-    (pick (eqb (byteAt tail 0) star) (countedOf byte (drop 1 tail))
+    (pick (eqb (byteAt tail 0) star) (countedRunOf byte (drop 1 tail))
     Other)
 
 abbrev pub behindByte : List ℕ → Byte → Run
 behindByte tail (Is byte) = timesOf byte tail
 behindByte tail NoByte = Other
 
-unfoldable pub runOf : List ℕ → Run
-runOf w = pick (ltb (length w) 2) Other (behindByte (drop 2 w) (byteOf (byteAt w 0) (byteAt w 1)))
+unfoldable pub byteRunOf : List ℕ → Run
+byteRunOf w = pick (ltb (length w) 2) Other (behindByte (drop 2 w) (byteReadOf (byteAt w 0) (byteAt w 1)))

@@ -5,44 +5,44 @@ use mathlib.Core.List.{List, [], _++_}
 use lib.Dec.{eqb}
 use lib.ListN.{length, drop, replicate}
 use Rattle.basis.specs.Pick.{pick}
-use Rattle.script.specs.Words.{restOf, wordAt}
-use Rattle.script.specs.Runs.{runOf}
+use Rattle.script.specs.Words.{afterFirstWordOf, scriptWordAt}
+use Rattle.script.specs.Runs.{byteRunOf}
 use Rattle.script.specs.declared.run.Run.{Run}
 use Rattle.script.specs.declared.run.Run.the-variants.{Of, Other}
 use Rattle.script.specs.declared.spelling.Spelled.{Spelled}
 
-abbrev pub room : ℕ
-room = 320
+abbrev pub spelledRoom : ℕ
+spelledRoom = 320
 
-unfoldable pub zeros : List ℕ
-zeros = replicate room 0
+unfoldable pub spelledZeros : List ℕ
+spelledZeros = replicate spelledRoom 0
 
 -- A word that is neither a byte nor a run of bytes.
 abbrev pub unspelled : Spelled
-unspelled = record { known = false; len = 0; bytes = zeros }
+unspelled = record { known = false; len = 0; bytes = spelledZeros }
 
 unfoldable pub spelledIn : List ℕ → Spelled
-spelledIn read = record { known = true; len = length read; bytes = read ++ drop (length read) zeros }
+spelledIn read = record { known = true; len = length read; bytes = read ++ drop (length read) spelledZeros }
 
 -- So many bytes more; what does not fit is left out.
-unfoldable pub grown : List ℕ → ℕ → ℕ → List ℕ
-grown read byte times = read ++ replicate (min times (room - length read)) byte
+unfoldable pub spelledGrown : List ℕ → ℕ → ℕ → List ℕ
+spelledGrown read byte times = read ++ replicate (min times (spelledRoom - length read)) byte
 
 -- What a word adds to the bytes that were read, and then what becomes of the rest.
-abbrev pub onward : (List ℕ → Spelled) → List ℕ → Run → Spelled
-onward rest read (Of byte times) = rest (grown read byte times)
-onward rest read Other = unspelled
+abbrev pub spelledOnward : (List ℕ → Spelled) → List ℕ → Run → Spelled
+spelledOnward rest read (Of byte times) = rest (spelledGrown read byte times)
+spelledOnward rest read Other = unspelled
 
 -- A word has at least its space, so that as many turns as there are characters are enough.
-unfoldable pub turns : ℕ → List ℕ → List ℕ → Spelled
-turns zero words read = spelledIn read
-turns (suc left) words read =
+unfoldable pub spelledTurns : ℕ → List ℕ → List ℕ → Spelled
+spelledTurns zero words read = spelledIn read
+spelledTurns (suc left) words read =
     pick (eqb (length words) 0) (spelledIn read)
-    (onward (turns left (restOf (drop 1 words))) read (runOf (wordAt words 0)))
+    (spelledOnward (spelledTurns left (afterFirstWordOf (drop 1 words))) read (byteRunOf (scriptWordAt words 0)))
 
 -- What the words spell behind the bytes that were read.
-abbrev pub behind : List ℕ → List ℕ → Spelled
-behind words read = turns (length words) words read
+abbrev pub spelledBehind : List ℕ → List ℕ → Spelled
+spelledBehind words read = spelledTurns (length words) words read
 
 abbrev pub spellOf : List ℕ → Spelled
-spellOf words = behind words []
+spellOf words = spelledBehind words []

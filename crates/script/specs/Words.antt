@@ -8,13 +8,13 @@ abbrev pub space : ℕ
 space = 0x20
 
 -- Up to the first space, and all where there is none.
-unfoldable pub firstOf : List ℕ → List ℕ
-firstOf s = take (indexOf space s) s
+unfoldable pub firstWordOf : List ℕ → List ℕ
+firstWordOf s = take (indexOf space s) s
 
 -- What stands behind the first word, with its space.
-unfoldable pub restOf : List ℕ → List ℕ
-restOf s = drop (length (firstOf s)) s
+unfoldable pub afterFirstWordOf : List ℕ → List ℕ
+afterFirstWordOf s = drop (length (firstWordOf s)) s
 
 -- The word behind the space at a place.
-unfoldable pub wordAt : List ℕ → ℕ → List ℕ
-wordAt words at = firstOf (drop (at + 1) words)
+unfoldable pub scriptWordAt : List ℕ → ℕ → List ℕ
+scriptWordAt words at = firstWordOf (drop (at + 1) words)

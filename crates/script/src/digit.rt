@@ -1,6 +1,6 @@
 // Hex digits, whose letters are capitals.
 ghost use mathlib.Core.Path.{_≡_};
-ghost use Rattle.script.specs.Digits.{digitOf, byteOf};
+ghost use Rattle.script.specs.Digits.{digitReadOf, byteReadOf};
 
 // No digit stands for as much.
 const NO_DIGIT: u8 = 16;
@@ -11,7 +11,7 @@ pub(crate) enum Byte {
 }
 
 pub(crate) fn digit(c: u8) -> u8
-    ensures { λ r. ⌜ r ≡ digitOf c ⌝ }
+    ensures { λ r. ⌜ r ≡ digitReadOf c ⌝ }
 {
     if c < b'0' {
         return NO_DIGIT;
@@ -29,7 +29,7 @@ pub(crate) fn digit(c: u8) -> u8
 }
 
 pub(crate) fn byte_of(high: u8, low: u8) -> Byte
-    ensures { λ r. ⌜ r ≡ byteOf high low ⌝ }
+    ensures { λ r. ⌜ r ≡ byteReadOf high low ⌝ }
 {
     let h = digit(high);
     let l = digit(low);

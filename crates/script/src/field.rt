@@ -4,7 +4,7 @@ use crate::words::word_at;
 ghost use mathlib.Core.Path.{_≡_};
 ghost use mathlib.Core.Bool.{false};
 ghost use Rattle.basis.specs.Pick.{pick};
-ghost use Rattle.script.specs.Fields.{before, nextOf, endsOf, byteIn, wordIn};
+ghost use Rattle.script.specs.Fields.{fieldsBegun, nextFieldOf, fieldsEndOf, fieldByteOf, fieldWordOf};
 
 // A word: its number, where it ends, and whether this word and those before it are numbers.
 pub struct Field {
@@ -16,7 +16,7 @@ pub struct Field {
 impl Field {
     // Before a line's first number.
     pub fn none() -> Field
-        ensures { λ r. ⌜ r ≡ before ⌝ }
+        ensures { λ r. ⌜ r ≡ fieldsBegun ⌝ }
     {
         Field {
             known: true,
@@ -26,7 +26,7 @@ impl Field {
     }
 
     pub fn next(self, words: &[u8], most: usize) -> Field
-        ensures { λ r. ⌜ r ≡ nextOf self (now (words .entry)) most ⌝ }
+        ensures { λ r. ⌜ r ≡ nextFieldOf self (now (words .entry)) most ⌝ }
     {
         let at = self.end;
         if words.len() <= at {
@@ -48,21 +48,21 @@ impl Field {
 
     // The value of a number that was asked for with at most 8 bits.
     pub fn byte(self) -> u8
-        ensures { λ r. ⌜ r ≡ byteIn self ⌝ }
+        ensures { λ r. ⌜ r ≡ fieldByteOf self ⌝ }
     {
         (self.value % 256) as u8
     }
 
     // The value of a number that was asked for with at most 16 bits.
     pub fn word(self) -> u16
-        ensures { λ r. ⌜ r ≡ wordIn self ⌝ }
+        ensures { λ r. ⌜ r ≡ fieldWordOf self ⌝ }
     {
         (self.value % 65536) as u16
     }
 
     // Whether the line's words are numbers up to this one, and it is the last.
     pub fn ends(self, words: &[u8]) -> bool
-        ensures { λ r. ⌜ r ≡ endsOf self (now (words .entry)) ⌝ }
+        ensures { λ r. ⌜ r ≡ fieldsEndOf self (now (words .entry)) ⌝ }
     {
         both(self.known, self.end == words.len())
     }

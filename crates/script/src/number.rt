@@ -3,7 +3,7 @@ use crate::digit::digit;
 ghost use mathlib.Core.Path.{_≡_};
 ghost use Prim.Native.Nat.{_+_, _*_};
 ghost use lib.Dec.{ltb};
-ghost use Rattle.script.specs.Decimal.{noNumber, addedOf, stepOf, decimalOf};
+ghost use Rattle.script.specs.Decimal.{noNumber, addedOf, decimalStepOf, decimalReadOf};
 
 // The value of what is no number is 0.
 pub struct Number {
@@ -13,7 +13,7 @@ pub struct Number {
 
 // What passes the most is no number here.
 pub fn decimal(s: &[u8], most: usize) -> Number
-    ensures { λ r. ⌜ r ≡ decimalOf (now (s .entry)) most ⌝ }
+    ensures { λ r. ⌜ r ≡ decimalReadOf (now (s .entry)) most ⌝ }
 {
     let mut read = Number {
         known: 0 < s.len(),
@@ -28,7 +28,7 @@ pub fn decimal(s: &[u8], most: usize) -> Number
 }
 
 fn step(read: Number, c: u8, most: usize) -> Number
-    ensures { λ r. ⌜ r ≡ stepOf most read c ⌝ }
+    ensures { λ r. ⌜ r ≡ decimalStepOf most read c ⌝ }
 {
     if read.known {
         return added(read.value, digit(c), most);

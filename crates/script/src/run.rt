@@ -4,7 +4,7 @@ use crate::digit::byte_of;
 use crate::number::decimal;
 use crate::parts::from;
 ghost use mathlib.Core.Path.{_≡_};
-ghost use Rattle.script.specs.Runs.{countedOf, timesOf, runOf};
+ghost use Rattle.script.specs.Runs.{countedRunOf, timesOf, byteRunOf};
 
 // The most that a word can ask for: more than there is room for.
 const TIMES_MOST: usize = 9999;
@@ -15,7 +15,7 @@ pub(crate) enum Run {
 }
 
 pub(crate) fn run_of(w: &[u8]) -> Run
-    ensures { λ r. ⌜ r ≡ runOf (now (w .entry)) ⌝ }
+    ensures { λ r. ⌜ r ≡ byteRunOf (now (w .entry)) ⌝ }
 {
     if w.len() < 2 {
         return Run::Other;
@@ -40,7 +40,7 @@ fn times_of(byte: u8, tail: &[u8]) -> Run
 }
 
 fn counted(byte: u8, digits: &[u8]) -> Run
-    ensures { λ r. ⌜ r ≡ countedOf byte (now (digits .entry)) ⌝ }
+    ensures { λ r. ⌜ r ≡ countedRunOf byte (now (digits .entry)) ⌝ }
 {
     let times = decimal(digits, TIMES_MOST);
     if times.known {

@@ -6,7 +6,7 @@ ghost use mathlib.Core.Path.{_≡_};
 ghost use Prim.Native.Nat.{_+_, _-_, _≤_, min};
 ghost use lib.ListN.{length, replicate};
 ghost use lib.Seq.{paste};
-ghost use Rattle.script.specs.Spelling.{room, zeros, unspelled, spellOf};
+ghost use Rattle.script.specs.Spelling.{spelledRoom, spelledZeros, unspelled, spellOf};
 
 // Room for messages longer than the 260 bytes of document 01, and for more than the 255 of a success.
 pub const ROOM: usize = 320;
@@ -44,7 +44,7 @@ pub fn spell(words: &[u8]) -> Spelled
 }
 
 fn blank() -> [u8; ROOM]
-    ensures { λ r. ⌜ r ≡ zeros ⌝ }
+    ensures { λ r. ⌜ r ≡ spelledZeros ⌝ }
 {
     [0; ROOM]
 }
@@ -62,8 +62,8 @@ fn nothing() -> Spelled
 
 // How many of so many bytes still have room.
 fn fitting(len: usize, times: usize) -> usize
-    requires { ⌜ len ≤ room ⌝ }
-    ensures { λ r. ⌜ r ≡ min times (room - len) ⌝ }
+    requires { ⌜ len ≤ spelledRoom ⌝ }
+    ensures { λ r. ⌜ r ≡ min times (spelledRoom - len) ⌝ }
 {
     if times < ROOM - len {
         return times;
@@ -72,8 +72,8 @@ fn fitting(len: usize, times: usize) -> usize
 }
 
 fn fill(out: &mut [u8; ROOM], from: usize, byte: u8, n: usize)
-    requires { ⌜ from + n ≤ room ⌝ }
-    requires { ⌜ length (now out) ≡ room ⌝ }
+    requires { ⌜ from + n ≤ spelledRoom ⌝ }
+    requires { ⌜ length (now out) ≡ spelledRoom ⌝ }
     ensures { λ _. ⌜ now (out .exit) ≡ paste (now (out .entry)) from (replicate n byte) n ⌝ }
 {
     let mut j = 0;

@@ -3,9 +3,9 @@
 mod counts;
 mod given;
 mod page;
+mod phases;
 mod report;
 mod session;
-mod stands;
 mod turn;
 mod view;
 mod words;

@@ -1,8 +1,8 @@
 // What came of the session.
 use crate::counts::Counts;
 use crate::page::Page;
+use crate::phases;
 use crate::session::Ended;
-use crate::stands;
 use crate::turn;
 use indoor_state::phase::Phase;
 use indoor_state::phase::Reason;
@@ -35,7 +35,7 @@ pub(crate) fn ended(ended: Ended, file: &[u8], image: &[u8])
     let counts = ended.counts;
     let receiver = ends.receiver;
     let judged = judge(ends, file, image);
-    if outcome(receiver, stands::indoors(ends.indoor), judged) {
+    if outcome(receiver, phases::indoors(ends.indoor), judged) {
         return;
     }
     if messages(counts, ended.turns) {
@@ -63,8 +63,8 @@ fn outcome(receiver: Receiver, phase: Phase, judged: Judged) -> bool {
         return say(Page::blank().word(b"done: the receiver has marked the image good"));
     }
     let begun = Page::blank().word(b"not done: ");
-    let named = failure(stands::indoor(begun, phase), phase);
-    say(stands::above(named.word(b"; "), stands::roof(receiver)))
+    let named = failure(phases::indoor(begun, phase), phase);
+    say(phases::receiver_name(named.word(b"; "), phases::roof(receiver)))
 }
 
 fn failure(page: Page, phase: Phase) -> Page

@@ -1,7 +1,7 @@
 // A whole session: both starts, and then turns until the indoor end is done or has failed.
 use crate::counts::Counts;
+use crate::phases;
 use crate::report;
-use crate::stands;
 use crate::turn;
 use crate::view::View;
 use indoor_state::plan::Release;
@@ -37,7 +37,7 @@ pub(crate) struct Ended {
 pub(crate) fn carry(
     begun: Ends,
     seed: Luck,
-    told: View,
+    start_view: View,
     file: &[u8],
     image: &mut [u8],
     up: &mut [u8],
@@ -49,7 +49,7 @@ pub(crate) fn carry(
     let mut ends = begun;
     let mut counts = Counts::first();
     let mut luck = seed;
-    let mut failed = told.heading();
+    let mut failed = start_view.heading();
     let mut turns = 0;
     while turns < TURNS_MOST {
         if rests(ends) {
@@ -59,7 +59,7 @@ pub(crate) fn carry(
             break;
         }
         turns += 1;
-        let view = told.at(turn::clock(turns));
+        let view = start_view.at(turn::clock(turns));
         let went = turn::step(ends, counts, luck, view, file, image, up, down);
         ends = went.ends;
         counts = went.counts;
@@ -77,7 +77,7 @@ pub(crate) fn carry(
 // The indoor end is done or has failed, and no ABORT is on its way.
 fn rests(ends: Ends) -> bool {
     let rising = ends.up;
-    let ended = stands::ended(stands::indoors(ends.indoor));
+    let ended = phases::ended(phases::indoors(ends.indoor));
     ended && rising.bytes == 0
 }
 

@@ -1,7 +1,7 @@
 // One turn: at most one message arrives or is lost, and then time passes at both ends.
 use crate::counts::Counts;
 use crate::page::Page;
-use crate::stands;
+use crate::phases;
 use crate::view;
 use crate::view::View;
 use crate::words;
@@ -48,13 +48,19 @@ pub(crate) fn step(
     ensures { λ r. ⌜ Over (now (file .entry)) (r .ends) (now (image .exit)) (now (up .exit)) (now (down .exit)) ⌝ }
 {
     let carried = lossy::carry(ends, luck, file, image, up, down);
-    let untold = message(carried, view, up, down);
+    let failed_before = message(carried, view, up, down);
     let passed = lossy_session::pass(carried.ends, TICK, file, up, down);
-    told(carried, passed, counts, view, untold)
+    turn_outcome(carried, passed, counts, view, failed_before)
 }
 
 // What the turn came to, once the silences are told too.
-fn told(carried: Carried, passed: Passed, counts: Counts, view: View, untold: bool) -> Stepped
+fn turn_outcome(
+    carried: Carried,
+    passed: Passed,
+    counts: Counts,
+    view: View,
+    failed_before: bool,
+) -> Stepped
     ensures { λ r. ⌜ r .ends ≡ passed .ends ⌝ }
 {
     let ends = passed.ends;
@@ -70,7 +76,7 @@ fn told(carried: Carried, passed: Passed, counts: Counts, view: View, untold: bo
         ends,
         counts: counted.above(above).below(below),
         luck,
-        failed: silence(untold, gave_up, above, below, view),
+        failed: silence(failed_before, gave_up, above, below, view),
     }
 }
 
@@ -105,22 +111,28 @@ fn answer(page: Page, rises: bool, ends: Ends, answered: Answered, blocks: u64) 
 {
     let numbered = page.number(answered.number as u64).column(view::PHASE);
     if rises {
-        return stands::receiver(numbered, stands::roof(ends.receiver), blocks);
+        return phases::receiver(numbered, phases::roof(ends.receiver), blocks);
     }
-    stands::indoor(numbered, stands::indoors(ends.indoor))
+    phases::indoor(numbered, phases::indoors(ends.indoor))
 }
 
 fn gave_up(before: Receiver, after: Receiver) -> bool {
-    let was_idle = stands::idle(stands::roof(before));
-    let is_idle = stands::idle(stands::roof(after));
+    let was_idle = phases::idle(phases::roof(before));
+    let is_idle = phases::idle(phases::roof(after));
     !was_idle && is_idle
 }
 
-// What time makes the ends send is told; `untold` says whether a line had failed before.
-fn silence(untold: bool, gave_up: bool, above: Answered, below: Answered, view: View) -> bool {
+// What time makes the ends send is told; `failed_before` says whether a line had failed before.
+fn silence(
+    failed_before: bool,
+    gave_up: bool,
+    above: Answered,
+    below: Answered,
+    view: View,
+) -> bool {
     let roof = roof_silent(view, above.sent, gave_up);
     let indoors = indoors_silent(view, below.sent, below.number);
-    untold || roof || indoors
+    failed_before || roof || indoors
 }
 
 fn roof_silent(view: View, sent: bool, gave_up: bool) -> bool {

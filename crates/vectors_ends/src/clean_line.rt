@@ -42,14 +42,14 @@ pub(crate) fn answer(words: &[u8], file: &[u8], image: &mut [u8]) -> Said {
 
 fn carried(limit: u16, resends: u8, release: Release, file: &[u8], image: &mut [u8]) -> Said {
     let ran = clean::run(limit, resends, session::identity(), release, file, image);
-    let said = told(ran);
+    let said = run_text(ran);
     if begins(image, file) {
         return said.text(b" : file");
     }
     said.text(b" : no file")
 }
 
-fn told(ran: Ran) -> Said {
+fn run_text(ran: Ran) -> Said {
     let number = ran.number();
     let said = Said::nothing().number(number as u64);
     match ran {

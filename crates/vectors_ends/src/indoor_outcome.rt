@@ -7,14 +7,14 @@ use indoor_state::session::Started;
 use saying::Said;
 use wire::codes;
 
-pub(crate) fn told(outcome: Outcome, buffer: &[u8]) -> Said {
+pub(crate) fn outcome_text(outcome: Outcome, buffer: &[u8]) -> Said {
     let answer = outcome.answer;
     let session = outcome.session;
     let said = Said::nothing().number(indoor_decide::answer_number(answer) as u64);
     left(said, session, outcome.written, buffer)
 }
 
-pub(crate) fn start_told(started: Started, buffer: &[u8]) -> Said {
+pub(crate) fn start_text(started: Started, buffer: &[u8]) -> Said {
     let said = Said::nothing().number(indoor::started_number(started) as u64);
     match started {
         Started::Made { session, written } => left(said, session, written, buffer),

@@ -68,7 +68,7 @@ fn after(called: Called, indoors: Indoors, buffer: &[u8]) -> Indoors {
             Indoors {
                 session,
                 lent,
-                said: indoor_outcome::start_told(started, buffer),
+                said: indoor_outcome::start_text(started, buffer),
             }
         }
         Called::Ended(outcome) => {
@@ -77,7 +77,7 @@ fn after(called: Called, indoors: Indoors, buffer: &[u8]) -> Indoors {
             Indoors {
                 session,
                 lent,
-                said: indoor_outcome::told(outcome, buffer),
+                said: indoor_outcome::outcome_text(outcome, buffer),
             }
         }
         Called::NoSession => indoors.says(Said::nothing().text(b" no session")),

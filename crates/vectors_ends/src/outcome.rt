@@ -6,25 +6,25 @@ use receiver_state::session::Started;
 use receiver_state::sum::Summed;
 use saying::Said;
 
-pub(crate) fn told(outcome: Outcome, buffer: &[u8]) -> Said {
+pub(crate) fn outcome_text(outcome: Outcome, buffer: &[u8]) -> Said {
     let answer = outcome.answer;
     let session = outcome.session;
     let said = Said::nothing()
         .number(receiver_decide::answer_number(answer) as u64)
         .text(b" :")
         .shown(script::upto(buffer, outcome.written));
-    state(said, session)
+    with_state(said, session)
 }
 
-pub(crate) fn start_told(started: Started) -> Said {
+pub(crate) fn start_text(started: Started) -> Said {
     let said = Said::nothing().number(receiver::started_number(started) as u64);
     match started {
-        Started::Made(session) => state(said, session),
+        Started::Made(session) => with_state(said, session),
         Started::Refused => said,
     }
 }
 
-fn state(said: Said, session: Receiver) -> Said {
+fn with_state(said: Said, session: Receiver) -> Said {
     let phase = session.phase;
     phase::add(said.text(b" :"), phase)
         .text(b" :")
@@ -32,7 +32,7 @@ fn state(said: Said, session: Receiver) -> Said {
         .number(session.resends as u64)
 }
 
-pub(crate) fn sum_told(summed: Summed) -> Said {
+pub(crate) fn sum_text(summed: Summed) -> Said {
     let said = Said::nothing().number(receiver::summed_number(summed) as u64);
     match summed {
         Summed::Sum(sum) => said.text(b" :").number(sum as u64),

@@ -70,7 +70,7 @@ fn start(words: &[u8], outdoors: Outdoors) -> Outdoors {
     Outdoors {
         session,
         lent,
-        said: outcome::start_told(session),
+        said: outcome::start_text(session),
     }
 }
 
@@ -121,10 +121,10 @@ fn after(called: Called, outdoors: Outdoors, buffer: &[u8]) -> Outdoors {
             Outdoors {
                 session,
                 lent,
-                said: outcome::told(outcome, buffer),
+                said: outcome::outcome_text(outcome, buffer),
             }
         }
-        Called::Summed(summed) => outdoors.says(outcome::sum_told(summed)),
+        Called::Summed(summed) => outdoors.says(outcome::sum_text(summed)),
         Called::NotUnderstood => outdoors.says(Said::not_understood()),
     }
 }

@@ -18,12 +18,15 @@ pub(crate) fn is_valid(msg: &[u8]) -> bool {
 pub(crate) fn show(msg: &[u8]) -> Said {
     let parsed = reading::read_request(msg);
     match parsed {
-        Parsed::Valid(request) => written::add(told(request), writing::write_request(request)),
+        Parsed::Valid(request) => written::add(
+            request_text(request),
+            writing::write_request(request),
+        ),
         Parsed::Malformed => Said::nothing().text(b" 20"),
     }
 }
 
-fn told(request: Request) -> Said {
+fn request_text(request: Request) -> Said {
     let said = Said::nothing();
     match request {
         Request::GetFwId => said.text(b" GET_FW_ID"),

@@ -18,12 +18,15 @@ pub(crate) fn is_valid(msg: &[u8]) -> bool {
 pub(crate) fn show(msg: &[u8]) -> Said {
     let parsed = reading::read_response(msg);
     match parsed {
-        Parsed::Valid(response) => written::add(told(response), writing::write_response(response)),
+        Parsed::Valid(response) => written::add(
+            response_text(response),
+            writing::write_response(response),
+        ),
         Parsed::Malformed => Said::nothing().text(b" 20"),
     }
 }
 
-fn told(response: Response) -> Said {
+fn response_text(response: Response) -> Said {
     match response {
         Response::GetFwId { status, identity } => fields(status, identity),
         Response::Initiate { status, wait, size } => three(b" INITIATE", status, wait, size as u64),

@@ -10,4 +10,4 @@ miss-spec =
     (tie.spec
     (λ c κs. search needs)
     (λ c κs. search needs)
-    (λ c. rw (c .made .ensures, c .before .missed .ensures)))
+    (λ c. rw (c .outcome .ensures, c .before .missed .ensures)))

@@ -1,10 +1,10 @@
 use Rattle.basis.specs.Pick.{tests}
-use Rattle.receiver_flat.specs.Flat.{phaseOf}
+use Rattle.receiver_flat.specs.Flat.{receiverPhaseOf}
 use Rattle.receiver_flat.proofs.unpack.phase_of.Statement.{statement}
 use Rattle.receiver_flat.proofs.unpack.phase_of.Tie as tie
 
 pub phase-of-spec : {M : Type 1} → statement M
-unfolding phaseOf
+unfolding receiverPhaseOf
 phase-of-spec =
     tie.close
     (tie.spec

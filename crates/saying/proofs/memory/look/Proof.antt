@@ -1,12 +1,12 @@
 use borrow.Author.Tests.{not-true, not-false}
 use Rattle.basis.specs.Pick.{tests}
-use Rattle.saying.specs.Look.{namesOf, lookOf}
+use Rattle.saying.specs.Look.{lookFitsOf, lookOf}
 use borrow.Author.Needs.{needs}
 use Rattle.saying.proofs.memory.look.Statement.{statement}
 use Rattle.saying.proofs.memory.look.Tie as tie
 
 pub look-spec : {M : Type 1} → statement M
-unfolding lookOf namesOf
+unfolding lookOf lookFitsOf
 look-spec =
     tie.close
     (tie.spec

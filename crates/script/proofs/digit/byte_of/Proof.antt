@@ -1,11 +1,11 @@
 use Rattle.basis.specs.Pick.{tests}
-use Rattle.script.specs.Digits.{byteOf}
+use Rattle.script.specs.Digits.{byteReadOf}
 use borrow.Author.Needs.{needs}
 use Rattle.script.proofs.digit.byte_of.Statement.{statement}
 use Rattle.script.proofs.digit.byte_of.Tie as tie
 
 pub byte-of-spec : {M : Type 1} → statement M
-unfolding byteOf
+unfolding byteReadOf
 byte-of-spec =
     tie.close
     (tie.spec

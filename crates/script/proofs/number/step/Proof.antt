@@ -1,11 +1,11 @@
 use Rattle.basis.specs.Pick.{tests}
-use Rattle.script.specs.Decimal.{stepOf}
+use Rattle.script.specs.Decimal.{decimalStepOf}
 use borrow.Author.Needs.{needs}
 use Rattle.script.proofs.number.step.Statement.{statement}
 use Rattle.script.proofs.number.step.Tie as tie
 
 pub step-spec : {M : Type 1} → statement M
-unfolding stepOf
+unfolding decimalStepOf
 step-spec =
     tie.close
     (tie.spec

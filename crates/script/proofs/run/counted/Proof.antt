@@ -1,11 +1,11 @@
 use Rattle.basis.specs.Pick.{tests}
-use Rattle.script.specs.Runs.{countedOf}
+use Rattle.script.specs.Runs.{countedRunOf}
 use borrow.Author.Needs.{needs}
 use Rattle.script.proofs.run.counted.Statement.{statement}
 use Rattle.script.proofs.run.counted.Tie as tie
 
 pub counted-spec : {M : Type 1} → statement M
-unfolding countedOf
+unfolding countedRunOf
 counted-spec =
     tie.close
     (tie.spec

@@ -1,11 +1,11 @@
 use Rattle.basis.specs.Pick.{tests}
-use Rattle.script.specs.Runs.{runOf}
+use Rattle.script.specs.Runs.{byteRunOf}
 use borrow.Author.Needs.{needs}
 use Rattle.script.proofs.run.run_of.Statement.{statement}
 use Rattle.script.proofs.run.run_of.Tie as tie
 
 pub run-of-spec : {M : Type 1} → statement M
-unfolding runOf
+unfolding byteRunOf
 run-of-spec =
     tie.close
     (tie.spec

@@ -2,7 +2,7 @@ use Prim.Native.Nat.{_-_}
 use mathlib.Core.Path.{sym, _∙_, ap}
 use denote.Ref.{now}
 use lib.ListN.{length}
-use Rattle.script.specs.Runs.{runOf}
+use Rattle.script.specs.Runs.{byteRunOf}
 use Rattle.script.proofs.Mid.{Mid, mid-begins, mid-room, mid-ends, mid-other, mid-more}
 use borrow.Author.Needs.{needs}
 use Rattle.script.proofs.spelling.spell.Statement.{statement}
@@ -30,7 +30,7 @@ spell-spec =
     (λ c.
     let l = c .before .before .before .before .before .before in
     let a = l .before .before .before .args in
-    c .nothing .ensures ∙ mid-other (now (a .words)) (l .loop .bytes) (l .loop .len) (l .loop .at) (l .loop .inv) (c .before .before .before .before .before .loop-test .taken) (ap runOf (sym (c .before .before .before .before .word-at .ensures .0)) ∙ sym (c .before .before .before .run-of .ensures) ∙ c .before .enum-told .given .1))
+    c .nothing .ensures ∙ mid-other (now (a .words)) (l .loop .bytes) (l .loop .len) (l .loop .at) (l .loop .inv) (c .before .before .before .before .before .loop-test .taken) (ap byteRunOf (sym (c .before .before .before .before .word-at .ensures .0)) ∙ sym (c .before .before .before .run-of .ensures) ∙ c .before .enum-told .given .1))
     (λ c κs. search needs)
     (λ c κs.
     let l = c .before .before .before .before .before .before .before .before in
@@ -43,7 +43,7 @@ spell-spec =
     (λ c.
     let l = c .before .before .before .before .before .before .before .before .before in
     let a = l .before .before .before .args in
-    mid-more (now (a .words)) (l .loop .bytes) (l .loop .len) (l .loop .at) (l .loop .inv) _ _ _ _ _ (c .before .before .before .before .before .before .before .before .loop-test .taken) (ap runOf (sym (c .before .before .before .before .before .before .before .word-at .ensures .0)) ∙ sym (c .before .before .before .before .before .before .run-of .ensures) ∙ c .before .before .before .before .run .given .1) (c .before .before .before .before .before .before .before .word-at .ensures .0) (c .before .before .fitting .ensures) (c .fill .ensures))
+    mid-more (now (a .words)) (l .loop .bytes) (l .loop .len) (l .loop .at) (l .loop .inv) _ _ _ _ _ (c .before .before .before .before .before .before .before .before .loop-test .taken) (ap byteRunOf (sym (c .before .before .before .before .before .before .before .word-at .ensures .0)) ∙ sym (c .before .before .before .before .before .before .run-of .ensures) ∙ c .before .before .before .before .run .given .1) (c .before .before .before .before .before .before .before .word-at .ensures .0) (c .before .before .fitting .ensures) (c .fill .ensures))
     (λ c.
     let l = c .before in
     let a = l .before .before .before .args in

@@ -18,4 +18,4 @@ step-spec =
     (λ c. omega (arith, c .before .before .before .before .before .before .before .before .before .before .before .before .down .given, c .before .before .down2 .given))
     (λ c. let carry = c .before .before .before .before .before .before .before .before .before .before .before .before .before .before .before .before .before .carry in
     let pass = c .before .before .before .before .before .pass in
-    rw (c .told .ensures) (pass-over _ _ _ _ _ (carry-over _ _ _ _ _ (c .before .before .before .before .before .before .before .before .before .before .before .before .before .before .before .before .before .before .before .before .before .before .before .before .before .pre) _ (carry .result) _ _ _ (carry .ensures)) _ (pass .result) _ _ (pass .ensures))))
+    rw (c .turn-outcome .ensures) (pass-over _ _ _ _ _ (carry-over _ _ _ _ _ (c .before .before .before .before .before .before .before .before .before .before .before .before .before .before .before .before .before .before .before .before .before .before .before .before .before .pre) _ (carry .result) _ _ _ (carry .ensures)) _ (pass .result) _ _ (pass .ensures))))

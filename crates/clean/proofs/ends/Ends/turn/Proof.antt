@@ -1,11 +1,11 @@
 use borrow.Author.Needs.{needs}
 use Rattle.basis.specs.Pick.{tests}
-use Rattle.clean.specs.Turn.{turnOf}
+use Rattle.clean.specs.Turn.{cleanTurnOf}
 use Rattle.clean.proofs.ends.Ends.turn.Statement.{statement}
 use Rattle.clean.proofs.ends.Ends.turn.Tie as tie
 
 pub turn-spec : {M : Type 1} → statement M
-unfolding turnOf
+unfolding cleanTurnOf
 turn-spec =
     tie.close
     (tie.spec

@@ -1,11 +1,11 @@
 use Rattle.basis.specs.Pick.{tests}
-use Rattle.indoor_flat.specs.Flat.{isSession}
+use Rattle.indoor_flat.specs.Flat.{isIndoorSession}
 use borrow.Author.Needs.{needs}
 use Rattle.indoor_flat.proofs.flat.FlatIndoor.is_session.Statement.{statement}
 use Rattle.indoor_flat.proofs.flat.FlatIndoor.is_session.Tie as tie
 
 pub is-session-spec : {M : Type 1} → statement M
-unfolding isSession
+unfolding isIndoorSession
 is-session-spec =
     tie.close
     (tie.spec
@@ -16,4 +16,4 @@ is-session-spec =
     (λ c. search (← (c .before .before .before .before .before .before .new .ensures), ← (c .before .before .before .before .before .number .ensures), tests))
     (λ c κs. search needs)
     (λ c κs. search needs)
-    (λ c. search (← (c .before .before .before .before .before .before .before .before .new .ensures), ← (c .before .before .before .before .before .before .before .number .ensures), c .before .place .ensures, c .stands .ensures, tests)))
+    (λ c. search (← (c .before .before .before .before .before .before .before .before .new .ensures), ← (c .before .before .before .before .before .before .before .number .ensures), c .before .phase-numbers .ensures, c .is-phase .ensures, tests)))

@@ -8,4 +8,4 @@ unpack-spec =
     (tie.spec
     (λ c κs. search needs)
     (λ c κs. search needs)
-    (λ c. rw (c .phase .ensures, c .before .place .ensures)))
+    (λ c. rw (c .phase .ensures, c .before .phase-numbers .ensures)))

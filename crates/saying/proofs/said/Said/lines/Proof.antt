@@ -3,7 +3,7 @@ use mathlib.Core.Path.{_≡_, refl, sym, _∙_}
 use mathlib.Core.List.{foldl}
 use denote.Ref.{now}
 use lib.ListN.{length, drop}
-use Rattle.saying.specs.Said.{characterOf, linesOf}
+use Rattle.saying.specs.Said.{characterOf, saidLinesOf}
 use Rattle.script.proofs.Steps.{steps-more, steps-all}
 use borrow.Author.Needs.{needs}
 use Rattle.basis.specs.Pick.{tests}
@@ -17,7 +17,7 @@ abbrev μ-loop : tie.MeasureT-loop
 μ-loop s said₀ i₀ said i = length s - i
 
 pub lines-spec : {M : Type 1} → statement M
-unfolding linesOf
+unfolding saidLinesOf
 lines-spec =
     tie.close
     (tie.spec

@@ -1,11 +1,11 @@
 use Rattle.basis.specs.Pick.{tests}
-use Rattle.saying.specs.Hex.{shownOf}
+use Rattle.saying.specs.Hex.{hexShownOf}
 use borrow.Author.Needs.{needs}
 use Rattle.saying.proofs.said.Said.shown.Statement.{statement}
 use Rattle.saying.proofs.said.Said.shown.Tie as tie
 
 pub shown-spec : {M : Type 1} → statement M
-unfolding shownOf
+unfolding hexShownOf
 shown-spec =
     tie.close
     (tie.spec

@@ -1,11 +1,11 @@
 use Rattle.basis.specs.Pick.{tests}
-use Rattle.script.specs.Fields.{nextOf}
+use Rattle.script.specs.Fields.{nextFieldOf}
 use borrow.Author.Needs.{needs}
 use Rattle.script.proofs.field.Field.next.Statement.{statement}
 use Rattle.script.proofs.field.Field.next.Tie as tie
 
 pub next-spec : {M : Type 1} → statement M
-unfolding nextOf
+unfolding nextFieldOf
 next-spec =
     tie.close
     (tie.spec

@@ -1,6 +1,6 @@
 use borrow.Author.Needs.{needs}
-use Rattle.receiver_flat.proofs.pack.Place.of.Statement.{statement}
-use Rattle.receiver_flat.proofs.pack.Place.of.Tie as tie
+use Rattle.receiver_flat.proofs.pack.PhaseNumbers.of.Statement.{statement}
+use Rattle.receiver_flat.proofs.pack.PhaseNumbers.of.Tie as tie
 
 pub of-spec : {M : Type 1} → statement M
 of-spec =

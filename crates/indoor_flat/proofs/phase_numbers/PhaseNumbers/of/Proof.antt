@@ -1,10 +1,10 @@
-use Rattle.indoor_flat.specs.Place.{placeOf}
+use Rattle.indoor_flat.specs.PhaseNumbers.{indoorPhaseNumbersOf}
 use borrow.Author.Needs.{needs}
-use Rattle.indoor_flat.proofs.place.Place.of.Statement.{statement}
-use Rattle.indoor_flat.proofs.place.Place.of.Tie as tie
+use Rattle.indoor_flat.proofs.phase_numbers.PhaseNumbers.of.Statement.{statement}
+use Rattle.indoor_flat.proofs.phase_numbers.PhaseNumbers.of.Tie as tie
 
 pub of-spec : {M : Type 1} → statement M
-unfolding placeOf
+unfolding indoorPhaseNumbersOf
 of-spec =
     tie.close
     (tie.spec

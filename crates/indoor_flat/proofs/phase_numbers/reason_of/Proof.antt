@@ -1,10 +1,10 @@
 use Rattle.basis.specs.Pick.{tests}
-use Rattle.indoor_flat.specs.Place.{reasonOf}
-use Rattle.indoor_flat.proofs.place.reason_of.Statement.{statement}
-use Rattle.indoor_flat.proofs.place.reason_of.Tie as tie
+use Rattle.indoor_flat.specs.PhaseNumbers.{indoorReasonOf}
+use Rattle.indoor_flat.proofs.phase_numbers.reason_of.Statement.{statement}
+use Rattle.indoor_flat.proofs.phase_numbers.reason_of.Tie as tie
 
 pub reason-of-spec : {M : Type 1} → statement M
-unfolding reasonOf
+unfolding indoorReasonOf
 reason-of-spec =
     tie.close
     (tie.spec

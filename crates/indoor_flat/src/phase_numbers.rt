@@ -3,9 +3,9 @@ use indoor_state::phase::Phase;
 use indoor_state::phase::Progress;
 use indoor_state::phase::Reason;
 ghost use mathlib.Core.Path.{_≡_};
-ghost use Rattle.indoor_flat.specs.Place.{place, placeOf, phaseOf, reasonOf, failsOf, standsOf};
+ghost use Rattle.indoor_flat.specs.PhaseNumbers.{indoorPhaseNumbers, indoorPhaseNumbersOf, indoorPhaseOf, indoorReasonOf, isFailedPhase, isIndoorPhase};
 
-pub(crate) struct Place {
+pub(crate) struct PhaseNumbers {
     pub phase: u8,
     pub emptied: u8,
     pub asked: u16,
@@ -30,11 +30,11 @@ const REASON_LEAST: u8 = 40;
 
 const REASON_MOST: u8 = 45;
 
-impl Place {
-    fn new(phase: u8, emptied: u8, asked: u16, wait: u16, reason: u8) -> Place
-        ensures { λ r. ⌜ r ≡ place phase emptied asked wait reason ⌝ }
+impl PhaseNumbers {
+    fn new(phase: u8, emptied: u8, asked: u16, wait: u16, reason: u8) -> PhaseNumbers
+        ensures { λ r. ⌜ r ≡ indoorPhaseNumbers phase emptied asked wait reason ⌝ }
     {
-        Place {
+        PhaseNumbers {
             phase,
             emptied,
             asked,
@@ -43,16 +43,16 @@ impl Place {
         }
     }
 
-    pub(crate) fn of(phase: Phase) -> Place
-        ensures { λ r. ⌜ r ≡ placeOf phase ⌝ }
+    pub(crate) fn of(phase: Phase) -> PhaseNumbers
+        ensures { λ r. ⌜ r ≡ indoorPhaseNumbersOf phase ⌝ }
     {
         match phase {
-            Phase::Identify => Place::new(IDENTIFY, 0, 0, 0, 0),
-            Phase::Initiate { wait } => Place::new(INITIATE, 0, 0, wait, 0),
-            Phase::Transfer(p) => Place::new(TRANSFER, p.emptied as u8, p.asked, p.wait, 0),
-            Phase::Validate { wait } => Place::new(VALIDATE, 0, 0, wait, 0),
-            Phase::Done => Place::new(DONE, 0, 0, 0, 0),
-            Phase::Failed(reason) => Place::new(
+            Phase::Identify => PhaseNumbers::new(IDENTIFY, 0, 0, 0, 0),
+            Phase::Initiate { wait } => PhaseNumbers::new(INITIATE, 0, 0, wait, 0),
+            Phase::Transfer(p) => PhaseNumbers::new(TRANSFER, p.emptied as u8, p.asked, p.wait, 0),
+            Phase::Validate { wait } => PhaseNumbers::new(VALIDATE, 0, 0, wait, 0),
+            Phase::Done => PhaseNumbers::new(DONE, 0, 0, 0, 0),
+            Phase::Failed(reason) => PhaseNumbers::new(
                 FAILED,
                 0,
                 0,
@@ -62,9 +62,9 @@ impl Place {
         }
     }
 
-    // A code that is no phase's is read as Identify; `stands` tells the two apart.
+    // A code that is no phase's is read as Identify; `is_phase` tells the two apart.
     pub(crate) fn phase(self) -> Phase
-        ensures { λ r. ⌜ r ≡ phaseOf self ⌝ }
+        ensures { λ r. ⌜ r ≡ indoorPhaseOf self ⌝ }
     {
         if self.phase == INITIATE {
             return Phase::Initiate { wait: self.wait };
@@ -89,11 +89,11 @@ impl Place {
     }
 
     // Whether the numbers are some phase's.
-    pub(crate) fn stands(self) -> bool
-        ensures { λ r. ⌜ r ≡ standsOf self ⌝ }
+    pub(crate) fn is_phase(self) -> bool
+        ensures { λ r. ⌜ r ≡ isIndoorPhase self ⌝ }
     {
         if self.phase == FAILED {
-            return self.fails();
+            return self.is_failed();
         }
         if self.reason != 0 {
             return false;
@@ -120,8 +120,8 @@ impl Place {
     }
 
     // Failed keeps nothing but its reason.
-    fn fails(self) -> bool
-        ensures { λ r. ⌜ r ≡ failsOf self ⌝ }
+    fn is_failed(self) -> bool
+        ensures { λ r. ⌜ r ≡ isFailedPhase self ⌝ }
     {
         if self.emptied != 0 {
             return false;
@@ -140,7 +140,7 @@ impl Place {
 }
 
 fn reason_of(number: u8) -> Reason
-    ensures { λ r. ⌜ r ≡ reasonOf number ⌝ }
+    ensures { λ r. ⌜ r ≡ indoorReasonOf number ⌝ }
 {
     if number == 40 {
         return Reason::Silence;

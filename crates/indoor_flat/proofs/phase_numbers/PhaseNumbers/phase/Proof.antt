@@ -1,11 +1,11 @@
 use Rattle.basis.specs.Pick.{tests}
-use Rattle.indoor_flat.specs.Place.{phaseOf}
+use Rattle.indoor_flat.specs.PhaseNumbers.{indoorPhaseOf}
 use borrow.Author.Needs.{needs}
-use Rattle.indoor_flat.proofs.place.Place.phase.Statement.{statement}
-use Rattle.indoor_flat.proofs.place.Place.phase.Tie as tie
+use Rattle.indoor_flat.proofs.phase_numbers.PhaseNumbers.phase.Statement.{statement}
+use Rattle.indoor_flat.proofs.phase_numbers.PhaseNumbers.phase.Tie as tie
 
 pub phase-spec : {M : Type 1} → statement M
-unfolding phaseOf
+unfolding indoorPhaseOf
 phase-spec =
     tie.close
     (tie.spec

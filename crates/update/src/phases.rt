@@ -12,7 +12,7 @@ pub(crate) fn receiver(page: Page, phase: Phase, blocks: u64) -> Page
     ensures { λ r. ⌜ r .at ≤ 120 ⌝ }
 {
     let accepted = receiver_decide::accepted(phase);
-    let named = above(page, phase);
+    let named = receiver_name(page, phase);
     named
         .word(b", ")
         .number(accepted.blocks as u64)
@@ -21,7 +21,7 @@ pub(crate) fn receiver(page: Page, phase: Phase, blocks: u64) -> Page
         .word(b" blocks")
 }
 
-pub(crate) fn above(page: Page, phase: Phase) -> Page
+pub(crate) fn receiver_name(page: Page, phase: Phase) -> Page
     requires { ⌜ page .at ≤ 120 ⌝ }
     ensures { λ r. ⌜ r .at ≤ 120 ⌝ }
 {

@@ -9,22 +9,22 @@ use Rattle.indoor_state.specs.declared.phase.Reason.{Reason}
 use Rattle.indoor_state.specs.declared.phase.Reason.the-variants as Why
 use Rattle.indoor_state.specs.declared.phase.Phase.{Phase}
 use Rattle.indoor_state.specs.declared.phase.Phase.the-variants.{Identify, Initiate, Transfer, Validate, Done, Failed}
-use Rattle.indoor_flat.specs.declared.place.Place.{Place}
+use Rattle.indoor_flat.specs.declared.phase_numbers.PhaseNumbers.{PhaseNumbers}
 
-abbrev pub place : ℕ → ℕ → ℕ → ℕ → ℕ → Place
-place phase emptied asked wait reason = record { phase = phase; emptied = emptied; asked = asked; wait = wait; reason = reason }
+abbrev pub indoorPhaseNumbers : ℕ → ℕ → ℕ → ℕ → ℕ → PhaseNumbers
+indoorPhaseNumbers phase emptied asked wait reason = record { phase = phase; emptied = emptied; asked = asked; wait = wait; reason = reason }
 
 -- What a phase does not have is 0 there; a reason is document 01's number.
-unfoldable pub placeOf : Phase → Place
-placeOf Identify = place 0 0 0 0 0
-placeOf (Initiate wait) = place 1 0 0 wait 0
-placeOf (Transfer p) = place 2 (byteOf (p .emptied)) (p .asked) (p .wait) 0
-placeOf (Validate wait) = place 3 0 0 wait 0
-placeOf Done = place 4 0 0 0 0
-placeOf (Failed reason) = place 5 0 0 0 (reasonNumber reason)
+unfoldable pub indoorPhaseNumbersOf : Phase → PhaseNumbers
+indoorPhaseNumbersOf Identify = indoorPhaseNumbers 0 0 0 0 0
+indoorPhaseNumbersOf (Initiate wait) = indoorPhaseNumbers 1 0 0 wait 0
+indoorPhaseNumbersOf (Transfer p) = indoorPhaseNumbers 2 (byteOf (p .emptied)) (p .asked) (p .wait) 0
+indoorPhaseNumbersOf (Validate wait) = indoorPhaseNumbers 3 0 0 wait 0
+indoorPhaseNumbersOf Done = indoorPhaseNumbers 4 0 0 0 0
+indoorPhaseNumbersOf (Failed reason) = indoorPhaseNumbers 5 0 0 0 (reasonNumber reason)
 
-unfoldable pub reasonOf : ℕ → Reason
-reasonOf number =
+unfoldable pub indoorReasonOf : ℕ → Reason
+indoorReasonOf number =
     pick (eqb number 40) Why.Silence
     (pick (eqb number 41) Why.Refused
     (pick (eqb number 42) Why.NotNewer
@@ -33,18 +33,18 @@ reasonOf number =
     Why.NotValid))))
 
 -- A code that is no phase's is read as Identify.
-unfoldable pub phaseOf : Place → Phase
-phaseOf p =
+unfoldable pub indoorPhaseOf : PhaseNumbers → Phase
+indoorPhaseOf p =
     pick (eqb (p .phase) 1) (Initiate (p .wait))
     (pick (eqb (p .phase) 2) (Transfer (indoorProgress (p .asked) (p .wait) (eqb (p .emptied) 1)))
     (pick (eqb (p .phase) 3) (Validate (p .wait))
     (pick (eqb (p .phase) 4) Done
-    (pick (eqb (p .phase) 5) (Failed (reasonOf (p .reason)))
+    (pick (eqb (p .phase) 5) (Failed (indoorReasonOf (p .reason)))
     Identify))))
 
 -- Failed keeps nothing but its reason, 40 to 45.
-unfoldable pub failsOf : Place → Bool
-failsOf p =
+unfoldable pub isFailedPhase : PhaseNumbers → Bool
+isFailedPhase p =
     pick (eqb (p .emptied) 0)
     (pick (eqb (p .asked) 0)
     (pick (eqb (p .wait) 0)
@@ -54,9 +54,9 @@ failsOf p =
     false
 
 -- Numbers of a phase: a reason in Failed alone, the block asked for and a flag in Transfer alone, a wait in Initiate, Transfer and Validate.
-unfoldable pub standsOf : Place → Bool
-standsOf p =
-    pick (eqb (p .phase) 5) (failsOf p)
+unfoldable pub isIndoorPhase : PhaseNumbers → Bool
+isIndoorPhase p =
+    pick (eqb (p .phase) 5) (isFailedPhase p)
     (pick (eqb (p .reason) 0)
     (pick (eqb (p .phase) 2) (leb (p .emptied) 1)
     (pick (eqb (p .emptied) 0)

@@ -3,13 +3,13 @@ use Prim.Native.Nat.{_≤_}
 use mathlib.Core.Path.{_≡_}
 use Rattle.wire.specs.Codes.{imageSizeMost}
 use Rattle.silence.specs.Within.{Within}
-use Rattle.indoor_flat.specs.Flat.{placed}
-use Rattle.indoor_flat.specs.declared.place.Place.{Place}
+use Rattle.indoor_flat.specs.Flat.{indoorPhaseNumbersIn}
+use Rattle.indoor_flat.specs.declared.phase_numbers.PhaseNumbers.{PhaseNumbers}
 use Rattle.indoor_flat.specs.declared.flat.FlatIndoor.{FlatIndoor}
 
 -- Identify 0, Initiate 1, Transfer 2, Validate 3, Done 4, Failed 5: the block asked for and a flag in Transfer alone, a wait in Initiate,
 -- Transfer and Validate alone, a reason 40 to 45 in Failed alone.
-pub record Standing (p : Place) : Type 0 where
+pub record IndoorPhaseValid (p : PhaseNumbers) : Type 0 where
   pub phases : p .phase ≤ 5
   pub flag : p .emptied ≤ 1
   pub transfer-alone : (p .phase ≡ 2 → ⊥) → (p .emptied ≡ 0) × (p .asked ≡ 0)
@@ -17,8 +17,8 @@ pub record Standing (p : Place) : Type 0 where
   pub failed-alone : (p .phase ≡ 5 → ⊥) → p .reason ≡ 0
   pub reasons : p .phase ≡ 5 → (40 ≤ p .reason) × (p .reason ≤ 45)
 
-pub record Whole (f : FlatIndoor) : Type 0 where
+pub record IndoorSessionValid (f : FlatIndoor) : Type 0 where
   pub within : Within (f .plan .settings .limit) (f .plan .settings .resends)
   pub some : 1 ≤ f .plan .length
   pub most : f .plan .length ≤ imageSizeMost
-  pub standing : Standing (placed f)
+  pub in-phase : IndoorPhaseValid (indoorPhaseNumbersIn f)

@@ -7,13 +7,13 @@ use Rattle.receiver_state.specs.declared.phase.Accepted.{Accepted}
 use Rattle.receiver_flat.specs.declared.flat.FlatReceiver.{FlatReceiver}
 
 -- Idle 0, Transfer 1, Await 2, Good 3: a flag in Transfer alone, no counts in Idle.
-pub record Standing (phase : ℕ) (accepted : Accepted) (short : ℕ) : Type 0 where
+pub record ReceiverPhaseValid (phase : ℕ) (accepted : Accepted) (short : ℕ) : Type 0 where
   pub phases : phase ≤ 3
   pub flag : short ≤ 1
   pub transfer-alone : (phase ≡ 1 → ⊥) → short ≡ 0
   pub idle-empty : phase ≡ 0 → (accepted .blocks ≡ 0) × (accepted .bytes ≡ 0)
 
-pub record Whole (f : FlatReceiver) : Type 0 where
+pub record ReceiverSessionValid (f : FlatReceiver) : Type 0 where
   pub within : Within (f .settings .limit) (f .settings .resends)
   pub room : f .capacity ≤ imageSizeMost
-  pub standing : Standing (f .phase) (f .accepted) (f .«last_short»)
+  pub in-phase : ReceiverPhaseValid (f .phase) (f .accepted) (f .«last_short»)
