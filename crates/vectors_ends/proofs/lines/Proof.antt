@@ -25,7 +25,12 @@ lines-spec =
     (λ c. search needs)
     (λ c. search needs)
     (λ c κs. search needs)
-    (λ c. omega (arith, c .before .before .before .before .before .before .before .before .find .ensures .1, c .before .before .before .before .before .before .before .before .before .before .before .before .before .before .before .before .good .0 .1))
+    (λ c.
+    let afterLine = c .before .before .before .before in
+    let afterFind = afterLine .before .before .before .before in
+    let afterSliceKnown2 = afterFind .before .before .before .before in
+    let entry = afterSliceKnown2 .before .before .before .before in
+    omega (arith, afterFind .find .ensures .1, entry .good .0 .1))
     (λ c. search needs)
     (λ c. search needs)
     (λ c. search needs)

@@ -16,8 +16,16 @@ answer-spec =
     tie.close
     (tie.spec
     (λ c. search tests)
-    (λ c. let a = c .before .before .before .before .before .args in sym (length-take-le (a .written) (now (a .down)) (omega arith)))
+    (λ c.
+    let afterSharedSliceKnown = c .before .before .before .before in
+    let entry = afterSharedSliceKnown .before in
+    let a = entry .args in
+    sym (length-take-le (a .written) (now (a .down)) (omega arith)))
     (λ c κs. search needs)
     (λ c. search needs)
-    (λ c. let a = c .before .before .before .before .before .before .before .before .before .before .args in
-    ap (afterResponseOf (a .receiver)) (c .before .before .before .response .ensures) ∙ sym (pick-no (eqb (a .written) 0) _ _ (ne-eqb (a .written) 0 (c .before .before .before .before .before .before .if1 .left)))))
+    (λ c.
+    let afterResponse = c .before .before .before in
+    let else1 = afterResponse .before .before .before in
+    let entry = else1 .before .before .before .before in
+    let a = entry .args in
+    ap (afterResponseOf (a .receiver)) (afterResponse .response .ensures) ∙ sym (pick-no (eqb (a .written) 0) _ _ (ne-eqb (a .written) 0 (else1 .if1 .left)))))

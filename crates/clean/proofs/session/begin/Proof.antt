@@ -13,17 +13,29 @@ begin-spec =
     (λ c. search needs)
     (λ c κs. search needs)
     (λ c. search needs)
-    (λ c. let g = c .before .before .before .before .before .before .args in
-    start-refuses (g .release) (g .receiver .identity) (now (g .file)) _ (now (g .image)) (omega arith) (g .limit) (g .resends) (g .receiver) (c .before .before .before .before .before .before .pre .0)
-    (c .before .before .start .result) _ (c .before .before .start .ensures) (c .match .keys2))
+    (λ c.
+    let afterStart = c .before .before in
+    let entry = afterStart .before .before .before .before in
+    let g = entry .args in
+    start-refuses (g .release) (g .receiver .identity) (now (g .file)) _ (now (g .image)) (omega arith) (g .limit) (g .resends) (g .receiver) (entry .pre .0)
+    (afterStart .start .result) _ (afterStart .start .ensures) (c .match .keys2))
     (λ c. search needs)
-    (λ c κs. let g = c .before .before .before .before .before .before .before .before .before .before .args in
-    let b = c .before .before .before .begun .given in
-    start-on (g .release) (g .receiver .identity) (now (g .file)) _ (now (g .image)) (omega arith) (g .limit) (g .resends) (g .receiver) (c .before .before .before .before .before .before .before .before .before .before .pre .0)
-    (c .before .before .before .before .before .before .start .result) _ (c .before .before .before .before .before .before .start .ensures) (b .0 .0) (b .0 .1 .0) (b .1) (c .before .before .before .before .before .before .before .before .before .before .pre .1) (omega arith))
+    (λ c κs.
+    let afterBegun = c .before .before .before in
+    let afterStart = afterBegun .before .before .before in
+    let entry = afterStart .before .before .before .before in
+    let g = entry .args in
+    let b = afterBegun .begun .given in
+    start-on (g .release) (g .receiver .identity) (now (g .file)) _ (now (g .image)) (omega arith) (g .limit) (g .resends) (g .receiver) (entry .pre .0)
+    (afterStart .start .result) _ (afterStart .start .ensures) (b .0 .0) (b .0 .1 .0) (b .1) (entry .pre .1) (omega arith))
     (λ c. search needs)
-    (λ c. let g = c .before .before .before .before .before .before .before .before .before .before .before .before .before .before .args in
-    let b = c .before .before .before .before .before .before .before .begun .given in
-    c .before .before .before .carry .ensures
-    ∙ start-carries (g .release) (g .receiver .identity) (now (g .file)) _ (now (g .image)) (omega arith) (g .limit) (g .resends) (g .receiver) (c .before .before .before .before .before .before .before .before .before .before .before .before .before .before .pre .0)
-    (c .before .before .before .before .before .before .before .before .before .before .start .result) _ (c .before .before .before .before .before .before .before .before .before .before .start .ensures) (b .0 .0) (b .0 .1 .0) (b .1)))
+    (λ c.
+    let afterCarry = c .before .before .before in
+    let afterBegun = afterCarry .before .before .before .before in
+    let afterStart = afterBegun .before .before .before in
+    let entry = afterStart .before .before .before .before in
+    let g = entry .args in
+    let b = afterBegun .begun .given in
+    afterCarry .carry .ensures
+    ∙ start-carries (g .release) (g .receiver .identity) (now (g .file)) _ (now (g .image)) (omega arith) (g .limit) (g .resends) (g .receiver) (entry .pre .0)
+    (afterStart .start .result) _ (afterStart .start .ensures) (b .0 .0) (b .0 .1 .0) (b .1)))

@@ -24,16 +24,29 @@ carry-spec =
     (λ c κs. search needs)
     (λ c. search needs)
     (λ c. search needs)
-    (λ c. let g = c .before .before .before .before .before .before .before .before .before .before .before .before .before .before .before .before .args in
-    let l = c .before .before .before .before .before .before .before .before .before .before .before .before .loop in
+    (λ c.
+    let afterImage = c .before .before .before .before in
+    let afterTurn = afterImage .before in
+    let else1 = afterTurn .before .before .before .before in
+    let inLoop = else1 .before .before in
+    let atLoop = inLoop .before in
+    let entry = atLoop .before .before .before .before in
+    let g = entry .args in
+    let l = atLoop .loop in
     mid-turn (now (g .file)) (now (g .image)) (g .begun .indoor .plan .release) (g .begun .receiver .identity) (l .ends) (l .image) (l .up) (l .down) (l .left) (l .inv)
-    (c .before .before .before .before .before .before .before .before .before .before .before .loop-test .taken) (c .before .before .before .before .before .before .before .before .before .if1 .left) _ _ _ _ (c .before .before .before .before .before .turn .ensures))
+    (inLoop .loop-test .taken) (else1 .if1 .left) _ _ _ _ (afterTurn .turn .ensures))
     (λ c. search needs)
-    (λ c. let g = c .before .before .before .before .before .before .before .args in
-    let l = c .before .before .before .loop in
+    (λ c.
+    let atLoop = c .before .before .before in
+    let entry = atLoop .before .before .before .before in
+    let g = entry .args in
+    let l = atLoop .loop in
     mid-size (now (g .file)) (now (g .image)) (g .begun .indoor .plan .release) (g .begun .receiver .identity) (l .ends) (l .image) (l .up) (l .down) (l .left) (l .inv))
     (λ c. search needs)
-    (λ c. let g = c .before .before .before .before .before .before .before .args in
-    let l = c .before .before .before .loop in
+    (λ c.
+    let atLoop = c .before .before .before in
+    let entry = atLoop .before .before .before .before in
+    let g = entry .args in
+    let l = atLoop .loop in
     mid-rests (now (g .file)) (now (g .image)) (g .begun .indoor .plan .release) (g .begun .receiver .identity) (l .ends) (l .image) (l .up) (l .down) (l .left) (l .inv)
     (⊎-elim (λ x. inl (omega arith)) (λ x. inr (omega (arith, x))) (c .before .before .loop-test .came))))

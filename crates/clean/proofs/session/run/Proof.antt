@@ -18,18 +18,29 @@ run-spec =
     (λ c κs. search needs)
     (λ c. search needs)
     (λ c. search needs)
-    (λ c. let g = c .before .before .before .before .before .args in
-    refused-29 (g .limit) (g .resends) (g .identity) (g .release) (now (g .file)) (now (g .image)) (sym (c .before .before .start .ensures) ∙ c .enum-told .given .1))
-    (λ c κs. let g = c .before .before .before .before .before .before .before .args in
-    let good = c .before .before .before .before .before .before .before .good .1 .1 in
+    (λ c.
+    let afterStart = c .before .before in
+    let entry = afterStart .before .before .before in
+    let g = entry .args in
+    refused-29 (g .limit) (g .resends) (g .identity) (g .release) (now (g .file)) (now (g .image)) (sym (afterStart .start .ensures) ∙ c .enum-told .given .1))
+    (λ c κs.
+    let afterStart = c .before .before .before .before in
+    let entry = afterStart .before .before .before in
+    let g = entry .args in
+    let good = entry .good .1 .1 in
     let b = c .before .before .started .given in
-    let made = sym (c .before .before .before .before .start .ensures) ∙ b .1 in
+    let made = sym (afterStart .start .ensures) ∙ b .1 in
     let same = same-identity (g .limit) (g .resends) (g .identity) (g .release) (now (g .file)) (now (g .image)) (b .0 .0) made in (
       subst (λ (i : Identity). receiverStartOf (g .limit) (g .resends) i (length (now (g .image))) ≡ Made (b .0 .0)) (sym same) made,
       subst (Wide (g .release)) (sym same) (values-wide (g .release) (g .identity) _ _ (good .1 .0) (good .0)),
     ))
     (λ c. search needs)
-    (λ c. let g = c .before .before .before .before .before .before .before .before .before .before .args in
-    let b = c .before .before .before .before .before .started .given in
-    c .before .before .begin .ensures
-    ∙ made-begun (g .limit) (g .resends) (g .identity) (g .release) (now (g .file)) (now (g .image)) (b .0 .0) (sym (c .before .before .before .before .before .before .before .start .ensures) ∙ b .1)))
+    (λ c.
+    let afterBegin = c .before .before in
+    let afterStarted = afterBegin .before .before .before in
+    let afterStart = afterStarted .before .before in
+    let entry = afterStart .before .before .before in
+    let g = entry .args in
+    let b = afterStarted .started .given in
+    afterBegin .begin .ensures
+    ∙ made-begun (g .limit) (g .resends) (g .identity) (g .release) (now (g .file)) (now (g .image)) (b .0 .0) (sym (afterStart .start .ensures) ∙ b .1)))

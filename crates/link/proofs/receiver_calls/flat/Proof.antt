@@ -8,4 +8,8 @@ flat-spec =
     (tie.spec
     (λ c κs. search needs)
     (λ c κs. search needs)
-    (λ c. let kept = c .before .before .before .before .before .before .pre in rw (c .before .before .pack .ensures, c .answer-number .ensures, kept .0, kept .1, kept .2)))
+    (λ c.
+    let afterPack = c .before .before in
+    let entry = afterPack .before .before .before .before in
+    let kept = entry .pre in
+    rw (afterPack .pack .ensures, c .answer-number .ensures, kept .0, kept .1, kept .2)))

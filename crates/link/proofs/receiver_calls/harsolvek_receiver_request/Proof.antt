@@ -16,9 +16,19 @@ harsolvek-receiver-request-spec =
     (λ c κs. search needs)
     (λ c κs. search needs)
     (λ c κs. search needs)
-    (λ c κs. rw (ap (λ (x : Effect). x .outcome .session) (c .before .before .before .before .request .ensures)) (request-keeps _ _ (c .before .before .before .before .before .before .before .before .unpack .ensures) _ _ _ _ _))
+    (λ c κs.
+    let afterRequest = c .before .before .before .before in
+    let afterUnpack = afterRequest .before .before .before .before in
+    rw (ap (λ (x : Effect). x .outcome .session) (afterRequest .request .ensures)) (request-keeps _ _ (afterUnpack .unpack .ensures) _ _ _ _ _))
     (λ c. search needs)
     (λ c. search needs)
-    (λ c. rw (c .flat .ensures, ← (c .before .before .before .before .before .before .before .before .before .before .before .is-session .ensures), c .before .before .before .before .before .before .before .before .before .before .if1 .taken, ← (c .before .before .before .before .before .before .before .before .before .unpack .ensures), ← (c .before .before .before .before .before .before .before .before .verdict-of .ensures)) (ap flatReceiverRequested (c .before .before .before .before .before .request .ensures)))
+    (λ c.
+    let afterImage = c .before .before .before .before in
+    let afterRequest = afterImage .before in
+    let afterVerdictOf = afterRequest .before .before .before in
+    let afterUnpack = afterVerdictOf .before in
+    let then1 = afterUnpack .before in
+    let afterIsSession = then1 .before in
+    rw (c .flat .ensures, ← (afterIsSession .is-session .ensures), then1 .if1 .taken, ← (afterUnpack .unpack .ensures), ← (afterVerdictOf .verdict-of .ensures)) (ap flatReceiverRequested (afterRequest .request .ensures)))
     (λ c κs. search needs)
     (λ c. rw (c .no-session .ensures, ← (c .before .before .is-session .ensures), c .before .if1 .left)))

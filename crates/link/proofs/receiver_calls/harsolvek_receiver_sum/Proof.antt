@@ -14,5 +14,8 @@ harsolvek-receiver-sum-spec =
     (λ c κs. search needs)
     (λ c κs. search needs)
     (λ c κs. search needs)
-    (λ c. rw (← (c .before .before .before .before .before .is-session .ensures), c .before .before .before .before .if1 .taken, c .value .ensures, c .before .summed-number .ensures, c .before .before .sum .ensures, c .before .before .before .unpack .ensures))
+    (λ c.
+    let then1 = c .before .before .before .before in
+    let afterIsSession = then1 .before in
+    rw (← (afterIsSession .is-session .ensures), then1 .if1 .taken, c .value .ensures, c .before .summed-number .ensures, c .before .before .sum .ensures, c .before .before .before .unpack .ensures))
     (λ c. rw (← (c .before .is-session .ensures), c .if1 .left)))

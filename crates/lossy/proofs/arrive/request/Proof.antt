@@ -14,4 +14,11 @@ request-spec =
     (λ c κs. search needs)
     (λ c. search needs)
     (λ c. search needs)
-    (λ c. let a = c .before .before .before .before .before .before .before .before .before .before .before .before .args in rw (c .roof-called .ensures, ← (c .before .before .before .before .before .before .before .message .ensures)) (ap (roofHeard (a .falling)) (c .before .before .before .before .before .request .ensures))))
+    (λ c.
+    let afterImage = c .before .before .before .before in
+    let afterRequest = afterImage .before in
+    let afterMessage = afterRequest .before .before in
+    let afterSliceKnown = afterMessage .before .before .before .before in
+    let entry = afterSliceKnown .before in
+    let a = entry .args in
+    rw (c .roof-called .ensures, ← (afterMessage .message .ensures)) (ap (roofHeard (a .falling)) (afterRequest .request .ensures))))

@@ -14,4 +14,9 @@ response-spec =
     (λ c κs. search needs)
     (λ c κs. search needs)
     (λ c. search needs)
-    (λ c. let a = c .before .before .before .before .before .before .before .before .before .args in rw (c .indoor-called .ensures, ← (c .before .before .before .before .before .message .ensures)) (ap (indoorsLeft (a .rising)) (c .before .before .before .response .ensures))))
+    (λ c.
+    let afterResponse = c .before .before .before in
+    let afterMessage = afterResponse .before .before in
+    let entry = afterMessage .before .before .before .before in
+    let a = entry .args in
+    rw (c .indoor-called .ensures, ← (afterMessage .message .ensures)) (ap (indoorsLeft (a .rising)) (afterResponse .response .ensures))))

@@ -23,8 +23,21 @@ carry-spec =
     (λ c. search needs)
     (λ c. search needs)
     (λ c. search needs)
-    (λ c. rw (← (c .before .before .before .before .before .before .before .before .before .before .before .before .goes .ensures), c .before .before .before .before .before .before .before .before .before .before .fate .given .1) (c .before .before .before .before .carry-request .ensures ∙ sym (pick-yes _ _ _ (c .before .before .before .before .before .before .before .before .if1 .taken))))
+    (λ c.
+    let afterCarryRequest = c .before .before .before .before in
+    let then1 = afterCarryRequest .before .before .before .before in
+    let afterFate = then1 .before .before in
+    let afterGoes = afterFate .before .before in
+    rw (← (afterGoes .goes .ensures), afterFate .fate .given .1) (afterCarryRequest .carry-request .ensures ∙ sym (pick-yes _ _ _ (then1 .if1 .taken))))
     (λ c κs. search needs)
     (λ c. search needs)
     (λ c. search needs)
-    (λ c. let a = c .before .before .before .before .before .before .before .before .before .before .before .before .before .before .args in rw (← (c .before .before .before .before .before .before .before .before .before .goes .ensures), c .before .before .before .before .before .before .before .fate .given .1) (ap (λ (b : Both Carried). left b (now (a .image))) (c .before .before .carry-response .ensures) ∙ sym (pick-no _ _ _ (c .before .before .before .before .before .if1 .left)))))
+    (λ c.
+    let afterCarryResponse = c .before .before in
+    let else1 = afterCarryResponse .before .before .before in
+    let afterFate = else1 .before .before in
+    let afterGoes = afterFate .before .before in
+    let afterSharedSliceKnown = afterGoes .before .before .before .before in
+    let entry = afterSharedSliceKnown .before in
+    let a = entry .args in
+    rw (← (afterGoes .goes .ensures), afterFate .fate .given .1) (ap (λ (b : Both Carried). left b (now (a .image))) (afterCarryResponse .carry-response .ensures) ∙ sym (pick-no _ _ _ (else1 .if1 .left)))))

@@ -14,5 +14,10 @@ carry-request-spec =
     (λ c κs. search needs)
     (λ c. search needs)
     (λ c. search needs)
-    (λ c. let a = c .before .before .before .before .before .before .before .before .before .before .before .before .before .before .args in
-    rw (c .outcome .ensures, c .before .behind .ensures) (ap (requestCarriedOf (a .ends) (a .going) (a .stays) (now (a .up))) (c .before .before .before .before .before .before .before .request .ensures))))
+    (λ c.
+    let afterDown = c .before .before .before .before in
+    let afterRequest = afterDown .before .before .before in
+    let afterSliceKnown2 = afterRequest .before .before .before .before in
+    let entry = afterSliceKnown2 .before .before .before in
+    let a = entry .args in
+    rw (c .outcome .ensures, c .before .behind .ensures) (ap (requestCarriedOf (a .ends) (a .going) (a .stays) (now (a .up))) (afterRequest .request .ensures))))

@@ -13,5 +13,10 @@ carry-response-spec =
     (λ c κs. search needs)
     (λ c κs. search needs)
     (λ c. search needs)
-    (λ c. let a = c .before .before .before .before .before .before .before .before .before .before .before .args in
-    rw (c .outcome .ensures, c .before .behind .ensures) (ap (responseCarriedOf (a .ends) (a .going) (a .stays) (now (a .down))) (c .before .before .before .before .before .response .ensures))))
+    (λ c.
+    let afterBehind = c .before in
+    let afterResponse = afterBehind .before .before .before .before in
+    let afterSliceKnown = afterResponse .before .before .before .before in
+    let entry = afterSliceKnown .before .before in
+    let a = entry .args in
+    rw (c .outcome .ensures, afterBehind .behind .ensures) (ap (responseCarriedOf (a .ends) (a .going) (a .stays) (now (a .down))) (afterResponse .response .ensures))))

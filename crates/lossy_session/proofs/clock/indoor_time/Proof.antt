@@ -13,4 +13,8 @@ indoor-time-spec =
     (λ c κs. search needs)
     (λ c κs. search needs)
     (λ c. search needs)
-    (λ c. let a = c .before .before .before .before .before .before .before .args in rw (c .indoor-called .ensures) (ap (indoorsLeft (a .rising)) (c .before .before .before .time .ensures))))
+    (λ c.
+    let afterTime = c .before .before .before in
+    let entry = afterTime .before .before .before .before in
+    let a = entry .args in
+    rw (c .indoor-called .ensures) (ap (indoorsLeft (a .rising)) (afterTime .time .ensures))))

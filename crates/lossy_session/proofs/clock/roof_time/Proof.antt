@@ -12,4 +12,8 @@ roof-time-spec =
     (λ c κs. search needs)
     (λ c κs. search needs)
     (λ c. search needs)
-    (λ c. let a = c .before .before .before .before .before .before .args in rw (c .roof-called .ensures) (ap (roofTimed (a .falling)) (c .before .before .before .time .ensures))))
+    (λ c.
+    let afterTime = c .before .before .before in
+    let entry = afterTime .before .before .before in
+    let a = entry .args in
+    rw (c .roof-called .ensures) (ap (roofTimed (a .falling)) (afterTime .time .ensures))))

@@ -17,7 +17,14 @@ same-spec =
     (λ c. let a = c .before .before .before .before .args in
     tells (a .accepted) (now (a .image)) (now (a .file)) false (λ e. absurd (true≢false (sym e)))
     (λ s. let l = length-take (length (now (a .file))) (now (a .image)) in let k = ap length (s .1) in absurd (omega (arith, l, k, c .if2 .taken))))
-    (λ c. let a = c .before .before .before .before .before .args in sym (length-take-le (length (now (a .file))) (now (a .image)) (c .before .if2 .left)))
+    (λ c.
+    let else2 = c .before in
+    let entry = else2 .before .before .before .before in
+    let a = entry .args in
+    sym (length-take-le (length (now (a .file))) (now (a .image)) (else2 .if2 .left)))
     (λ c κs. search needs)
-    (λ c. let a = c .before .before .before .before .before .before .args in
-    tells (a .accepted) (now (a .image)) (now (a .file)) _ (λ e. (c .before .before .before .if1 .left, c .same .ensures .0 e)) (λ s. c .same .ensures .1 (s .1))))
+    (λ c.
+    let else1 = c .before .before .before in
+    let entry = else1 .before .before .before in
+    let a = entry .args in
+    tells (a .accepted) (now (a .image)) (now (a .file)) _ (λ e. (else1 .if1 .left, c .same .ensures .0 e)) (λ s. c .same .ensures .1 (s .1))))

@@ -14,6 +14,9 @@ pass-spec =
     (λ c κs. search needs)
     (λ c. search needs)
     (λ c. search needs)
-    (λ c. let first = c .before .before .before .before .before .before .before .roof-time .ensures in
-    let second = c .before .before .before .indoor-time .ensures in
+    (λ c.
+    let afterIndoorTime = c .before .before .before in
+    let afterRoofTime = afterIndoorTime .before .before .before .before in
+    let first = afterRoofTime .roof-time .ensures in
+    let second = afterIndoorTime .indoor-time .ensures in
     rw (c .outcome .ensures, answers second, leaves second, answers first, leaves first)))

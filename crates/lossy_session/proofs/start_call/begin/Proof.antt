@@ -11,4 +11,8 @@ begin-spec =
     (λ c κs. search needs)
     (λ c κs. search needs)
     (λ c. search needs)
-    (λ c. let a = c .before .before .before .before .before .before .before .args in rw (c .joined .ensures) (ap (bothBegunOf (a .receiver)) (c .before .before .before .start .ensures))))
+    (λ c.
+    let afterStart = c .before .before .before in
+    let entry = afterStart .before .before .before .before in
+    let a = entry .args in
+    rw (c .joined .ensures) (ap (bothBegunOf (a .receiver)) (afterStart .start .ensures))))

@@ -15,4 +15,8 @@ start-spec =
     (λ c. rw (c .before .before .started-number .ensures, ← (c .before .before .before .start .ensures), c .enum-told .given .1))
     (λ c κs. search needs)
     (λ c. search needs)
-    (λ c. rw (← (c .before .before .before .before .before .before .before .before .start .ensures), c .before .before .before .before .before .made .given .1) (c .before .before .begin .ensures)))
+    (λ c.
+    let afterBegin = c .before .before in
+    let afterMade = afterBegin .before .before .before in
+    let afterStart = afterMade .before .before .before in
+    rw (← (afterStart .start .ensures), afterMade .made .given .1) (afterBegin .begin .ensures)))

@@ -16,4 +16,10 @@ digits-spec =
     (λ c κs. search needs)
     (λ c κs. search needs)
     (λ c κs. search needs)
-    (λ c. rw (c .digit8 .ensures, c .before .digit7 .ensures, c .before .before .digit6 .ensures, c .before .before .before .digit5 .ensures, c .before .before .before .before .digit4 .ensures, c .before .before .before .before .before .digit3 .ensures, c .before .before .before .before .before .before .digit2 .ensures, c .before .before .before .before .before .before .before .digit .ensures) (sym (hex-eight (c .before .before .before .before .before .before .before .before .args .value)))))
+    (λ c.
+    let afterDigit4 = c .before .before .before .before in
+    let afterDigit3 = afterDigit4 .before in
+    let afterDigit2 = afterDigit3 .before in
+    let afterDigit = afterDigit2 .before in
+    let entry = afterDigit .before in
+    rw (c .digit8 .ensures, c .before .digit7 .ensures, c .before .before .digit6 .ensures, c .before .before .before .digit5 .ensures, afterDigit4 .digit4 .ensures, afterDigit3 .digit3 .ensures, afterDigit2 .digit2 .ensures, afterDigit .digit .ensures) (sym (hex-eight (entry .args .value)))))

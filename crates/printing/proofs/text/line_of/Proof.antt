@@ -16,5 +16,9 @@ line-of-spec =
     (λ c κs. search needs)
     (λ c κs. search needs)
     (λ c κs. search needs)
-    (λ c. let e = c .before .before .before .tail-of .ensures in let n = tail-short (c .before .before .before .before .before .args .number) in let l : c .before .before .before .tail-of .result .len ≡ length (tailOf (c .before .before .before .before .before .args .number)) = ap (λ (t : Tail). t .len) e in omega arith)
+    (λ c.
+    let afterTailOf = c .before .before .before in
+    let entry = afterTailOf .before .before in
+    let e = afterTailOf .tail-of .ensures in
+    let n = tail-short (entry .args .number) in let l : afterTailOf .tail-of .result .len ≡ length (tailOf (entry .args .number)) = ap (λ (t : Tail). t .len) e in omega arith)
     (λ c. rw (c .before .joined .ensures, c .before .before .before .tail-of .ensures, c .before .before .before .before .digits .ensures) (line-joined _ _)))

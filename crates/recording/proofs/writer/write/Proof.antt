@@ -16,8 +16,20 @@ write-spec =
     (tie.spec
     (λ c. search tests)
     (λ c κs. search needs)
-    (λ c. let f = nine-fits (c .before .before .before .before .before .args .«record») (c .before .before .nine-of .result) (c .before .before .nine-of .ensures) in let room : length (c .before .before .nine-of .result .bytes) ≡ 9 = search needs in omega arith)
-    (λ c. let f = nine-fits (c .before .before .before .before .before .before .args .«record») (c .before .before .before .nine-of .result) (c .before .before .before .nine-of .ensures) in let room : length (c .before .before .before .nine-of .result .bytes) ≡ 9 = search needs in sym (length-take-le _ _ (omega arith)))
+    (λ c.
+    let afterNineOf = c .before .before in
+    let entry = afterNineOf .before .before .before in
+    let f = nine-fits (entry .args .«record») (afterNineOf .nine-of .result) (afterNineOf .nine-of .ensures) in
+    let room : length (afterNineOf .nine-of .result .bytes) ≡ 9 = search needs in omega arith)
+    (λ c.
+    let afterNineOf = c .before .before .before in
+    let entry = afterNineOf .before .before .before in
+    let f = nine-fits (entry .args .«record») (afterNineOf .nine-of .result) (afterNineOf .nine-of .ensures) in
+    let room : length (afterNineOf .nine-of .result .bytes) ≡ 9 = search needs in sym (length-take-le _ _ (omega arith)))
     (λ c κs. search needs)
     (λ c. search needs)
-    (λ c. wrote (c .before .before .before .before .before .before .before .before .before .args .«record») (c .before .before .before .before .before .before .nine-of .result) (c .before .before .before .before .before .before .nine-of .ensures) _ _ _ (search needs) (c .before .before .put .ensures)))
+    (λ c.
+    let afterPut = c .before .before in
+    let afterNineOf = afterPut .before .before .before .before in
+    let entry = afterNineOf .before .before .before in
+    wrote (entry .args .«record») (afterNineOf .nine-of .result) (afterNineOf .nine-of .ensures) _ _ _ (search needs) (afterPut .put .ensures)))

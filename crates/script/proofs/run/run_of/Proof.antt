@@ -18,4 +18,7 @@ run-of-spec =
     (λ c. rw (← c .before .before .byte-of .ensures, c .enum-told .given .1) (search tests))
     (λ c κs. search needs)
     (λ c κs. search needs)
-    (λ c. rw (c .times-of .ensures, c .before .from .ensures, ← c .before .before .before .before .before .byte-of .ensures, c .before .before .before .found .given .1) (search tests)))
+    (λ c.
+    let afterFound = c .before .before .before in
+    let afterByteOf = afterFound .before .before in
+    rw (c .times-of .ensures, c .before .from .ensures, ← afterByteOf .byte-of .ensures, afterFound .found .given .1) (search tests)))

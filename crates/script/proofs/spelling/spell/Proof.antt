@@ -28,22 +28,32 @@ spell-spec =
     (λ c. search needs)
     (λ c κs. search needs)
     (λ c.
-    let l = c .before .before .before .before .before .before in
-    let a = l .before .before .before .args in
-    c .nothing .ensures ∙ mid-other (now (a .words)) (l .loop .bytes) (l .loop .len) (l .loop .at) (l .loop .inv) (c .before .before .before .before .before .loop-test .taken) (ap byteRunOf (sym (c .before .before .before .before .word-at .ensures .0)) ∙ sym (c .before .before .before .run-of .ensures) ∙ c .before .enum-told .given .1))
+    let afterWordAt = c .before .before .before .before in
+    let inLoop = afterWordAt .before in
+    let atLoop = inLoop .before in
+    let entry = atLoop .before .before .before in
+    let a = entry .args in
+    c .nothing .ensures ∙ mid-other (now (a .words)) (atLoop .loop .bytes) (atLoop .loop .len) (atLoop .loop .at) (atLoop .loop .inv) (inLoop .loop-test .taken) (ap byteRunOf (sym (afterWordAt .word-at .ensures .0)) ∙ sym (c .before .before .before .run-of .ensures) ∙ c .before .enum-told .given .1))
     (λ c κs. search needs)
     (λ c κs.
-    let l = c .before .before .before .before .before .before .before .before in
-    let a = l .before .before .before .args in
-    (search needs, mid-room (now (a .words)) (l .loop .bytes) (l .loop .len) (l .loop .at) (l .loop .inv)))
+    let atMatchKeys1 = c .before .before .before .before in
+    let atLoop = atMatchKeys1 .before .before .before .before in
+    let entry = atLoop .before .before .before in
+    let a = entry .args in
+    (search needs, mid-room (now (a .words)) (atLoop .loop .bytes) (atLoop .loop .len) (atLoop .loop .at) (atLoop .loop .inv)))
     (λ c. search needs)
     (λ c. search needs)
     (λ c. search needs)
     (λ c. search needs)
     (λ c.
-    let l = c .before .before .before .before .before .before .before .before .before in
-    let a = l .before .before .before .args in
-    mid-more (now (a .words)) (l .loop .bytes) (l .loop .len) (l .loop .at) (l .loop .inv) _ _ _ _ _ (c .before .before .before .before .before .before .before .before .loop-test .taken) (ap byteRunOf (sym (c .before .before .before .before .before .before .before .word-at .ensures .0)) ∙ sym (c .before .before .before .before .before .before .run-of .ensures) ∙ c .before .before .before .before .run .given .1) (c .before .before .before .before .before .before .before .word-at .ensures .0) (c .before .before .fitting .ensures) (c .fill .ensures))
+    let afterRun = c .before .before .before .before in
+    let afterRunOf = afterRun .before .before in
+    let afterWordAt = afterRunOf .before in
+    let inLoop = afterWordAt .before in
+    let atLoop = inLoop .before in
+    let entry = atLoop .before .before .before in
+    let a = entry .args in
+    mid-more (now (a .words)) (atLoop .loop .bytes) (atLoop .loop .len) (atLoop .loop .at) (atLoop .loop .inv) _ _ _ _ _ (inLoop .loop-test .taken) (ap byteRunOf (sym (afterWordAt .word-at .ensures .0)) ∙ sym (afterRunOf .run-of .ensures) ∙ afterRun .run .given .1) (afterWordAt .word-at .ensures .0) (c .before .before .fitting .ensures) (c .fill .ensures))
     (λ c.
     let l = c .before in
     let a = l .before .before .before .args in

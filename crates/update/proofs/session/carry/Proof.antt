@@ -22,7 +22,10 @@ heading-requires : tie.Need-heading-requires Inv-loop μ-loop
 heading-requires c κs = search needs
 
 loop-holds : tie.Need-loop-holds Inv-loop μ-loop
-loop-holds c = record { over = c .before .before .before .before .before .before .pre; bound = omega arith; size = refl; rising = refl; falling = refl }
+loop-holds c =
+    let afterSliceKnown = c .before .before .before .before in
+    let entry = afterSliceKnown .before .before in
+    record { over = entry .pre; bound = omega arith; size = refl; rising = refl; falling = refl }
 
 rests-requires : tie.Need-rests-requires Inv-loop μ-loop
 rests-requires c κs = search needs
@@ -37,13 +40,31 @@ at-requires : tie.Need-at-requires Inv-loop μ-loop
 at-requires c κs = search needs
 
 step-requires : tie.Need-step-requires Inv-loop μ-loop
-step-requires c κs = c .before .before .before .before .before .before .before .before .before .loop .inv .over
+step-requires c κs =
+    let afterClock = c .before .before .before .before in
+    let inLoop = afterClock .before .before .before .before in
+    let atLoop = inLoop .before in
+    atLoop .loop .inv .over
 
 loop-less : tie.Need-loop-less Inv-loop μ-loop
-loop-less c = omega (arith, c .before .before .before .before .before .before .before .before .before .before .before .before .before .before .before .before .before .before .loop-test .taken)
+loop-less c =
+    let afterDown = c .before .before .before .before in
+    let afterImage = afterDown .before .before .before .before in
+    let afterStepArg = afterImage .before .before .before .before in
+    let else1 = afterStepArg .before .before .before .before in
+    let inLoop = else1 .before .before in
+    omega (arith, inLoop .loop-test .taken)
 
 loop-again : tie.Need-loop-again Inv-loop μ-loop
-loop-again c = let i = c .before .before .before .before .before .before .before .before .before .before .before .before .before .before .before .before .before .before .before .loop .inv in record { over = c .before .before .before .before .before .before .before .before .before .step .ensures; bound = omega (arith, c .before .before .before .before .before .before .before .before .before .before .before .before .before .before .before .before .before .before .loop-test .taken); size = omega (arith, i .size); rising = omega (arith, i .rising); falling = omega (arith, i .falling) }
+loop-again c =
+    let afterDown = c .before .before .before .before in
+    let afterImage = afterDown .before .before .before .before in
+    let afterStep = afterImage .before in
+    let afterAt = afterStep .before .before .before .before in
+    let afterRests = afterAt .before .before .before .before in
+    let inLoop = afterRests .before in
+    let atLoop = inLoop .before in
+    let i = atLoop .loop .inv in record { over = afterStep .step .ensures; bound = omega (arith, inLoop .loop-test .taken); size = omega (arith, i .size); rising = omega (arith, i .rising); falling = omega (arith, i .falling) }
 
 same-length : tie.Need-same-length Inv-loop μ-loop
 same-length c = c .before .loop .inv .size

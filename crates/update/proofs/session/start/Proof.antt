@@ -14,10 +14,14 @@ start-spec =
     (λ c. search needs)
     (λ c. search needs)
     (λ c. search needs)
-    (λ c κs. let a = c .before .before .before .before .before .before .before .before .before .before .before .args in
-    let good = c .before .before .before .before .before .before .before .before .before .before .before .good in
+    (λ c κs.
+    let afterStarted = c .before .before .before .before in
+    let afterStart = afterStarted .before .before .before in
+    let entry = afterStart .before .before .before .before in
+    let a = entry .args in
+    let good = entry .good in
     start-over _ _ (a .identity) (a .release) (now (a .file)) (now (a .image)) _ _ (values-wide (a .release) (a .identity) _ _ (good .1 .0) (good .0)) _ _
-    (rw (c .before .before .before .before .started .given .1) at (c .before .before .before .before .before .before .before .start .ensures)))
+    (rw (afterStarted .started .given .1) at (afterStart .start .ensures)))
     (λ c. search needs)
     (λ c κs. search needs)
     (λ c. search needs)

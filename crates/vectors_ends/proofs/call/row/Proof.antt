@@ -21,7 +21,13 @@ row-spec =
     (λ c κs. search needs)
     (λ c. search needs)
     (λ c κs. search needs)
-    (λ c. omega (arith, c .before .before .before .before .before .before .before .before .loop-test .taken, c .before .before .before .before .before .before .before .before .before .before .before .before .before .before .before .before .before .before .before .fits .count))
+    (λ c.
+    let afterBlock2 = c .before .before .before .before in
+    let inLoop = afterBlock2 .before .before .before .before in
+    let afterSliceKnown3 = inLoop .before .before .before .before in
+    let afterBlockArg = afterSliceKnown3 .before .before .before .before in
+    let entry = afterBlockArg .before .before .before in
+    omega (arith, inLoop .loop-test .taken, entry .fits .count))
     (λ c. search needs)
     (λ c. search needs)
     (λ c. search needs)

@@ -13,7 +13,15 @@ is-session-spec =
     (λ c κs. search needs)
     (λ c. search (← (c .before .before .new .ensures), ← (c .before .number .ensures), tests))
     (λ c. search (← (c .before .before .before .before .new .ensures), ← (c .before .before .before .number .ensures), tests))
-    (λ c. search (← (c .before .before .before .before .before .before .new .ensures), ← (c .before .before .before .before .before .number .ensures), tests))
+    (λ c.
+    let else1 = c .before .before .before .before in
+    let afterNumber = else1 .before in
+    let afterNew = afterNumber .before in
+    search (← (afterNew .new .ensures), ← (afterNumber .number .ensures), tests))
     (λ c κs. search needs)
     (λ c κs. search needs)
-    (λ c. search (← (c .before .before .before .before .before .before .before .before .new .ensures), ← (c .before .before .before .before .before .before .before .number .ensures), c .before .phase-numbers .ensures, c .is-phase .ensures, tests)))
+    (λ c.
+    let else2 = c .before .before .before .before in
+    let afterNumber = else2 .before .before .before in
+    let afterNew = afterNumber .before in
+    search (← (afterNew .new .ensures), ← (afterNumber .number .ensures), c .before .phase-numbers .ensures, c .is-phase .ensures, tests)))

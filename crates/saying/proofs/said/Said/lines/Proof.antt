@@ -33,9 +33,16 @@ lines-spec =
     (λ c κs. search needs)
     (λ c. search needs)
     (λ c. search needs)
-    (λ c. let l = c .before .before .before in let a = l .before .before .before .before .before .args in (search needs, steps-more characterOf (now (a .s)) (l .loop .i) (l .loop .said) _ (c .before .before .loop-test .taken) (c .character .ensures) ∙ l .loop .inv .1))
     (λ c.
-    let l = c .before in
-    let a = l .before .before .before .before .before .args in
-    let said = sym (steps-all characterOf (now (a .s)) (l .loop .i) (l .loop .said) (c .loop-test .left)) ∙ l .loop .inv .1 in
-    rw (said, l .before .text2 .ensures) (search tests)))
+    let atLoop = c .before .before .before in
+    let afterSharedSliceKnown = atLoop .before .before .before .before in
+    let entry = afterSharedSliceKnown .before in
+    let a = entry .args in
+    (search needs, steps-more characterOf (now (a .s)) (atLoop .loop .i) (atLoop .loop .said) _ (c .before .before .loop-test .taken) (c .character .ensures) ∙ atLoop .loop .inv .1))
+    (λ c.
+    let atLoop = c .before in
+    let afterText2 = atLoop .before in
+    let entry = afterText2 .before .before .before .before in
+    let a = entry .args in
+    let said = sym (steps-all characterOf (now (a .s)) (atLoop .loop .i) (atLoop .loop .said) (c .loop-test .left)) ∙ atLoop .loop .inv .1 in
+    rw (said, afterText2 .text2 .ensures) (search tests)))

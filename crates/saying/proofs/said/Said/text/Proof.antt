@@ -15,14 +15,20 @@ text-spec =
     (λ c κs. search needs)
     (λ c. search needs)
     (λ c.
-    let a = c .before .before .before .before .before .before .before .args in
+    let afterPut = c .before .before .before in
+    let entry = afterPut .before .before .before .before in
+    let a = entry .args in
     let room : length (a .self .bytes) ≡ 4096 = search needs in
-    let fits = stored-fits (a .self .bytes) (a .self .len) (now (a .s)) _ (c .before .before .before .put .ensures) (c .enum-told .given .1) in
+    let fits = stored-fits (a .self .bytes) (a .self .len) (now (a .s)) _ (afterPut .put .ensures) (c .enum-told .given .1) in
     record { fits = omega arith })
     (λ c. search needs)
     (λ c.
-    let a = c .before .before .before .before .before .before .before .args in
-    text-added (a .self .bytes) (a .self .len) (now (a .s)) _ (c .before .before .before .put .ensures) (c .enum-told .given .1))
+    let afterPut = c .before .before .before in
+    let entry = afterPut .before .before .before .before in
+    let a = entry .args in
+    text-added (a .self .bytes) (a .self .len) (now (a .s)) _ (afterPut .put .ensures) (c .enum-told .given .1))
     (λ c.
-    let a = c .before .before .before .before .before .before .before .args in
-    text-kept (a .self .bytes) (a .self .len) (now (a .s)) _ (c .before .before .before .put .ensures) (c .enum-told2 .given .1)))
+    let afterPut = c .before .before .before in
+    let entry = afterPut .before .before .before .before in
+    let a = entry .args in
+    text-kept (a .self .bytes) (a .self .len) (now (a .s)) _ (afterPut .put .ensures) (c .enum-told2 .given .1)))
