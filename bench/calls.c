@@ -21,7 +21,7 @@ static struct {
     bench_turn *turn;
     int call;
     unsigned long turns;
-    bench_answer before; /* what stands for the answer until the call has given it */
+    bench_answer before; /* what the answer is set to before the call */
     bench_answer due;
 } order;
 
@@ -104,7 +104,7 @@ static const bench_row *row_named(const char *name)
     return NULL;
 }
 
-/* In the empty loop the answer that is due stands already; otherwise one that no call gives. */
+/* The answer is set to one that no call gives; for the empty loop to the one that is due. */
 static void set_order(const bench_row *row, int is_second, int is_empty)
 {
     const bench_answer none = {-1, 0};

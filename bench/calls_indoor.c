@@ -61,7 +61,7 @@ static void second_time(int call)
     }
 }
 
-/* Both take what stands in `response`, and this is the state from which the row is then called. */
+/* Both take the message in `response`; the row's call is then made from the state this leaves. */
 static void take(void)
 {
     library_response(1);

@@ -103,7 +103,7 @@ static void second_sum(int call)
     }
 }
 
-/* Both take what stands in `request`, and this is the state from which the row is then called. */
+/* Both take the message in `request`; the row's call is then made from the state this leaves. */
 static void take(void)
 {
     library_request(1);
@@ -157,7 +157,7 @@ static void ready_data(void)
     set_data(DUE, HARSOLVEK_BLOCK_MOST);
 }
 
-/* The same far behind. The counts are set, which saves the way there. */
+/* The same near the end of the image. The counts are set, which saves sending all blocks before. */
 static void ready_data_late(void)
 {
     enter_transfer();

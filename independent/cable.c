@@ -102,7 +102,7 @@ const char *cable_held(const cable *on, size_t length, size_t at, size_t count)
     return touched(on, lent_held, length, at, count, on->said[COMPARE_LIBRARY].written);
 }
 
-/* A call that is refused before the phase is looked at says nothing of the pair. */
+/* A call that is refused before its phase is tested does not count for the pair. */
 void cable_count(const cable *on, coverage *met, unsigned phase)
 {
     const unsigned number = on->said[COMPARE_LIBRARY].number;

@@ -11,7 +11,7 @@
 
 enum cable_kind { CABLE_MESSAGE, CABLE_TIME, CABLE_SUM, CABLE_START };
 
-/* The inputs of a call; the message's bytes stand in lent memory. */
+/* The inputs of a call; the message's bytes are in lent memory. */
 typedef struct cable_call {
     enum cable_kind kind;
     size_t memory_length;
@@ -59,13 +59,14 @@ void cable_draw_message(cable *on, choice *from, size_t (*rest)(choice *from, ui
 
 cable_pointers cable_lend(const cable *on);
 
-/* Takes what the library said, and answers its number. */
+/* Takes what the library returned, and returns its number. */
 unsigned cable_heard(cable *on, unsigned number, size_t written);
 
-/* What differs in what both said, or null. */
+/* What differs in what both returned, or null. */
 const char *cable_difference(const cable *on);
 
-/* What is wrong about what the library said on a damaged state, or null: how long a message is. */
+/* What is wrong about what the library returned on a damaged state, or null: how long a message
+ * is. */
 const char *cable_wrong(const cable *on);
 
 /* What was touched and should not have been, or null: the memory, of `length` bytes, changes only

@@ -4,7 +4,7 @@
 
 #include "harsolvek.h"
 
-/* What is wrong about the number that a damaged state gets which still is one, or null. */
+/* What is wrong about the number that a damaged state gets which is still a state, or null. */
 static const char *number_wrong(enum second_part part, unsigned number)
 {
     if (!coverage_knows(part, number)) {
@@ -13,8 +13,8 @@ static const char *number_wrong(enum second_part part, unsigned number)
     return number == HARSOLVEK_SETTINGS ? "number, for the state is one" : NULL;
 }
 
-/* A state that is none gets 29 whatever the inputs are, and comes back as it is. What another one
- * leads to no rule says, but some things hold of every state. */
+/* Numbers that are no state get 29 whatever the inputs are, and come back as they are. What other
+ * damaged numbers lead to no rule says, but some things hold of every state. */
 static int damaged_differs(compare_run *run, const compare_part *part)
 {
     unsigned number;
@@ -39,7 +39,7 @@ static int both_differ(compare_run *run, const compare_part *part, unsigned *num
     return run->what != NULL;
 }
 
-/* A refused start makes nothing: the library hands out zeros, and what stood before it goes on. */
+/* A refused start makes nothing: the library hands out zeros, and the states before it are kept. */
 static int start_differs(compare_run *run, const compare_part *part)
 {
     unsigned number;

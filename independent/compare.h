@@ -1,8 +1,8 @@
 /*
  * The comparison of any part: one call after another is made on the library and on the second
  * implementation, with the same inputs, and after each call everything is compared. Now and then
- * the library alone is called, on a copy of its state in which something is damaged. What the calls
- * of a part are, and what is compared behind one, its driver says in a struct of functions.
+ * the library alone is called, on a copy of its state in which something is damaged. The calls of a
+ * part, and what is compared after each, are in its driver, a struct of functions.
  */
 #ifndef COMPARE_H
 #define COMPARE_H
@@ -17,14 +17,14 @@ enum compare_side { COMPARE_LIBRARY, COMPARE_SECOND, COMPARE_SIDES };
 
 typedef struct compare_run {
     choice from;
-    uint64_t seed;         /* of `from`, to be told at a difference; a fed input has none */
+    uint64_t seed;         /* of `from`, to be printed at a difference; a fed input has none */
     unsigned long most;    /* of `made` */
     coverage met;          /* by the calls that both get */
     unsigned long made;    /* calls that both get */
     unsigned long damaged; /* calls on damaged states, which the library alone gets */
     int stands;            /* there are states to make calls on */
-    const char *what;      /* differs in the last call, or null */
-    int alone;             /* and it is nothing that the second one answers too */
+    const char *what;      /* what differs in the last call, or null */
+    int alone;             /* it was made on the library alone, on a damaged state that is one */
 } compare_run;
 
 /* A driver. It holds the states, the call that is drawn and its answers. A call is made on copies
@@ -53,7 +53,7 @@ typedef struct compare_part {
  * 1 at the first difference, else 0. */
 int compare(compare_run *run, const compare_part *part);
 
-/* Tells the difference at which `compare` has just ended. */
+/* Prints the difference at which `compare` has just ended. */
 void compare_tell(FILE *to, const compare_run *run, const compare_part *part);
 
 #endif

@@ -17,8 +17,8 @@ static const uint8_t receiver_numbers[] = {0, 20, 21, 22, 23, 24, 25, 26, 27, 28
 static const uint8_t indoor_numbers[] = {0, 20, 21, 27, 28, 29, 40, 41, 42, 43, 44, 45, 46};
 static const uint8_t mailbox_numbers[] = {0, 1, 2, 3, 4, 5, 6, 7, 8, 9, 29};
 
-/* In the order of enum second_part; rows in the order of the phases, or of what the mailbox
- * told. */
+/* In the order of enum second_part; rows in the order of the phases, or of the mailbox's
+ * status. */
 static const struct table tables[] = {
     {"receiver",
      {"Idle", "Transfer", "Await", "Good", NULL},

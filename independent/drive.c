@@ -6,8 +6,8 @@
  *     drive faults CALLS [SEED]            whether each fault is found, by the driver of its part
  *     drive list                           the faults
  *
- * CALLS are those that both get. A difference is told and kept, also that of one fault. The exit is
- * 0 if all is as it should be, 1 if not, 2 if it is called otherwise.
+ * CALLS are those that both get. A difference is printed and kept, also that of one fault. The exit
+ * is 0 if all is as it should be, 1 if not, 2 if it is called otherwise.
  */
 #include <inttypes.h>
 #include <string.h>
@@ -16,7 +16,7 @@
 #include "failed.h"
 #include "order.h"
 
-static compare_run run; /* only one stands at a time */
+static compare_run run; /* only one is under way at a time */
 
 static int driven(enum second_part part, const order *given)
 {
@@ -130,7 +130,7 @@ int main(int count, char **words)
 {
     order given;
     int result = 2;
-    /* What was told is to stand also if a call ends the program. */
+    /* What was printed must not be lost if a call ends the program. */
     setvbuf(stdout, NULL, _IOLBF, BUFSIZ);
     if (count == 2 && strcmp(words[1], "list") == 0) {
         return list();

@@ -1,5 +1,5 @@
 /*
- * The drivers: what `compare` is told of each part.
+ * The drivers: what `compare` is given for each part.
  */
 #ifndef DRIVE_H
 #define DRIVE_H

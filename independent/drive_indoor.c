@@ -216,8 +216,7 @@ static size_t draw_identity(choice *from, const second_indoor *state, uint8_t *b
     return 22;
 }
 
-/* 001 T5-20: bits 20 to 23 of MaxImageSize are reserved, and the noise that stands there is to be
- * ignored. */
+/* 001 T5-20: bits 20 to 23 of MaxImageSize are reserved, and the noise in them is to be ignored. */
 static size_t draw_initiate(choice *from, const second_indoor *state, uint8_t *bytes)
 {
     uint32_t length = (uint32_t)state->length;
@@ -256,8 +255,7 @@ static size_t draw_data(choice *from, const second_indoor *state, uint8_t *bytes
     return 7;
 }
 
-/* 001 T5-24: bits 1 to 7 of Flags are reserved, and the noise that stands there is to be
- * ignored. */
+/* 001 T5-24: bits 1 to 7 of Flags are reserved, and the noise in them is to be ignored. */
 static size_t draw_validate(choice *from, uint8_t *bytes)
 {
     bytes[3] = draw_wait(from);

@@ -22,7 +22,7 @@ enum { CONTROL_MOST = 9, REPORT_MOST = 300 };
 
 enum kind { WRITE, SUCCESS, FAILURE, CHANGE, FRESH };
 
-/* The inputs of one call; CONTROL's or the port's bytes stand in lent memory. */
+/* The inputs of one call; CONTROL's or the port's bytes are in lent memory. */
 typedef struct call {
     enum kind kind;
     size_t length;     /* of CONTROL or of the port's bytes */
@@ -55,11 +55,11 @@ static struct {
     second_mailbox before;
     answer said[COMPARE_SIDES];
     harsolvek_mailbox damaged; /* what the library alone is called on */
-    int no_mailbox;            /* that is none */
+    int no_mailbox;            /* `damaged` is no mailbox */
     lent bytes;
 } session;
 
-/* What the mailbox told, as CCI's bits but 1 to 7 (01, The mailbox; 000 T3-2). */
+/* The mailbox's status as CCI's bits other than 1 to 7 (01, The mailbox; 000 T3-2). */
 static uint32_t told_bits(const harsolvek_mailbox *state)
 {
     static const uint32_t bits[] = {0x00000000, 0x08000000, 0x10000000, 0x80000000,

@@ -1,6 +1,6 @@
 #include "failed.h"
 
-/* Answers whether all of it is in the file. */
+/* Returns whether all of it is in the file. */
 static int written(const char *path, void (*tell)(FILE *to, const void *failure),
                    const void *failure)
 {

@@ -1,15 +1,15 @@
 /*
- * What failed is told, and kept in a file of target/failed/, so that it is still there when the
- * output is not. independent/run makes that folder, and the programs are run from the top of the
- * repository, as the commands are that they name.
+ * What failed is printed, and kept in a file of target/failed/ for when the output is gone.
+ * independent/run makes that folder. The programs are run from the top of the repository, and so
+ * are the commands that they print.
  */
 #ifndef FAILED_H
 #define FAILED_H
 
 #include <stdio.h>
 
-/* Tells a failure on standard output and in target/failed/NAME.txt, and names the file, or that it
- * cannot be written. What a seeded fault led to, unless `fault` is 0, has that in its name. */
+/* Prints a failure on standard output and into target/failed/NAME.txt, and names the file or says
+ * that it cannot be written. The name has the number of the seeded fault, unless `fault` is 0. */
 void failed_keep(const char *name, int fault, void (*tell)(FILE *to, const void *failure),
                  const void *failure);
 

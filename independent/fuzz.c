@@ -1,6 +1,6 @@
 /*
  * The same drivers under a fuzzer: the first byte picks the part, the rest are the choices. A
- * difference is told and ends the program.
+ * difference is printed and ends the program.
  *
  * With FUZZ_STDIN it is a program that takes one input from standard input, for fuzzers that start
  * one for each input:

@@ -28,11 +28,11 @@ void lent_lay(lent *memory, uint8_t *arenas, size_t size, size_t shift);
 /* Fills `length` bytes and both guards. */
 void lent_fill(const lent *memory, size_t length, uint8_t byte);
 
-/* Hands what stands in `before` to both. */
+/* Copies `before` to both. */
 void lent_spread(const lent *memory, size_t length);
 
-/* Takes the last message out of the first `length` bytes, so that one that is only claimed to be
- * written is seen. */
+/* Fills the first `length` bytes with `byte`, so that no old message is left there and one that is
+ * only claimed to be written is seen. */
 void lent_wipe(const lent *memory, size_t length, uint8_t byte);
 
 /* Whether both copies and their guards are the same and, but for `count` bytes at `at`, as before.

@@ -8,9 +8,9 @@
  *
  * A session is one file from one indoor end to one receiver. Nothing is left over from an earlier
  * one, and the line neither adds nor alters a message. Session i is drawn from SEED + i, so that
- * `line 1 S` plays the one again that a failure names as S; it is told and kept. With `faults` the
- * harness itself breaks one thing after the other that demand 3 rests on or claims, and the exit
- * status is 0 if each is found by the check that is there for it.
+ * `line 1 S` plays the one again that a failure names as S; a failure is printed and kept. With
+ * `faults` the harness itself breaks, one after the other, the things that demand 3 rests on or
+ * claims, and the exit status is 0 if each is found by the check that is there for it.
  */
 #include <inttypes.h>
 #include <stdio.h>
@@ -70,8 +70,8 @@ static const char *check_phases(line_session *s)
     return NULL;
 }
 
-/* The file's bytes stand in the image as far as a block was ever accepted, also once the receiver
- * is back in Idle (01, The receiver's phases); behind them, what was there before the session. */
+/* The image has the file's bytes as far as a block was ever accepted, also once the receiver is
+ * back in Idle (01, The receiver's phases); after them, what was there before the session. */
 static const char *check_image(line_session *s)
 {
     const harsolvek_accepted accepted = s->receiver.accepted;

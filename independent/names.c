@@ -76,7 +76,7 @@ static const struct name names[] = {
     NAME(HARSOLVEK_INDOOR_DONE, 4),
     NAME(HARSOLVEK_INDOOR_FAILED, 5),
 
-    /* 01, The mailbox, and 8 of Numbers we answer. The told codes are the header's own. */
+    /* 01, The mailbox, and 8 of Numbers we answer. The codes of the status are the header's own. */
     NAME(HARSOLVEK_CONTROL_SIZE, 8),
     NAME(HARSOLVEK_MESSAGE_IN_SIZE, 256),
     NAME(HARSOLVEK_DATA_MOST, 255),

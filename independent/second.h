@@ -1,8 +1,8 @@
 /*
  * A second implementation of document 01's rules, written from the documents and not from the
- * proved source, to be compared with it. Its shape is another one: the state stands behind a
- * pointer, and each call is one chain of tests in document 01's own order. Every call answers
- * document 01's number.
+ * proved source, to be compared with it. Its shape is another one: a call gets a pointer to the
+ * state, and is one chain of tests in document 01's own order. Every call returns document 01's
+ * number.
  */
 #ifndef SECOND_H
 #define SECOND_H
@@ -80,7 +80,7 @@ int second_indoor_time(second_indoor *s, const uint8_t *file, size_t file_length
 
 typedef struct second_mailbox {
     unsigned connectors;
-    uint32_t cci;     /* its bits but 1 to 7, as they stand */
+    uint32_t cci;     /* its bits other than 1 to 7 */
     unsigned shown;   /* the connector shown, 0 for none */
     unsigned waiting; /* bit c - 1: a change on connector c waits */
     int on;           /* notifications */

@@ -78,8 +78,8 @@ static int take_time(indoor *here, uint64_t now)
     return wrong_call(number) ? number : 0;
 }
 
-/* The clock is read before what has arrived is taken, and the time up to there is told after it: a
- * loop that was held up counts no silence that a waiting response has ended. */
+/* The clock is read before what has arrived is taken, and the time up to there is handed over after
+ * it: a loop that was held up counts no silence that a waiting response has ended. */
 int indoor_run(indoor *here)
 {
     int result = 0;

@@ -38,7 +38,7 @@ static int happens(port *here, unsigned percent)
     return (unsigned)rand_r(&here->faults.seed) % 100 < percent;
 }
 
-/* Where the other end is gone the message is lost as well, and the next port_take tells why. */
+/* Where the other end is gone the message is lost as well, and the next port_take says so. */
 static int put(const port *here, const uint8_t *message, size_t length)
 {
     return send(here->socket, message, length, MSG_DONTWAIT | MSG_NOSIGNAL) >= 0;

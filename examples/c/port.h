@@ -2,7 +2,7 @@
  * One end's port to the cable: messages go out and come in whole, and either may be lost.
  *
  * Here the cable is a socket pair, so that both ends run on one machine. On hardware port_send,
- * port_wait and port_take stand over the port controller: GoodCRC, chunking and the PD wire are
+ * port_wait and port_take are built on the port controller: GoodCRC, chunking and the PD wire are
  * below them and no part of the library (01, The parts of the cable job).
  */
 #ifndef PORT_H
@@ -18,8 +18,8 @@
  * wait. */
 #define PORT_TICK_MS 10
 
-/* How many messages a loop takes at most before it tells the time, so that a flood of them does not
- * stop the clock. It is more than the cable holds. */
+/* How many messages a loop takes at most before it hands over the time, so that a flood of them
+ * does not stop the clock. It is more than the cable holds. */
 #define PORT_BURST 64
 
 /* How many of each hundred messages sent here the cable loses, and how many it brings twice, by a
@@ -66,9 +66,9 @@ void port_close(port *here);
 /* Milliseconds on a clock that nobody sets back. */
 uint64_t port_now(void);
 
-/* The next step on the way from `told` to a later `now`, which moves `told`. The library takes up
- * to 65,535 ms a call: a longer time, as after a sleep, is handed over step by step until `told` is
- * `now`. */
+/* The time to hand over next: `told` is the time that the library knows, and is moved on towards
+ * the later `now`. The library takes up to 65,535 ms a call, so a longer time, as after a sleep,
+ * takes several steps until `told` is `now`. */
 uint16_t port_step(uint64_t *told, uint64_t now);
 
 #endif

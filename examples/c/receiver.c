@@ -103,8 +103,8 @@ static int take_time(receiver *here, uint64_t now)
     return wrong_call(number) ? number : 0;
 }
 
-/* The clock is read before what has arrived is taken, and the time up to there is told after it: a
- * loop that was held up counts no silence that a waiting request has ended. */
+/* The clock is read before what has arrived is taken, and the time up to there is handed over after
+ * it: a loop that was held up counts no silence that a waiting request has ended. */
 int receiver_run(receiver *here)
 {
     int result = 0;

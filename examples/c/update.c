@@ -43,14 +43,14 @@
 #define OLD_VERSION 1
 #define NEW_VERSION 2
 
-/* What the receiver ends with: behind it the child hands over the image's accepted bytes. */
+/* What the child reports of the receiver at its end; the image's accepted bytes follow it. */
 typedef struct report {
     uint32_t good;
     uint32_t bytes;
     uint32_t sum;
 } report;
 
-/* A byte more than any file may have, so that one that is too long is told from the longest. */
+/* One byte more than any file may have, so that one that is too long is seen. */
 static uint8_t file[HARSOLVEK_IMAGE_MOST + 1];
 static uint8_t image[HARSOLVEK_IMAGE_MOST];
 
