@@ -69,7 +69,7 @@ module _ (release : Release) (identity : Identity) (file up memory : List ℕ) (
       (λ _ h. absurd (miss (1 ∷ 2 ∷ 3 ∷ []) 0 tt h))))
 
   module _ (limit resends : ℕ) (r : Receiver) (made : receiverStartOf limit resends (r .identity) (length memory) ≡ Rec.Made r) where
-    -- With these settings and this buffer only 46 is left.
+    -- With settings that made a receiver and a buffer of 260 bytes, the start refuses nothing but the file's length (46).
     pub start-refuses : (x : Started) (up′ : List ℕ) → left x up′ ≡ indoorStartOf limit resends release file up → NotMade x
         → left FileSize memory ≡ cleanBegunOf release identity file memory
     unfolding indoorStartedOf

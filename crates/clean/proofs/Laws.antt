@@ -1,4 +1,4 @@
--- What a whole clean session comes to, in the paper's own numbers: done exactly where the settings are legal, the file is newer and it fits;
+-- The result of a whole clean session, in the paper's own numbers: done exactly where the settings are legal, the file is newer and it fits;
 -- else the first of 29, 46, 42, 43 (demand 3).
 use Prim.Native.Nat.{ℕ, _+_, _≤_, _<_}
 use mathlib.Core.Bool.{true}
@@ -105,7 +105,7 @@ module _ (limit resends : ℕ) (identity : Identity) (release : Release) (file i
         pub run-begins : length file ≤ length image → take (length file) (ran .memory) ≡ file
         run-begins h = ap (λ (x : Left Ran). take (length file) (x .memory)) (run-done h) ∙ take-append-seam file (drop (length file) image)
 
-  -- What a session that ends done had, and what it left.
+  -- What holds wherever a session ends done: what it was started with, and what it left.
   pub record Succeeded (requests : ℕ) (left : List ℕ) : Type 0 where
     pub legal : Within limit resends
     pub room : length image ≤ 1048575
@@ -148,7 +148,7 @@ module _ (limit resends : ℕ) (identity : Identity) (release : Release) (file i
   checked-only (Che.Made settings) e room = begun-only (made-within limit resends settings e) room
   checked-only Che.Refused e room = λ requests d. absurd (settings-done requests d)
 
-  -- Done is told of no other session.
+  -- No other session ends done.
   pub done-only : Only ran
   unfolding cleanRunOf
   done-only =

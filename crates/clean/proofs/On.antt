@@ -126,7 +126,7 @@ module _ (file memory : List ℕ) (release : Release) (identity : Identity) (e :
       let most = most-requests file memory release identity (on .wide) (on .clean) in
       absurd (omega arith)
 
-  -- So many turns always suffice.
+  -- 4,100 turns always suffice.
   pub turns-suffice : turnsMost ≤ delivered → e .underway ≡ 0
   turns-suffice = goes-or-not (eqb (e .underway) 0) refl
 
@@ -168,7 +168,7 @@ module _ (file memory : List ℕ) (release : Release) (identity : Identity) (e :
         let r = rests-42 file memory release identity (on .wide) (on .clean) rest f in
         same (Failed NotNewer) 1 memory (r .1 .stands) (r .1 .requests) (r .0))
 
--- What holds at each test of the loop, with so many turns left.
+-- What holds at each test of the loop, with `remaining` turns left.
 pub record Mid (file memory : List ℕ) (release : Release) (identity : Identity) (e : Ends) (image upper lower : List ℕ) (remaining : ℕ) : Type 0 where
   pub on : On file memory release identity e image upper (turnsMost - remaining)
   pub bound : remaining ≤ turnsMost
@@ -192,7 +192,7 @@ module _ (file memory : List ℕ) (release : Release) (identity : Identity) (e :
   pub mid-size : length image ≡ length memory
   mid-size = safe file memory release identity (mid .on .wide) (mid .on .clean) .size
 
-  -- No turn is left, or the loop was left because nothing is on its way.
+  -- The loop ends with no turn left or with nothing on its way, and its result is the definition's.
   pub mid-rests : (remaining ≡ 0) ⊎ (e .underway ≡ 0) → left (Ended (e .indoor .state .phase) (turnsMost - remaining)) image ≡ cleanCarriedOf release identity file memory
   mid-rests (inl none) = ran file memory release identity e image upper (turnsMost - remaining) (mid .on) (turns-suffice file memory release identity e image upper (turnsMost - remaining) (mid .on) (omega arith))
   mid-rests (inr none) = ran file memory release identity e image upper (turnsMost - remaining) (mid .on) none

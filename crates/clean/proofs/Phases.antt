@@ -1,4 +1,4 @@
--- A phase that is not Failed has no number of its own, whichever of the others it is.
+-- Every phase but Failed has the number 0.
 use mathlib.Core.Path.{_≡_, refl}
 use mathlib.Core.List.{[], _∷_}
 use denote.Enum.Declared.{tagOf}

@@ -1,4 +1,4 @@
--- A turn of the code is a turn of the definition, and the answer lies in its buffer.
+-- A turn of the code is a turn of the definition, and a response lies within its buffer.
 use Prim.Native.Nat.{ℕ, _≤_}
 use mathlib.Core.Path.{_≡_, refl, sym, _∙_, ap, subst}
 use mathlib.Core.List.{List, []}
@@ -21,7 +21,7 @@ use Rattle.indoor_state.specs.declared.session.Indoor.{Indoor}
 use Rattle.clean.specs.Turn.{endsUnderway, answered, answerOf, turned, turnedOf, deliveredOf, cleanTurnOf}
 use Rattle.clean.specs.declared.ends.Ends.{Ends}
 
--- Whatever the receiver answers, and to whatever it was given, lies in the buffer.
+-- The receiver never writes more bytes than its buffer has, whatever the request is.
 pub answer-fits : (r : Receiver) (image request : List ℕ) (readiness : ℕ) (verdict : Verdict) (down : List ℕ) (heard : Outcome) (image′ down′ : List ℕ)
     → effect heard image′ down′ ≡ receiverRequestOf r image request readiness verdict down → heard .written ≤ length down′
 answer-fits r image request readiness verdict down heard image′ down′ did =

@@ -1,4 +1,4 @@
--- The two ends of the code are those of a clean line, with what was sent on it, whatever that is.
+-- What holds between two turns of the code: its two ends are those of a clean line of demand 3 (`Clean` in crates/line/specs/Line.antt).
 use Prim.Native.Nat.{ℕ, _+_, _≤_}
 use mathlib.Core.Path.{_≡_}
 use mathlib.Core.List.{List, []}
@@ -20,7 +20,7 @@ cleanWorld e image requests responses = record { receiver = e .receiver; indoor 
 abbrev pub cleanLineOf : Ends → List ℕ → List ℕ → List (List ℕ) → List (List ℕ) → Line
 cleanLineOf e image up requests responses = line (cleanWorld e image requests responses) (withSent (e .underway) up []) []
 
--- So many requests were delivered.
+-- After `delivered` requests. The code keeps no list of the messages sent, so there are lists of requests and responses with which it holds.
 pub record On (file memory : List ℕ) (release : Release) (identity : Identity) (e : Ends) (image up : List ℕ) (delivered : ℕ) : Type 0 where
   pub wide : Wide release identity
   pub deliveries : ℕ

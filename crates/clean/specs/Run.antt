@@ -1,5 +1,5 @@
--- What a whole clean session comes to, for every settings, identity, file and image memory: 29, 46, 42 and 43 in this order, or the file in
--- the image after n + 4 requests.
+-- The result of a whole clean session, for all settings, identities, files and image memories: 29, 46, 42 and 43 in this order, or the file
+-- in the image after n + 4 requests.
 use Prim.Native.Nat.{ℕ, _+_}
 use mathlib.Core.List.{List}
 use lib.Dec.{ltb, eqb}

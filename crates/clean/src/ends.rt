@@ -15,7 +15,7 @@ pub struct Ends {
 }
 
 impl Ends {
-    // A line at rest stays as it is: no bytes are no message, and the receiver refuses them.
+    // With no request on its way nothing changes: the receiver refuses an empty message and keeps its state (01, Numbers we answer).
     pub fn turn(self, file: &[u8], image: &mut [u8], up: &mut [u8], down: &mut [u8]) -> Ends
         ensures { λ r. ⌜ turned r (now (image .exit)) (now (up .exit)) (now (down .exit)) ≡ cleanTurnOf self (now (file .entry)) (now (image .entry)) (now (up .entry)) (now (down .entry)) ⌝ }
     {
@@ -39,7 +39,7 @@ impl Ends {
     }
 }
 
-// A receiver that answers nothing ends the line.
+// Where the receiver wrote no response, nothing is on its way any more.
 fn answer(
     receiver: Receiver,
     indoor: Indoor,

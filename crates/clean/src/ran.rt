@@ -1,10 +1,10 @@
-// What came of a session.
+// The result of a session.
 use indoor_state::phase::Phase;
 ghost use mathlib.Core.Path.{_≡_};
 ghost use Rattle.clean.specs.Run.{phaseNumber, cleanNumberOf};
 
-// A start was refused, for the settings or the capacity or for the file's size; or both were made, and it is told where the indoor end
-// stands when nothing is on its way, and how many requests were sent.
+// `Settings` and `FileSize` are a refused start (29, 46). `Ended` has the indoor end's phase once nothing is on its way, and how many
+// requests were sent.
 pub enum Ran {
     Settings,
     FileSize,

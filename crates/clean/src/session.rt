@@ -37,7 +37,7 @@ pub fn run(
     begin(receiver, limit, resends, release, file, image)
 }
 
-// The settings have made a receiver and the buffer is long enough, so that only 46 is left to refuse.
+// The same settings have made a receiver and the buffer has 260 bytes, so that of 29, 46 and 27 only 46 can be met.
 fn begin(
     receiver: Receiver,
     limit: u16,

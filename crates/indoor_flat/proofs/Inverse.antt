@@ -1,5 +1,5 @@
--- The numbers of a session say that session, and numbers that are a session's are those of the session that they say: on every state that
--- the library hands out, packing and unpacking are each other's inverse.
+-- Unpacking what was packed gives the session again, and packing what was unpacked gives a session's numbers again: on every state that the
+-- library hands out, the two are each other's inverse.
 use Prim.Native.Nat.{ℕ, zero, suc, _≤_}
 use mathlib.Core.Bool.{true}
 use mathlib.Core.Path.{_≡_, refl, sym, ap}
@@ -97,7 +97,7 @@ reason-most TooLarge = omega arith
 reason-most WrongNumber = omega arith
 reason-most NotValid = omega arith
 
--- A phase that holds nothing, or a wait alone.
+-- A phase that has no number but a wait, or none at all.
 waiting-valid : (code wait : ℕ) → code ≤ 4 → ((code ≡ 1 → ⊥) → (code ≡ 3 → ⊥) → wait ≡ 0) → IndoorPhaseValid (indoorPhaseNumbers code 0 0 wait 0)
 waiting-valid code wait few none =
     record {

@@ -1,4 +1,4 @@
--- Numbers are taken for a session's exactly where they are one in the paper's own numbers.
+-- `is_session` is true of exactly those numbers that are a session's in the paper's own numbers (specs/Valid.antt).
 use Prim.Native.Nat.{ℕ, _≤_}
 use mathlib.Core.Bool.{Bool, true, false, true≢false}
 use mathlib.Core.Path.{_≡_, refl, sym}
@@ -42,7 +42,7 @@ module _ (p : PhaseNumbers) where
         reasons = λ _. reasons;
       }
 
-  -- Numbers without a reason, each in a phase that has it.
+  -- Of a phase other than Failed.
   reasonless-valid : (p .phase ≡ 5 → ⊥) → p .reason ≡ 0 → p .phase ≤ 4 → p .emptied ≤ 1 → ((p .phase ≡ 2 → ⊥) → (p .emptied ≡ 0) × (p .asked ≡ 0))
       → ((p .phase ≡ 1 → ⊥) → (p .phase ≡ 2 → ⊥) → (p .phase ≡ 3 → ⊥) → p .wait ≡ 0)
       → IndoorPhaseValid p

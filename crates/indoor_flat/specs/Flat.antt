@@ -34,7 +34,7 @@ indoorPackOf s = flatIndoor (s .plan) (indoorPhaseNumbersOf (s .state .phase)) (
 abbrev pub indoorUnpackOf : FlatIndoor → Indoor
 indoorUnpackOf f = indoor (f .plan) (indoorState (indoorPhaseOf (indoorPhaseNumbersIn f)) (f .silence) (f .resends))
 
--- Numbers of a session: what a start takes, in a phase.
+-- Whether the numbers are those of a session: a start takes the settings and the file's length, and the rest are those of a phase.
 unfoldable pub isIndoorSession : FlatIndoor → Bool
 isIndoorSession f =
     pick (eqb (settingsNumberOf (settingsOf (f .plan .settings .limit) (f .plan .settings .resends))) 0)
@@ -43,7 +43,7 @@ isIndoorSession f =
     (isIndoorPhase (indoorPhaseNumbersIn f))))
     false
 
--- All zero.
+-- All zero: what a refused start hands out.
 abbrev pub zeroIndoor : FlatIndoor
 zeroIndoor =
     flatIndoor

@@ -1,4 +1,4 @@
--- What a phase of the indoor end says, as the numbers of include/harsolvek.h, and back.
+-- A phase of the indoor end as the numbers of include/harsolvek.h, and back.
 use Prim.Native.Nat.{ℕ}
 use mathlib.Core.Bool.{Bool, true, false}
 use lib.Dec.{eqb, ltb, leb}
@@ -14,7 +14,7 @@ use Rattle.indoor_flat.specs.declared.phase_numbers.PhaseNumbers.{PhaseN
 abbrev pub indoorPhaseNumbers : ℕ → ℕ → ℕ → ℕ → ℕ → PhaseNumbers
 indoorPhaseNumbers phase emptied asked wait reason = record { phase = phase; emptied = emptied; asked = asked; wait = wait; reason = reason }
 
--- What a phase does not have is 0 there; a reason is document 01's number.
+-- A number that the phase does not have is 0; a reason is document 01's number.
 unfoldable pub indoorPhaseNumbersOf : Phase → PhaseNumbers
 indoorPhaseNumbersOf Identify = indoorPhaseNumbers 0 0 0 0 0
 indoorPhaseNumbersOf (Initiate wait) = indoorPhaseNumbers 1 0 0 wait 0
@@ -32,7 +32,7 @@ indoorReasonOf number =
     (pick (eqb number 44) Why.WrongNumber
     Why.NotValid))))
 
--- A code that is no phase's is read as Identify.
+-- The phase of a code; a code that is no phase's is read as Identify.
 unfoldable pub indoorPhaseOf : PhaseNumbers → Phase
 indoorPhaseOf p =
     pick (eqb (p .phase) 1) (Initiate (p .wait))
@@ -53,7 +53,8 @@ isFailedPhase p =
     false)
     false
 
--- Numbers of a phase: a reason in Failed alone, the block asked for and a flag in Transfer alone, a wait in Initiate, Transfer and Validate.
+-- Whether the numbers are those of a phase: only Failed has a reason, only Transfer a block asked for and a flag, and only Initiate, Transfer
+-- and Validate have a wait.
 unfoldable pub isIndoorPhase : PhaseNumbers → Bool
 isIndoorPhase p =
     pick (eqb (p .phase) 5) (isFailedPhase p)

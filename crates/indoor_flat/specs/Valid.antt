@@ -7,8 +7,8 @@ use Rattle.indoor_flat.specs.Flat.{indoorPhaseNumbersIn}
 use Rattle.indoor_flat.specs.declared.phase_numbers.PhaseNumbers.{PhaseNumbers}
 use Rattle.indoor_flat.specs.declared.flat.FlatIndoor.{FlatIndoor}
 
--- Identify 0, Initiate 1, Transfer 2, Validate 3, Done 4, Failed 5: the block asked for and a flag in Transfer alone, a wait in Initiate,
--- Transfer and Validate alone, a reason 40 to 45 in Failed alone.
+-- The codes are Identify 0, Initiate 1, Transfer 2, Validate 3, Done 4, Failed 5. Only Transfer has a block asked for and the flag of the
+-- empty block, only Initiate, Transfer and Validate have a wait, and only Failed has a reason, 40 to 45.
 pub record IndoorPhaseValid (p : PhaseNumbers) : Type 0 where
   pub phases : p .phase ≤ 5
   pub flag : p .emptied ≤ 1

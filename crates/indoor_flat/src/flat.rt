@@ -6,7 +6,7 @@ use wire::request::Versions;
 ghost use mathlib.Core.Path.{_≡_};
 ghost use Rattle.indoor_flat.specs.Flat.{zeroIndoor};
 
-// `emptied` is a flag; what a phase does not have is 0 there.
+// `emptied` is 1 once the empty block has been sent in Transfer. A number that the phase does not have is 0.
 #[repr(C)]
 pub struct FlatIndoor {
     pub plan: Plan,
@@ -20,7 +20,7 @@ pub struct FlatIndoor {
 }
 
 impl FlatIndoor {
-    // All zero: what a refused start hands out, and no session.
+    // All zero, which is no session: what a refused start hands out.
     pub fn none() -> FlatIndoor
         ensures { λ r. ⌜ r ≡ zeroIndoor ⌝ }
     {

@@ -1,4 +1,4 @@
-// What a phase says, as numbers, and back.
+// A phase as numbers, and back.
 use indoor_state::phase::Phase;
 use indoor_state::phase::Progress;
 use indoor_state::phase::Reason;
@@ -62,7 +62,7 @@ impl PhaseNumbers {
         }
     }
 
-    // A code that is no phase's is read as Identify; `is_phase` tells the two apart.
+    // A code that is no phase's is read as Identify; `is_phase` is false of it.
     pub(crate) fn phase(self) -> Phase
         ensures { λ r. ⌜ r ≡ indoorPhaseOf self ⌝ }
     {
@@ -88,7 +88,7 @@ impl PhaseNumbers {
         Phase::Identify
     }
 
-    // Whether the numbers are some phase's.
+    // Whether the numbers are those of a phase.
     pub(crate) fn is_phase(self) -> bool
         ensures { λ r. ⌜ r ≡ isIndoorPhase self ⌝ }
     {

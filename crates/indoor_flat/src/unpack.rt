@@ -1,4 +1,5 @@
-// The session that the numbers say, and whether they are a session's at all: settings and a file's length that a start takes, in a phase.
+// The session of given numbers, and whether they are a session's: a start takes the settings and the file's length, and the rest are the
+// numbers of a phase.
 use crate::flat::FlatIndoor;
 use crate::phase_numbers::PhaseNumbers;
 use indoor_state::phase::State;

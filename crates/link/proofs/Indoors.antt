@@ -1,5 +1,5 @@
--- The indoor end for C keeps step with the proved session: on a session's numbers a call is the session's own through the conversion, and
--- numbers that are no session's get 29. Every state that comes of a start that was taken is a session.
+-- The indoor end's calls for C are the session's own calls on the unpacked state, and numbers that are no session's get 29. Every state that a
+-- taken start and the calls after it hand out is a session.
 use Prim.Native.Nat.{ℕ}
 use mathlib.Core.Bool.{true, false}
 use mathlib.Core.Path.{_≡_, refl, sym, _∙_, ap, subst}
@@ -102,7 +102,7 @@ module _ (settings : silence.Settings) (release : Release) (file out : List ℕ)
   unfolding flatIndoorBegun
   start-27 e = rw e
 
--- The numbers of a session with the plan of one that is.
+-- A session with the plan of valid numbers has valid numbers.
 keeps-session : (f : FlatIndoor) (next : Indoor) → isIndoorSession f ≡ true → next .plan ≡ f .plan → isIndoorSession (indoorPackOf next) ≡ true
 keeps-session f next e plan =
     let w = session-valid f e in

@@ -1,4 +1,4 @@
--- A call of the receiver keeps the settings, the identity and the capacity that its numbers say.
+-- A call of the receiver keeps the settings, the identity and the capacity that it was given.
 use Prim.Native.Nat.{ℕ}
 use mathlib.Core.Path.{_≡_}
 use mathlib.Core.List.{List}

@@ -1,5 +1,5 @@
--- The receiver for C keeps step with the proved session: on a session's numbers a call is the session's own through the conversion, and
--- numbers that are no session's get 29. Every state that comes of a start that was taken is a session.
+-- The receiver's calls for C are the session's own calls on the unpacked state, and numbers that are no session's get 29. Every state that a
+-- taken start and the calls after it hand out is a session.
 use Prim.Native.Nat.{ℕ, _≤_}
 use mathlib.Core.Bool.{true, false}
 use mathlib.Core.Path.{_≡_, refl, _∙_, ap}
@@ -42,7 +42,7 @@ module _ (settings : Settings) (identity : Identity) (capacity : ℕ) where
   unfolding flatReceiverMade
   start-refused e = rw e
 
--- The numbers of a session with the settings and the capacity of one that is.
+-- A session with the settings and the capacity of valid numbers has valid numbers.
 keeps-session : (f : FlatReceiver) (next : Receiver) → isReceiverSession f ≡ true → next .settings ≡ f .settings → next .capacity ≡ f .capacity
     → isReceiverSession (receiverPackOf next) ≡ true
 keeps-session f next e settings capacity =

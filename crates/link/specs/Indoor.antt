@@ -1,4 +1,4 @@
--- What the indoor end's calls for C return and leave: what the session's own do, on the state that the numbers say, and 29 where they are
+-- What the indoor end's calls for C return and leave: the same as the session's own call on the unpacked state, and 29 where the numbers are
 -- no session's.
 use Prim.Native.Nat.{ℕ}
 use mathlib.Core.List.{List}

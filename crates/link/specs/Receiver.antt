@@ -1,4 +1,4 @@
--- What the receiver's calls for C return and leave: what the session's own do, on the state that the numbers say, and 29 where they are no
+-- What the receiver's calls for C return and leave: the same as the session's own call on the unpacked state, and 29 where the numbers are no
 -- session's.
 use Prim.Native.Nat.{ℕ}
 use mathlib.Core.Path.{_≡_}
@@ -32,7 +32,7 @@ receiverOutcome state written number = record { state = state; written = written
 abbrev pub imageSum : ℕ → ℕ → ImageSum
 imageSum sum number = record { sum = sum; number = number }
 
--- A session with the settings, the identity and the capacity of the numbers.
+-- The session has the settings, the identity and the capacity of the numbers.
 abbrev pub SameSettings : FlatReceiver → Receiver → Type 0
 SameSettings f r = (r .settings ≡ f .settings) × (r .identity ≡ f .identity) × (r .capacity ≡ f .capacity)
 

@@ -1,4 +1,4 @@
-// The indoor end's calls for C: each is the session's own, on the state that the numbers say.
+// The indoor end's calls for C: each unpacks the session, makes the session's own call, and packs the result.
 use crate::NO_SUCH_STATE;
 use indoor_flat::FlatIndoor;
 use indoor_state::plan::Release;

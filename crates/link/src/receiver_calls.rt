@@ -1,4 +1,4 @@
-// The receiver's calls for C: each is the session's own, on the state that the numbers say.
+// The receiver's calls for C: each unpacks the session, makes the session's own call, and packs the result.
 use crate::NO_SUCH_STATE;
 use receiver_flat::FlatReceiver;
 use receiver_flat::verdict_of;
@@ -24,7 +24,7 @@ pub struct ImageSum {
     pub number: u8,
 }
 
-// No call changes settings, identity and capacity: they are handed back as they came, and so need not be taken apart.
+// No call changes settings, identity and capacity, so they are handed back as they came and are not packed again.
 fn flat(came: FlatReceiver, outcome: Outcome) -> ReceiverOutcome
     requires { ⌜ SameSettings came (outcome .session) ⌝ }
     ensures { λ r. ⌜ r ≡ flatReceiverOf outcome ⌝ }
@@ -104,8 +104,8 @@ pub extern "C" fn harsolvek_receiver_request(
 {
     if state.is_session() {
         let session = state.unpack();
-        let said = verdict_of(verdict, later);
-        let outcome = receiver::request(session, image, request, readiness, said, out);
+        let given = verdict_of(verdict, later);
+        let outcome = receiver::request(session, image, request, readiness, given, out);
         return flat(state, outcome);
     }
     no_session(state)

@@ -42,14 +42,14 @@ unfolding pick
 behind w buffer sent true o = o
 behind w buffer sent false o = inl refl
 
--- A message that is there is one that was sent.
+-- Where something is on its way, it is a message that was sent.
 arrived : (w : Way) (buffer : List ℕ) (sent : List (List ℕ)) → OnItsWay w buffer sent → 0 < w .bytes → List·Memᴰ (messageOnWay w buffer) sent
 arrived w buffer sent o some = ⊎-elim (λ none. absurd (omega (arith, none))) (λ h. h) o
 
 missing-arrives : (stays : Bool) → Missing ≡ Arrives stays → ⊥
 missing-arrives stays e = let z : _≡_ {A = ℕ} 0 1 = cc in omega arith
 
--- Where a message arrives there is one.
+-- Only a message that is on its way arrives.
 fate-some : (l : Luck) (w : Way) (stays : Bool) → fateOf l w ≡ Arrives stays → 0 < w .bytes
 unfolding fateOf
 fate-some l w stays =
@@ -90,7 +90,7 @@ module _ (file : List ℕ) (e : Ends) (image up down : List ℕ) (o : Over file 
   arrive-over luck fate true stays some = request-over luck fate stays some
   arrive-over luck fate false stays some = response-over luck fate stays some
 
-  -- Nothing was on its way, or it is lost.
+  -- Nothing was on its way, or the message is lost.
   abbrev OverMissed : Missed → Type 0
   OverMissed m = Over file (lossyEnds (e .receiver) (e .indoor) (m .up) (m .down)) image up down
 

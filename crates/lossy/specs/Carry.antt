@@ -1,4 +1,4 @@
--- At most one message goes, by the luck: it arrives at its end, with no wait and a good verdict, or it is lost.
+-- At most one message goes: it arrives at its end, with no wait and a good verdict, or it is lost, as the generator says.
 use Prim.Native.Nat.{ℕ}
 use mathlib.Core.Bool.{Bool}
 use mathlib.Core.List.{List}
@@ -43,7 +43,7 @@ responseCarriedOf e g stays down x = both (responseArrivedOf e g stays (x .answe
 abbrev pub carryResponseOf : Ends → Going → Bool → List ℕ → List ℕ → List ℕ → Both Carried
 carryResponseOf e g stays file up down = responseCarriedOf e g stays down (responseArrives (e .indoor) (g .way) (e .up) file up down)
 
--- Nothing was on its way, or it is lost.
+-- Nothing was on its way, or the message is lost.
 unfoldable pub missOf : Ends → Going → Carried
 missOf e g = let m = missedOf g (e .up) (e .down) in lossyCarried (lossyEnds (e .receiver) (e .indoor) (m .up) (m .down)) g (m .went)
 

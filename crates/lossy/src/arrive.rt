@@ -9,7 +9,7 @@ ghost use mathlib.Core.Path.{_≡_};
 ghost use Rattle.basis.specs.Left.{left};
 ghost use Rattle.lossy.specs.Arrive.{requestArrives, responseArrives};
 
-// The request in `up`. Every signature is taken for good: the verdict is handed to us (01, The receiver's phases).
+// The request in `up`. The verdict comes with the request (01, The receiver's phases), and on this line it is always good.
 pub(crate) fn request(
     receiver: Receiver,
     way: Way,

@@ -14,7 +14,7 @@ ghost use Rattle.lossy_ends.specs.Both.{both};
 ghost use Rattle.lossy_ends.specs.Ends.{lossyEnds as endsOf};
 ghost use Rattle.lossy.specs.Carry.{lossyCarried, carryOf, missOf, carryRequestOf, carryResponseOf};
 
-// `rises` says whether it is the request that went, `way` which part of its buffer that was, and `luck` is what the next message goes by.
+// `rises` says whether the request went, `way` how many bytes of its buffer the message had, and `luck` is the generator for the next message.
 pub struct Carried {
     pub ends: Ends,
     pub luck: Luck,
@@ -23,7 +23,7 @@ pub struct Carried {
     pub went: Went,
 }
 
-// Two words of the luck are used up, also where nothing is on its way. The message that went still lies in its buffer.
+// Each call draws two words from the generator, also where nothing is on its way. The message that went is still in its buffer.
 pub fn carry(
     ends: Ends,
     luck: Luck,

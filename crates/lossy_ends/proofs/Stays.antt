@@ -1,4 +1,4 @@
--- An end that is called on the line stays one of a session over it, and what the session comes to holds of both.
+-- After a call of either end both are still the ends of a session over the line, so that demand 3 holds of them.
 use Prim.Native.Nat.{ℕ}
 use mathlib.Core.Bool.{Bool, true, false}
 use mathlib.Core.Logic.{inr}
@@ -40,7 +40,7 @@ module _ (w : Way) (out : List ℕ) (sent : List (List ℕ)) (o : OnItsWay w out
   after-by true t = subst (λ (l : List ℕ). OnItsWay w l sent) (sym (unwritten bytes first count (eqb-true written 0 t))) o
   after-by false t = inr (List·Memᴰ·head refl)
 
-  -- What a call wrote is on its way; where it wrote nothing, what was on its way is so still.
+  -- What a call wrote is on its way; where it wrote nothing, what was on its way before is on it still.
   after : OnItsWay (afterWriteOf w written) out′ (withSent written out′ sent)
   after = after-by (eqb written 0) refl
 

@@ -9,7 +9,7 @@ use Rattle.lossy_ends.specs.declared.ends.Ends.{Ends}
 abbrev pub lossyEnds : Receiver → Indoor → Way → Way → Ends
 lossyEnds receiver indoor up down = record { receiver = receiver; indoor = indoor; up = up; down = down }
 
--- The receiver was called, or the indoor end; what is on its way to it is then as told.
+-- After a call of the receiver, with what is still on its way up, and of the indoor end, with what is still on its way down.
 abbrev pub roofEnds : Ends → Way → Roof → Ends
 roofEnds e rising x = lossyEnds (x .receiver) (e .indoor) rising (x .down)
 

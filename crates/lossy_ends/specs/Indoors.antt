@@ -1,4 +1,4 @@
--- What a call of the indoor end makes of it and of what is on its way up.
+-- The indoor end after a call, what is then on its way up, and what the call answered.
 use Rattle.basis.specs.Left.{Left, left}
 use Rattle.indoor_state.specs.Answer.{indoorNumberOf}
 use Rattle.indoor_state.specs.declared.session.Outcome.{Outcome}

@@ -1,4 +1,5 @@
--- Both ends are those of a session over a line that loses and repeats, with what was sent on it, whatever that is.
+-- What holds at every step of the code: both ends are those of a session over a line that loses and repeats (`Reached` in
+-- crates/line/specs/Line.antt). The code keeps no list of the messages sent, so there are lists of them with which it holds.
 use Prim.Native.Nat.{ℕ}
 use mathlib.Core.Logic.{_⊎_}
 use mathlib.Core.Path.{_≡_}
@@ -15,7 +16,7 @@ use Rattle.lossy_ends.specs.declared.ends.Ends.{Ends}
 abbrev pub lossyWorld : Ends → List ℕ → List (List ℕ) → List (List ℕ) → World
 lossyWorld e image requests responses = record { receiver = e .receiver; indoor = e .indoor; image = image; requests = requests; responses = responses }
 
--- Nothing is on its way, or a message that was sent; the line adds none and alters none.
+-- Nothing is on its way, or a message that was sent: the line adds no message and alters none.
 abbrev pub OnItsWay : Way → List ℕ → List (List ℕ) → Type 0
 OnItsWay w buffer sent = (w .bytes ≡ 0) ⊎ List·Memᴰ (messageOnWay w buffer) sent
 

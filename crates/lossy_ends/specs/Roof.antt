@@ -1,4 +1,4 @@
--- What a call of the receiver makes of it and of what is on its way down.
+-- The receiver after a call, what is then on its way down, and what the call answered.
 use Rattle.receiver_state.specs.Answer.{receiverNumberOf}
 use Rattle.receiver_state.specs.declared.session.Outcome.{Outcome}
 use Rattle.luck.specs.Way.{afterWriteOf}

@@ -12,7 +12,7 @@ pub struct Indoors {
     pub answered: Answered,
 }
 
-// The indoor end was called while this was on its way up.
+// `rising` was on its way up when the indoor end was called.
 pub fn indoor_called(heard: Outcome, rising: Way) -> Indoors
     ensures { λ r. ⌜ r ≡ indoorsOf heard rising ⌝ }
 {

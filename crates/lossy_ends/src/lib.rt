@@ -1,4 +1,4 @@
-// Both ends on a line that loses and repeats, and what a call of one of them makes of it: what that end sends goes on its way.
+// Both ends on a line that loses and repeats: what one of them writes in a call is then on its way.
 mod ends;
 mod indoors;
 mod roof;

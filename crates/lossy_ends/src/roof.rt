@@ -12,7 +12,7 @@ pub struct Roof {
     pub answered: Answered,
 }
 
-// The receiver was called while this was on its way down.
+// `falling` was on its way down when the receiver was called.
 pub fn roof_called(heard: Outcome, falling: Way) -> Roof
     ensures { λ r. ⌜ r ≡ roofOf heard falling ⌝ }
 {

@@ -1,4 +1,4 @@
--- What is told of a session is so: done is never told of an image that differs.
+-- `judge` is right about the image, and by demand 3 done is never reported of an image that differs from the file.
 use Prim.Native.Nat.{ℕ}
 use mathlib.Core.Bool.{Bool, true, false, true≢false}
 use mathlib.Core.Path.{_≡_, refl, sym, _∙_}
@@ -52,9 +52,9 @@ either true false f g = absurd (true≢false (sym (f refl)))
 either false true f g = absurd (true≢false (sym (g refl)))
 either false false f g = refl
 
--- An answer that is yes exactly where they are the same.
-pub tells : (accepted : ℕ) (image file : List ℕ) (r : Bool) → (r ≡ true → Sames accepted image file) → (Sames accepted image file → r ≡ true) → r ≡ sameOf accepted image file
-tells accepted image file r f g = either r (sameOf accepted image file) (λ e. true-same accepted image file (f e)) (λ e. g (same-true accepted image file e))
+-- An answer that is true exactly where the image is the file is `sameOf`.
+pub same-decided : (accepted : ℕ) (image file : List ℕ) (r : Bool) → (r ≡ true → Sames accepted image file) → (Sames accepted image file → r ≡ true) → r ≡ sameOf accepted image file
+same-decided accepted image file r f g = either r (sameOf accepted image file) (λ e. true-same accepted image file (f e)) (λ e. g (same-true accepted image file e))
 
 reports : (phase : Phase) → reportsDone phase ≡ true → phase ≡ Done
 reports Identify e = absurd (true≢false (sym e))

@@ -28,7 +28,7 @@ use Rattle.lossy_ends.specs.Ends.{lossyEnds}
 use Rattle.lossy_session.specs.Start.{joinedOf, bothMadeOf, bothStartOf}
 use Rattle.lossy_ends.specs.Over.{lossyWorld, Over}
 
--- A start that was refused has the number of its refusal.
+-- Where the indoor end's start refuses, its number is the answer.
 pub not-made : (r : Receiver) (x : Ind.Started) → OneOf (1 ∷ 2 ∷ 3 ∷ []) (tagOf the-type x) → Refused (indoorStartNumberOf x) ≡ joinedOf r x
 unfolding joinedOf
 not-made r (IndStarted.Made session written) h = absurd (miss (1 ∷ 2 ∷ 3 ∷ []) 0 tt h)

@@ -1,4 +1,4 @@
--- What may be told of a session.
+-- Whether the indoor end reports done, and whether the receiver's image is the file.
 use Prim.Native.Nat.{ℕ}
 use mathlib.Core.Bool.{Bool, true, false}
 use mathlib.Core.List.{List, [], _∷_}
@@ -11,7 +11,6 @@ use Rattle.indoor_state.specs.declared.phase.Phase.the-variants.{Identify, Init
 use Rattle.lossy_ends.specs.declared.ends.Ends.{Ends}
 use Rattle.lossy_session.specs.declared.judge_call.Judged.{Judged}
 
--- The indoor end reports done.
 abbrev pub reportsDone : Phase → Bool
 reportsDone Identify = false
 reportsDone (Initiate wait) = false

@@ -1,4 +1,4 @@
-// Whether the session is done, and whether the image is the file.
+// Whether the indoor end reports done, and whether the receiver's image is the file.
 use indoor_state::phase::Phase;
 use lossy_ends::Ends;
 use receiver_state::session::Receiver;
@@ -6,7 +6,7 @@ ghost use mathlib.Core.Path.{_≡_};
 ghost use Rattle.receiver_state.specs.Phase.{acceptedOf};
 ghost use Rattle.lossy_session.specs.Judge.{reportsDone, sameOf, sessionJudgedOf};
 
-// `done` is what the indoor end reports, and `same` what the receiver holds.
+// `done`: the indoor end reports done. `same`: the receiver has accepted the file's bytes.
 pub struct Judged {
     pub done: bool,
     pub same: bool,

@@ -16,7 +16,7 @@ pub struct Limits {
     pub resends: u8,
 }
 
-// A start was refused with this number (01, Numbers we answer).
+// `Refused` has the number of the start that refused (01, Numbers we answer).
 pub enum Started {
     Made(Ends),
     Refused(u8),

@@ -1,4 +1,4 @@
--- A buffer that is shorter than the message is said to be is the whole of what `message` hands out.
+-- `message` hands out all of a buffer that is shorter than the message is said to be.
 use Prim.Native.Nat.{ℕ, _<_}
 use mathlib.Core.Path.{_≡_, sym}
 use mathlib.Core.List.{List}

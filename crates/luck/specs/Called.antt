@@ -1,4 +1,4 @@
--- What came of a call of either end.
+-- What a call of either end answered and sent.
 use Prim.Native.Nat.{ℕ}
 use lib.Dec.{ltb}
 use Rattle.luck.specs.Way.{pushedOf}

@@ -21,11 +21,11 @@ nextLuck l = luck (l .word * 48271 % 2147483647) (l .odds)
 unfoldable pub percentOf : Luck → ℕ
 percentOf l = l .word % 100
 
--- The generator's words are 1 to 2^31 - 2.
+-- The seed is brought into 1 to 2^31 - 2, the words that the generator has.
 unfoldable pub seededOf : ℕ → Odds → Luck
 seededOf seed odds = nextLuck (luck (seed % 2147483646 + 1) odds)
 
--- A message that comes again arrives, and then it is gone.
+-- A repeat always arrives, and does not come a third time.
 unfoldable pub fateOf : Luck → Way → Fate
 fateOf l w =
     pick (eqb (w .bytes) 0) Missing
@@ -33,7 +33,7 @@ fateOf l w =
     (pick (ltb (percentOf l) (l .odds .loss)) Missing
     (Arrives (ltb (percentOf (nextLuck l)) (l .odds .again)))))
 
--- The message that goes next; two words of the luck are used up.
+-- The message that goes next; each one draws two words from the generator.
 unfoldable pub goesOf : Luck → Way → Way → Going
 goesOf l rising falling =
     let rises = risesOf rising falling in

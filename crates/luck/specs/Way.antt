@@ -1,4 +1,4 @@
--- A message on its way, one way.
+-- A message on its way in one direction.
 use Prim.Native.Nat.{ℕ}
 use mathlib.Core.Bool.{Bool, true, false}
 use mathlib.Core.List.{List}
@@ -19,21 +19,21 @@ wayOf bytes = way bytes false
 abbrev pub messageOnWay : Way → List ℕ → List ℕ
 messageOnWay w buffer = take (w .bytes) buffer
 
--- The request goes next: alone, or if it comes again.
+-- The request goes next if no response is on its way or if it is a repeat.
 abbrev pub risesOf : Way → Way → Bool
 risesOf rising falling = pick (eqb (rising .bytes) 0) false (pick (eqb (falling .bytes) 0) true (rising .again))
 
 abbrev pub nextWay : Way → Way → Bool → Way
 nextWay rising falling rises = pick rises rising falling
 
--- Behind a message that went.
+-- After a message has arrived.
 abbrev pub afterArrivalOf : Way → Bool → Way
 afterArrivalOf w stays = pick stays (way (w .bytes) true) noMessage
 
--- After a call that has written so many bytes.
+-- After a call that wrote this many bytes.
 abbrev pub afterWriteOf : Way → ℕ → Way
 afterWriteOf w written = pick (eqb written 0) w (wayOf written)
 
--- Such a call has put its message in the place of one that has never arrived.
+-- The message of such a call has replaced one that never arrived.
 abbrev pub pushedOf : Way → ℕ → Bool
 pushedOf w written = pick (eqb written 0) false (pick (w .again) false (ltb 0 (w .bytes)))

@@ -11,7 +11,7 @@ use Rattle.luck.specs.declared.went.Missed.{Missed}
 abbrev pub missed : Way → Way → Went → Missed
 missed up down went = record { up = up; down = down; went = went }
 
--- Nothing was on its way, or it is lost.
+-- Nothing was on its way, or the message is lost.
 unfoldable pub missedOf : Going → Way → Way → Missed
 missedOf g rising falling =
     pick (eqb (g .way .bytes) 0) (missed rising falling Nothing)

@@ -1,4 +1,4 @@
-// What came of a call of either end.
+// What a call of either end answered and sent.
 use crate::way::Way;
 ghost use mathlib.Core.Path.{_≡_};
 ghost use Rattle.luck.specs.Called.{answeredOf};
@@ -10,7 +10,7 @@ pub struct Answered {
     pub pushed: bool,
 }
 
-// A call has written so many bytes where this was on its way.
+// `way` is what was on its way before the call, and `written` how many bytes the call wrote.
 pub fn answers(number: u8, way: Way, written: usize) -> Answered
     ensures { λ r. ⌜ r ≡ answeredOf number way written ⌝ }
 {

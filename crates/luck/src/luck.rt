@@ -3,7 +3,7 @@ use crate::way::Way;
 ghost use mathlib.Core.Path.{_≡_};
 ghost use Rattle.luck.specs.Luck.{seededOf, nextLuck, percentOf, fateOf, goesOf};
 
-// How many of a hundred messages are lost, and of a hundred that arrive come again.
+// In percent: how many messages are lost, and how many of those that arrive come once more.
 pub struct Odds {
     pub loss: u32,
     pub again: u32,
@@ -14,13 +14,13 @@ pub struct Luck {
     pub odds: Odds,
 }
 
-// A message that does not arrive is lost, or there is none.
+// `Missing`: the message is lost, or there is none. `stays`: it arrives, and will arrive once more.
 pub enum Fate {
     Missing,
     Arrives { stays: bool },
 }
 
-// Which message goes, and what the next one goes by.
+// The message that goes next, `rises` for a request, and what becomes of it. `luck` is the generator for the message after it.
 pub struct Going {
     pub luck: Luck,
     pub rises: bool,
@@ -42,7 +42,7 @@ impl Luck {
         }
     }
 
-    // The generator's words are 1 to 2^31 - 2.
+    // The seed is brought into 1 to 2^31 - 2, the words that the generator has.
     pub fn seeded(seed: u32, odds: Odds) -> Luck
         ensures { λ r. ⌜ r ≡ seededOf seed odds ⌝ }
     {
@@ -71,7 +71,7 @@ impl Luck {
         self.word % 100
     }
 
-    // A message that comes again arrives, and then it is gone.
+    // A repeat always arrives, and does not come a third time.
     fn fate(self, way: Way) -> Fate
         ensures { λ r. ⌜ r ≡ fateOf self way ⌝ }
     {

@@ -1,4 +1,4 @@
-// A message on its way, one way: how many bytes of its buffer it takes, 0 for none, and whether it has arrived before.
+// A message on its way in one direction: how many bytes of its buffer it takes, 0 for none, and whether it has arrived before.
 ghost use mathlib.Core.Path.{_≡_};
 ghost use Rattle.luck.specs.Way.{noMessage, wayOf, messageOnWay, risesOf, nextWay, afterArrivalOf, afterWriteOf, pushedOf};
 
@@ -14,7 +14,7 @@ impl Way {
         Way::sent(0)
     }
 
-    // A message of so many bytes that was just sent; with 0 bytes nothing was.
+    // A message of this length that was just sent; with 0 bytes nothing was sent.
     pub fn sent(bytes: usize) -> Way
         ensures { λ r. ⌜ r ≡ wayOf bytes ⌝ }
     {
@@ -24,7 +24,7 @@ impl Way {
         }
     }
 
-    // The message in its buffer: the whole of one that is shorter than the message is said to be.
+    // The message's bytes; all of a buffer that is shorter than the message is said to be.
     pub fn message(self, buffer: &[u8]) -> &[u8]
         ensures { λ r. ⌜ now r ≡ messageOnWay self (now (buffer .entry)) ⌝ }
     {
@@ -35,7 +35,7 @@ impl Way {
         &buffer[..n]
     }
 
-    // The request goes next: alone, or if it comes again. Otherwise it is the response's turn.
+    // The request goes next if no response is on its way or if it is a repeat; otherwise the response does.
     pub(crate) fn rises(self, falling: Way) -> bool
         ensures { λ r. ⌜ r ≡ risesOf self falling ⌝ }
     {
@@ -57,7 +57,7 @@ impl Way {
         falling
     }
 
-    // What is on its way behind a message that went: the message itself once more, or nothing.
+    // What is on its way after a message has arrived: the same message once more, or nothing.
     pub fn behind(self, stays: bool) -> Way
         ensures { λ r. ⌜ r ≡ afterArrivalOf self stays ⌝ }
     {
@@ -70,7 +70,7 @@ impl Way {
         Way::nothing()
     }
 
-    // What is on its way after a call that has written so many bytes.
+    // What is on its way after a call that wrote this many bytes.
     pub fn after(self, written: usize) -> Way
         ensures { λ r. ⌜ r ≡ afterWriteOf self written ⌝ }
     {
@@ -80,7 +80,7 @@ impl Way {
         Way::sent(written)
     }
 
-    // Whether such a call has put its message in the place of one that has never arrived.
+    // Whether the message of such a call has replaced one that never arrived.
     pub(crate) fn pushed(self, written: usize) -> bool
         ensures { λ r. ⌜ r ≡ pushedOf self written ⌝ }
     {

@@ -11,7 +11,7 @@ pub enum Went {
     Arrived(Answered),
 }
 
-// What is on its way up and down behind a message that has not arrived.
+// What is on its way up and down after a message has not arrived.
 pub struct Missed {
     pub up: Way,
     pub down: Way,
@@ -19,7 +19,7 @@ pub struct Missed {
 }
 
 impl Going {
-    // Nothing was on its way, or it is lost.
+    // Nothing was on its way, or the message is lost.
     pub fn missed(self, rising: Way, falling: Way) -> Missed
         ensures { λ r. ⌜ r ≡ missedOf self rising falling ⌝ }
     {

@@ -10,7 +10,7 @@ use lib.Dec.{ltb}
 use Rattle.basis.specs.Pick.{pick-yes, pick-no, pick-all}
 use Rattle.printing.specs.Digits.{figure, digitOf, hexOf, decimalOf, digitIn, digitsBehind, numberIn}
 
--- The code has one digit after the other.
+-- Eight digits written out one by one, as the code makes them, are the definition's.
 pub hex-eight : (x : ℕ) → hexOf 8 x ≡
     digitOf (x / 0x10000000 % 16) ∷ digitOf (x / 0x1000000 % 16) ∷ digitOf (x / 0x100000 % 16) ∷ digitOf (x / 0x10000 % 16)
     ∷ digitOf (x / 0x1000 % 16) ∷ digitOf (x / 0x100 % 16) ∷ digitOf (x / 0x10 % 16) ∷ digitOf (x % 16) ∷ []

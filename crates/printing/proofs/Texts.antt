@@ -35,7 +35,7 @@ pub line-holds : (text : List ℕ) → (lineIn text .len ≡ length text) × (ta
 unfolding lineIn
 line-holds text = (refl, take-append-seam text _)
 
--- What is read in a line is what it was made of.
+-- Reading a line gives the CCI and the number that it was made from.
 pub record Says (cci number : ℕ) (text : List ℕ) : Type 0 where
   pub cci-is : cciIn text ≡ cci
   pub spaced : getD text 8 0 ≡ space
@@ -46,7 +46,7 @@ between : (cci n : ℕ) → take (length (textOf cci n) - 10) (drop 9 (textOf cc
 unfolding tailOf
 between cci n = take-at (decimalOf n) (newline ∷ []) (length (textOf cci n) - 10) (simp length-append (omega arith))
 
--- The newline alone stands behind what is left of it.
+-- After the answer's digits there is the newline alone.
 last : (s : List ℕ) → getD (s ++ newline ∷ []) (length (s ++ newline ∷ []) - 1) 0 ≡ newline
 last s = getD-at s newline [] 0 _ (simp length-append (omega arith))
 

@@ -12,7 +12,7 @@ figure n = 0x30 + n
 unfoldable pub digitOf : ℕ → ℕ
 digitOf n = pick (ltb n 10) (figure n) (0x41 + (n - 10))
 
--- The lowest digits of a number, so many, the highest first.
+-- The lowest k hex digits of a number, the highest first.
 abbrev pub hexOf : ℕ → ℕ → List ℕ
 hexOf zero x = []
 hexOf (suc k) x = digitOf (x / 16 ^ k % 16) ∷ hexOf k x
@@ -24,7 +24,7 @@ decimalOf n =
     (pick (ltb n 100) (figure (n / 10) ∷ figure (n % 10) ∷ [])
     (figure (n / 100) ∷ figure (n / 10 % 10) ∷ figure (n % 10) ∷ []))
 
--- Read back: what a digit stands for, and what digits in a base come to, behind what was read before them.
+-- Read back: the value of a digit, and the number that digits in a base give, after those that were read before them.
 unfoldable pub digitIn : ℕ → ℕ
 digitIn c = pick (ltb c 0x41) (c - 0x30) (c - 0x41 + 10)
 

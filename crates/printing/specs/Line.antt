@@ -12,7 +12,7 @@ space = 0x20
 abbrev pub newline : ℕ
 newline = 0x0A
 
--- What stands behind CCI.
+-- What follows CCI.
 unfoldable pub tailOf : ℕ → List ℕ
 tailOf number = space ∷ decimalOf number ++ newline ∷ []
 
@@ -23,7 +23,7 @@ textOf cci number = hexOf 8 cci ++ tailOf number
 abbrev pub stopText : List ℕ
 stopText = 0x73 ∷ 0x74 ∷ 0x6F ∷ 0x70 ∷ newline ∷ []
 
--- Text in an array of so many bytes, zeros behind it.
+-- Text in an array of `room` bytes, zeros after it.
 abbrev pub padded : ℕ → List ℕ → List ℕ
 padded room text = text ++ replicate (room - length text) 0
 

@@ -1,4 +1,4 @@
-// What stands behind CCI: a space, the answer's number in decimal without a zero in front, a newline (01, Replay program).
+// What follows CCI in a line: a space, the answer's number in decimal without a zero in front, a newline (01, Replay program).
 ghost use mathlib.Core.Path.{_≡_};
 ghost use Rattle.printing.specs.Line.{tailOf, tailIn};
 

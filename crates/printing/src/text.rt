@@ -26,7 +26,7 @@ pub fn line_of(cci: u32, number: u8) -> Line
     }
 }
 
-// An unknown kind or a cut record.
+// The line printed at an unknown kind or a cut record (01, Replay program).
 pub fn stop() -> Line
     ensures { λ r. ⌜ r ≡ stopOf ⌝ }
 {
@@ -36,7 +36,7 @@ pub fn stop() -> Line
     }
 }
 
-// Nothing to print.
+// A line without a character, where nothing is printed.
 pub fn none() -> Line
     ensures { λ r. ⌜ r ≡ lineIn [] ⌝ }
 {

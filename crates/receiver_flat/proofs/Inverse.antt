@@ -1,5 +1,5 @@
--- The numbers of a session say that session, and numbers that are a session's are those of the session that they say: on every state that
--- the library hands out, packing and unpacking are each other's inverse.
+-- Unpacking what was packed gives the session again, and packing what was unpacked gives a session's numbers again: on every state that the
+-- library hands out, the two are each other's inverse.
 use Prim.Native.Nat.{ℕ, zero, suc, _≤_}
 use mathlib.Core.Bool.{true}
 use mathlib.Core.Path.{_≡_, refl}

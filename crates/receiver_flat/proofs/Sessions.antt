@@ -1,4 +1,4 @@
--- Numbers are taken for a session's exactly where they are one in the paper's own numbers.
+-- `is_session` is true of exactly those numbers that are a session's in the paper's own numbers (specs/Valid.antt).
 use Prim.Native.Nat.{ℕ, _≤_}
 use mathlib.Core.Bool.{Bool, true, false, true≢false}
 use mathlib.Core.Path.{_≡_, refl, sym}

@@ -59,7 +59,7 @@ receiverPhaseNumbersOf p = receiverPhaseNumbers (receiverPhaseCode p) (acceptedO
 abbrev pub receiverPackOf : Receiver → FlatReceiver
 receiverPackOf r = flatReceiver (r .settings) (r .identity) (r .capacity) (acceptedOf (r .phase)) (receiverPhaseCode (r .phase)) (receiverShortOf (r .phase)) (r .silence) (r .resends)
 
--- A code that is no phase's is read as Idle.
+-- The phase of a code; a code that is no phase's is read as Idle.
 unfoldable pub receiverPhaseOf : ℕ → Accepted → ℕ → Phase
 receiverPhaseOf code accepted short =
     pick (eqb code 1) (Transfer (record { accepted = accepted; short = eqb short 1 }))
@@ -70,7 +70,7 @@ receiverPhaseOf code accepted short =
 abbrev pub receiverUnpackOf : FlatReceiver → Receiver
 receiverUnpackOf f = receiverSession (f .settings) (f .identity) (f .capacity) (receiverPhaseOf (f .phase) (f .accepted) (f .«last_short»)) (f .silence) (f .resends)
 
--- Numbers of a phase: a flag in Transfer and 0 elsewhere, and no counts in Idle.
+-- Whether the numbers are those of a phase: the short flag is 0 or 1 in Transfer and 0 elsewhere, and in Idle the counts are 0.
 unfoldable pub isReceiverPhase : ℕ → Accepted → ℕ → Bool
 isReceiverPhase code accepted short =
     pick (eqb code 1) (leb short 1)
@@ -78,14 +78,14 @@ isReceiverPhase code accepted short =
     (pick (eqb code 0) (pick (eqb (accepted .blocks) 0) (eqb (accepted .bytes) 0) false) (leb code 3))
     false)
 
--- Numbers of a session: what a start takes, in a phase.
+-- Whether the numbers are those of a session: a start takes the settings and the capacity, and the rest are those of a phase.
 unfoldable pub isReceiverSession : FlatReceiver → Bool
 isReceiverSession f =
     pick (eqb (receiverStartNumberOf (receiverStartOf (f .settings .limit) (f .settings .resends) (f .identity) (f .capacity))) 0)
     (isReceiverPhase (f .phase) (f .accepted) (f .«last_short»))
     false
 
--- All zero.
+-- All zero: what a refused start hands out.
 abbrev pub zeroReceiver : FlatReceiver
 zeroReceiver =
     flatReceiver (record { limit = 0; resends = 0 })

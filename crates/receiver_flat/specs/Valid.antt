@@ -6,7 +6,7 @@ use Rattle.silence.specs.Within.{Within}
 use Rattle.receiver_state.specs.declared.phase.Accepted.{Accepted}
 use Rattle.receiver_flat.specs.declared.flat.FlatReceiver.{FlatReceiver}
 
--- Idle 0, Transfer 1, Await 2, Good 3: a flag in Transfer alone, no counts in Idle.
+-- The codes are Idle 0, Transfer 1, Await 2, Good 3. The short flag is 1 in Transfer alone, and in Idle nothing is accepted.
 pub record ReceiverPhaseValid (phase : ℕ) (accepted : Accepted) (short : ℕ) : Type 0 where
   pub phases : phase ≤ 3
   pub flag : short ≤ 1

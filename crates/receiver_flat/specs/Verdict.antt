@@ -1,4 +1,4 @@
--- The verdict that a code says, 1 good, 2 bad, 3 later; any other is a later verdict without a wait, which is out of range (26).
+-- The verdict of a code: 1 good, 2 bad, 3 later. Any other code is a later verdict with a wait of 0, which is out of range (26).
 use Prim.Native.Nat.{ℕ}
 use lib.Dec.{eqb}
 use Rattle.basis.specs.Pick.{pick}

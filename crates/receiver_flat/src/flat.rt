@@ -6,7 +6,7 @@ use wire::response::Identity;
 ghost use mathlib.Core.Path.{_≡_};
 ghost use Rattle.receiver_flat.specs.Flat.{zeroReceiver};
 
-// `accepted` is zero in Idle; `last_short` is a flag in Transfer and 0 elsewhere.
+// `accepted` is zero in Idle. `last_short` is 1 in Transfer after a short block, and 0 otherwise.
 #[repr(C)]
 pub struct FlatReceiver {
     pub settings: Settings,
@@ -28,7 +28,7 @@ pub(crate) const AWAIT: u8 = 2;
 pub(crate) const GOOD: u8 = 3;
 
 impl FlatReceiver {
-    // All zero: what a refused start hands out, and no session.
+    // All zero, which is no session: what a refused start hands out.
     pub fn none() -> FlatReceiver
         ensures { λ r. ⌜ r ≡ zeroReceiver ⌝ }
     {

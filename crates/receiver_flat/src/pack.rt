@@ -7,7 +7,7 @@ use receiver_state::session::Receiver;
 ghost use mathlib.Core.Path.{_≡_};
 ghost use Rattle.receiver_flat.specs.Flat.{receiverPhaseNumbers, receiverPhaseNumbersOf, receiverPackOf};
 
-// What a phase says, as numbers.
+// A phase as numbers.
 struct PhaseNumbers {
     accepted: Accepted,
     phase: u8,

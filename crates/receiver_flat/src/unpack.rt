@@ -1,5 +1,5 @@
-// The session that the numbers say, and whether they are a session's at all: one that a start makes of the same settings, identity and
-// capacity, in a phase.
+// The session of given numbers, and whether they are a session's: a start takes the settings and the capacity, and the rest are the numbers
+// of a phase.
 use crate::flat;
 use crate::flat::FlatReceiver;
 use receiver_state::phase::Accepted;
@@ -46,7 +46,7 @@ impl FlatReceiver {
     }
 }
 
-// A code that is no phase's is read as Idle; `is_phase` tells the two apart.
+// A code that is no phase's is read as Idle; `is_phase` is false of it.
 fn phase_of(code: u8, accepted: Accepted, short: u8) -> Phase
     ensures { λ r. ⌜ r ≡ receiverPhaseOf code accepted short ⌝ }
 {
@@ -65,7 +65,7 @@ fn phase_of(code: u8, accepted: Accepted, short: u8) -> Phase
     Phase::Idle
 }
 
-// Whether the numbers are some phase's.
+// Whether the numbers are those of a phase.
 fn is_phase(code: u8, accepted: Accepted, short: u8) -> bool
     ensures { λ r. ⌜ r ≡ isReceiverPhase code accepted short ⌝ }
 {

@@ -1,5 +1,5 @@
-// The verdict that a code says: 1 good, 2 bad, 3 later. Any other is a later verdict without a wait, which is refused (26); 0 among them,
-// so that a verdict that was forgotten is never a good one.
+// The verdict of a code: 1 good, 2 bad, 3 later. Any other code is a later verdict with a wait of 0, which is refused (26). So is 0: a caller
+// that forgets the verdict never gives a good one.
 use receiver_state::verdict::Verdict;
 ghost use mathlib.Core.Path.{_≡_};
 ghost use Rattle.receiver_flat.specs.Verdict.{verdictOf};

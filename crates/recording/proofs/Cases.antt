@@ -17,7 +17,7 @@ use Rattle.recording.specs.declared.reader.Read.{Read}
 use Rattle.recording.specs.declared.reader.Read.the-variants.{Found, Ended}
 use Rattle.recording.specs.declared.reader.Ending.the-variants.{Whole, Cut, UnknownKind}
 
--- No kind of the paper.
+-- A byte that is none of the paper's four kinds.
 abbrev pub Strange : ℕ → Type 0
 Strange kind = (kind ≡ 0) ⊎ (4 < kind)
 
@@ -29,7 +29,7 @@ strange (suc (suc (suc zero))) a b c d = absurd (c refl)
 strange (suc (suc (suc (suc zero)))) a b c d = absurd (d refl)
 strange (suc (suc (suc (suc (suc n))))) a b c d = inr (omega arith)
 
--- What holds at the end, at a known kind whose bytes are there, at one that is cut and at an unknown kind holds of what is read.
+-- A property holds of what is read if it holds in each case: at the end, of a known kind that is whole, of one that is cut, of an unknown kind.
 pub next-all : (P : Read → Type 0) (s : List ℕ) (at : ℕ)
     → (length s ≤ at → P (Ended Whole))
     → (at < length s → length s < at + 9 → P (Ended Cut))
@@ -57,7 +57,7 @@ next-all P s at end cut unknown control change success failure =
     sized size r most found h = pick-all P (ltb (length s - at) size) _ _ (λ u. let k = ltb-true (length s - at) size u in cut h (omega arith))
         (λ u. let k = ltb-false (length s - at) size u in found (omega arith))
 
--- A record that is found is one byte long at least, ends within the recording, and the place behind it is past its own bytes.
+-- A record that is found has at least one byte and ends within the recording, and the place after it is that end.
 abbrev pub Past : List ℕ → ℕ → Read → Type 0
 Past s at (Found r next) = (next ≡ at + length (recordBytesOf r)) × (at < next) × (next ≤ length s)
 Past s at (Ended e) = Unit
@@ -71,7 +71,7 @@ next-past s at =
 pub found-past : (s : List ℕ) (at : ℕ) (r : Record) (next : ℕ) → nextRecordOf s at ≡ Found r next → Past s at (Found r next)
 found-past s at r next e = subst (Past s at) e (next-past s at)
 
--- What is left of a recording that is whole is nothing, and of a cut record at most 8 bytes: the longest has 9.
+-- After a whole recording no byte is left, and of a cut record at most 8 bytes are: the longest record has 9.
 abbrev pub Short : List ℕ → ℕ → Read → Type 0
 Short s at (Found r next) = Unit
 Short s at (Ended Whole) = length s - at ≤ 0

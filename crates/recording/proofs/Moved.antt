@@ -1,4 +1,4 @@
--- What stands before a place, and what stands behind a record, plays no part in what is read there.
+-- What is read at a place depends neither on the bytes before the place nor on those after the record.
 use Prim.Native.Nat.{ℕ, _+_, _-_, _<_}
 use mathlib.Core.Bool.{Bool, true, false}
 use mathlib.Core.Path.{_≡_, refl, sym, _∙_, ap, subst}
@@ -20,12 +20,12 @@ use Rattle.recording.specs.declared.reader.Read.{Read}
 use Rattle.recording.specs.declared.reader.Read.the-variants.{Found, Ended}
 use Rattle.recording.specs.declared.reader.Ending.the-variants.{Whole, Cut, UnknownKind}
 
--- The same record, so much further on.
+-- The same record, with the place after it moved by n.
 abbrev pub moved : ℕ → Read → Read
 moved by (Found r next) = Found r (by + next)
 moved by (Ended e) = Ended e
 
--- What is read, by its tests: at the end, of the four kinds, and cut with the first three of them.
+-- What is read, one test after the other: at the end, of each of the four kinds, and cut for the first three.
 rows : Bool → Bool → Bool → Bool → Bool → Bool → Bool → Bool → ℕ → Record → Record → Record → Read
 rows end one two three four cut-one cut-two cut-three at x y z =
     pick end (Ended Whole)

@@ -28,7 +28,7 @@ read-back (Change connector reason) behind = kind-2 (recordBytesOf (Change conne
 read-back (Success n) behind = kind-3 (recordBytesOf (Success n) ++ behind) 0 refl (omega arith)
 read-back Failure behind = kind-4 (recordBytesOf Failure ++ behind) 0 refl (omega arith)
 
--- At any place.
+-- The same at any place of a recording.
 pub written-reads : (before : List ℕ) (r : Record) (behind : List ℕ)
     → nextRecordOf (before ++ (recordBytesOf r ++ behind)) (length before) ≡ Found r (length before + length (recordBytesOf r))
 written-reads before r behind =
@@ -36,7 +36,7 @@ written-reads before r behind =
     ∙ ap (λ (s : List ℕ). moved (length before) (nextRecordOf s 0)) (drop-append-seam before (recordBytesOf r ++ behind))
     ∙ ap (moved (length before)) (read-back r behind)
 
--- A record's bytes are consumed exactly: from its place on stand its own bytes, and then what is behind it.
+-- A record's bytes are consumed exactly: from its place on the recording has the record's own bytes, and then what follows it.
 abbrev pub Consumes : List ℕ → ℕ → Read → Type 0
 Consumes s at (Found r next) = drop at s ≡ recordBytesOf r ++ drop next s
 Consumes s at (Ended e) = Unit

@@ -6,7 +6,7 @@ use Rattle.recording.specs.Writing.{recordBytesOf, roomLeast}
 use Rattle.recording.specs.declared.record.Record.{Record}
 use Rattle.recording.specs.declared.record.Record.the-variants.{Control, Change, Success, Failure}
 
--- A kind at least, and never more than the writer asks room for.
+-- At least the byte of kind, and at most the nine bytes that the writer asks for.
 pub record-sized : (r : Record) → (1 ≤ length (recordBytesOf r)) × (length (recordBytesOf r) ≤ roomLeast)
 unfolding recordBytesOf
 record-sized (Control c) = (omega arith, omega arith)

@@ -19,7 +19,7 @@ use Rattle.recording.specs.declared.reader.Read.{Read}
 use Rattle.recording.specs.declared.reader.Read.the-variants.{Found, Ended}
 use Rattle.recording.specs.declared.reader.Ending.the-variants.{Whole}
 
--- The same rest behind a record that is found.
+-- Two ways to take the rest apart that agree on it agree on a record and the rest.
 rest-same : (f g : List ℕ → Apart) (s : List ℕ) (x : Read) → Past s 0 x → ((t : List ℕ) → length t < length s → f t ≡ g t) → onward f s x ≡ onward g s x
 rest-same f g s (Found r next) p e = rw (e (drop next s) (simp length-drop (omega (arith, p))))
 rest-same f g s (Ended ending) p e = refl
@@ -32,14 +32,14 @@ enough zero (suc k) s a b = sym (ap (onward (turns k) s) (nothing-there s 0 a))
 enough (suc j) zero s a b = ap (onward (turns j) s) (nothing-there s 0 b)
 enough (suc j) (suc k) s a b = rest-same (turns j) (turns k) s (nextRecordOf s 0) (next-past s 0) (λ t h. enough j k t (omega arith) (omega arith))
 
--- Taken apart is: the record at the start, and then the rest taken apart.
+-- A recording taken apart is the record at its start, and then the rest taken apart.
 pub apart-step : (s : List ℕ) → apartOf s ≡ onward apartOf s (nextRecordOf s 0)
 unfolding apartOf turns
 apart-step s =
     enough (length s) (suc (length s)) s (le-refl (length s)) (omega arith)
     ∙ rest-same (turns (length s)) apartOf s (nextRecordOf s 0) (next-past s 0) (λ t h. enough (length s) (length t) t (omega arith) (le-refl (length t)))
 
--- And so from every place on.
+-- The same from every place of a recording on.
 pub apart-at : (s : List ℕ) (at : ℕ) → apartOf (drop at s) ≡ onward apartOf s (nextRecordOf s at)
 apart-at s at = apart-step (drop at s) ∙ further (nextRecordOf (drop at s) 0) ∙ ap (onward apartOf s) (sym (next-drop s at))
   where
@@ -60,11 +60,11 @@ pub written-apart : (rs : List Record) → apartOf (writtenOf rs) ≡ apart rs W
 unfolding apartOf turns
 written-apart rs = ap apartOf (sym (append-nil (writtenOf rs))) ∙ apart-written rs [] ∙ ap (λ (l : List Record). apart l Whole) (append-nil rs)
 
--- No record stands at the start.
+-- There is no record at the start.
 abbrev pub NoRecord : List ℕ → Type 0
 NoRecord rest = apartOf rest .records ≡ []
 
--- The whole recording is taken apart in one way: records and a rest that begins with none.
+-- A recording is taken apart in only one way: into records and a rest that begins with no record.
 pub one-way : (rs rs′ : List Record) (rest rest′ : List ℕ) → NoRecord rest → NoRecord rest′ → writtenOf rs ++ rest ≡ writtenOf rs′ ++ rest′ → (rs ≡ rs′) × (rest ≡ rest′)
 one-way rs rs′ rest rest′ b b′ e =
     let same : rs ≡ rs′ =
@@ -78,7 +78,7 @@ one-way rs rs′ rest rest′ b b′ e =
           ∙ drop-append-seam (writtenOf rs′) rest′,
     )
 
--- And what was taken apart is the recording: its records written again, and then the rest.
+-- The records written again, and then the rest, are the recording.
 pub record Rebuilt (s : List ℕ) (a : Apart) : Type 0 where
   pub rest : List ℕ
   pub whole : s ≡ writtenOf (a .records) ++ rest

@@ -24,7 +24,7 @@ short-27 = refl
 pub whole-0 : (n : ℕ) → recordWriteNumberOf (Whole n) ≡ 0
 whole-0 n = refl
 
--- From 9 bytes on it is written, and what is behind its own bytes is kept.
+-- From 9 bytes on the record is written, and the bytes after its own are kept.
 pub write-whole : (r : Record) (out : List ℕ) → 9 ≤ length out → recordWriteOf r out ≡ left (Whole (length (recordBytesOf r))) (recordBytesOf r ++ drop (length (recordBytesOf r)) out)
 unfolding recordWriteOf
 write-whole r out h = pick-no _ _ _ (le-ltb (length out) 9 h)

@@ -1,4 +1,4 @@
--- A whole recording taken apart into its records and why there is none behind the last of them (01, Replay program).
+-- A whole recording taken apart: its records, and why there is no further one after the last (01, Replay program).
 use Prim.Native.Nat.{ℕ, zero, suc}
 use mathlib.Core.List.{List, [], _∷_, _++_}
 use lib.ListN.{length, drop}
@@ -17,12 +17,12 @@ pub record Apart : Type 0 where
 abbrev pub apart : List Record → Ending → Apart
 apart records ending = record { records = records; ending = ending }
 
--- What was read at the start, and then what becomes of the rest.
+-- A record that was read at the start comes first, and `rest` takes the rest apart; where none is found it ends.
 abbrev pub onward : (List ℕ → Apart) → List ℕ → Read → Apart
 onward rest s (Found r next) = apart (r ∷ rest (drop next s) .records) (rest (drop next s) .ending)
 onward rest s (Ended ending) = apart [] ending
 
--- A record has at least one byte, so that as many turns as there are bytes are enough.
+-- One record a turn. A record has at least one byte, so that as many turns as there are bytes are enough.
 unfoldable pub turns : ℕ → List ℕ → Apart
 turns zero s = apart [] Whole
 turns (suc left) s = onward (turns left) s (nextRecordOf s 0)
@@ -30,7 +30,7 @@ turns (suc left) s = onward (turns left) s (nextRecordOf s 0)
 unfoldable pub apartOf : List ℕ → Apart
 apartOf s = turns (length s) s
 
--- Records written one behind the other.
+-- Records written one after the other.
 abbrev pub writtenOf : List Record → List ℕ
 writtenOf [] = []
 writtenOf (r ∷ rs) = recordBytesOf r ++ writtenOf rs

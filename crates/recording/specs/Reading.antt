@@ -32,7 +32,7 @@ pairOf low high = low + 256 * high
 abbrev pub changeAt : List ℕ → ℕ → Record
 changeAt s i = Change (byteAt s i) (pairOf (byteAt s (i + 1)) (byteAt s (i + 2)))
 
--- A record of so many bytes, its kind among them, if they are there.
+-- A record of `size` bytes, its kind included, if the recording has them; else it is cut.
 abbrev pub whole : List ℕ → ℕ → ℕ → Record → Read
 whole s at size r = pick (ltb (length s - at) size) (Ended Cut) (Found r (at + size))
 

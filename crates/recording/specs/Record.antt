@@ -1,4 +1,4 @@
--- What a record says.
+-- The bytes of a CONTROL record's body.
 use Prim.Native.Nat.{ℕ}
 use mathlib.Core.List.{List, [], _∷_}
 use Rattle.recording.specs.declared.record.ControlBytes.{ControlBytes}

@@ -23,11 +23,11 @@ recordBytesOf (Change connector reason) = 2 ∷ connector ∷ reason % 256 ∷ r
 recordBytesOf (Success length) = 3 ∷ length ∷ []
 recordBytesOf Failure = 4 ∷ []
 
--- The longest record.
+-- The length of the longest record, CONTROL's.
 abbrev pub roomLeast : ℕ
 roomLeast = 9
 
--- The record's bytes in an array of nine, zeros behind them.
+-- The record's bytes in an array of nine, zeros after them.
 unfoldable pub inNine : List ℕ → Nine
 inNine bytes = record { bytes = bytes ++ replicate (roomLeast - length bytes) 0; len = length bytes }
 

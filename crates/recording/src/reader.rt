@@ -1,4 +1,4 @@
-// The record that stands at a place of a recording.
+// The record at a place of a recording.
 use crate::kinds;
 use crate::record::ControlBytes;
 use crate::record::Record;
@@ -8,16 +8,16 @@ ghost use lib.ListN.{length};
 ghost use Rattle.recording.specs.Reading.{nextRecordOf, controlFrom, changeFrom, successFrom, controlAt, changeAt, pairOf};
 
 pub enum Read {
-    // The record after it stands at `next`.
+    // The record after it begins at `next`.
     Found { record: Record, next: usize },
     Ended(Ending),
 }
 
 // Why no record is found.
 pub enum Ending {
-    // Nothing stands there: the recording is whole.
+    // The recording ends here, after a whole record.
     Whole,
-    // The kind is known, and the recording ends within the record.
+    // The recording ends within a record of a known kind.
     Cut,
     UnknownKind,
 }

@@ -1,8 +1,8 @@
-// What a record says, by value.
+// The contents of a record, by value.
 ghost use mathlib.Core.Path.{_≡_};
 ghost use Rattle.recording.specs.Record.{controlBytes};
 
-// CONTROL's eight bytes. An enum of this language holds no array, so that they stand one by one.
+// CONTROL's eight bytes, each a field, because an enum of this language holds no array.
 pub struct ControlBytes {
     pub first: u8,
     pub second: u8,
@@ -17,7 +17,7 @@ pub struct ControlBytes {
 pub enum Record {
     Control(ControlBytes),
     Change { connector: u8, reason: u16 },
-    // The port's success with so many bytes, all zero.
+    // The port's success with `length` bytes, all zero.
     Success { length: u8 },
     Failure,
 }

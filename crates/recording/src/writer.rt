@@ -10,7 +10,7 @@ ghost use Rattle.recording.specs.Writing.{recordBytesOf, controlRecord, 
 const ROOM_LEAST: usize = kinds::CONTROL_SIZE;
 
 pub enum Written {
-    // So many bytes, at the buffer's start.
+    // How many bytes were written, at the buffer's start.
     Whole(usize),
     TooShort,
 }
@@ -45,7 +45,7 @@ pub fn write(record: Record, out: &mut [u8]) -> Written
     Written::Whole(len)
 }
 
-// The record's bytes, and zeros behind them.
+// The record's bytes, and zeros after them.
 fn nine_of(record: Record) -> Nine
     ensures { λ r. ⌜ r ≡ inNine (recordBytesOf «record») ⌝ }
 {

@@ -1,4 +1,4 @@
--- A piece is said where there is room for it, and left out where there is none.
+-- A piece is added where there is room for it, and left out where there is none.
 use Prim.Native.Nat.{ℕ, _+_, _≤_}
 use mathlib.Core.Bool.{Bool, true, false}
 use mathlib.Core.List.{List}

@@ -1,4 +1,4 @@
--- What is printed: one piece behind the other, and numbers that read back as what they were.
+-- What is printed: pieces in their order, and numbers that read back as the number they were made of.
 use Prim.Native.Nat.{ℕ, zero, suc, _+_, _/_, _%_, _^_, _<_, _≤_}
 use mathlib.Core.List.{List, [], _∷_, _++_}
 use mathlib.Core.Path.{_≡_, refl, subst, sym, _∙_, ap}
@@ -35,7 +35,7 @@ front-read (suc k) n cs h = pick-all (λ (l : List ℕ). digitsBehind 10 0 l ≡
     (λ t. ap (λ (r : ℕ). digitsBehind 10 r cs) (sym (eqb-true n 0 t)))
     (λ _. front-read k (n / 10) (figure (n % 10) ∷ cs) (less-left k (suc k) n (omega arith) h) ∙ last-read n cs)
 
--- Every number of 64 bits, and none begins with a zero but 0 itself.
+-- Of every number of 64 bits; only 0 itself begins with a zero.
 pub decimal-read : (n : ℕ) → n < 2 ^ 64 → numberIn 10 (decimalTextOf n) ≡ n
 decimal-read n h = front-read 19 (n / 10) (figure (n % 10) ∷ []) (omega arith) ∙ last-read n []
 

@@ -8,12 +8,12 @@ use Rattle.printing.specs.Line.{space}
 use Rattle.saying.specs.Said.{hyphen, appendedOf}
 use Rattle.saying.specs.declared.said.Said.{Said}
 
--- The number's digits in front of what stands there: at most so many, and none for 0.
+-- The digits of a number put in front of `behind`: at most k of them, and none for 0.
 unfoldable pub frontOf : ℕ → ℕ → List ℕ → List ℕ
 frontOf zero n behind = behind
 frontOf (suc k) n behind = pick (eqb n 0) behind (frontOf k (n / 10) (figure (n % 10) ∷ behind))
 
--- A number of 64 bits has at most 20. The last one is there for 0 too.
+-- A number of 64 bits has at most 20 digits. The last one is printed for 0 too.
 abbrev pub decimalTextOf : ℕ → List ℕ
 decimalTextOf n = frontOf 19 (n / 10) (figure (n % 10) ∷ [])
 

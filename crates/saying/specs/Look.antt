@@ -21,7 +21,7 @@ lookCountOf words memory = nextFieldOf (lookPlaceOf words memory) words spelledR
 abbrev pub lookFromOf : List ℕ → List ℕ → List ℕ
 lookFromOf words memory = drop (lookPlaceOf words memory .value) memory
 
--- Whether they are the line's only words, and the memory has as many bytes from the place on.
+-- Whether the line has these two numbers alone, and the memory has that many bytes from the place on.
 unfoldable pub lookFitsOf : List ℕ → List ℕ → Bool
 lookFitsOf words memory =
     pick (fieldsEndOf (lookCountOf words memory) words)

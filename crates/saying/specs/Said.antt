@@ -14,7 +14,7 @@ saidRoom = 4096
 abbrev pub said : ℕ → List ℕ → Said
 said len bytes = record { len = len; bytes = bytes }
 
--- What is printed of it.
+-- The characters that are printed.
 abbrev pub saidTextOf : Said → List ℕ
 saidTextOf t = take (t .len) (t .bytes)
 
@@ -39,7 +39,7 @@ notUnderstood = appendedOf emptyText
     (space ∷ 0x6E ∷ 0x6F ∷ 0x74
     ∷ space ∷ 0x75 ∷ 0x6E ∷ 0x64 ∷ 0x65 ∷ 0x72 ∷ 0x73 ∷ 0x74 ∷ 0x6F ∷ 0x6F ∷ 0x64 ∷ [])
 
--- What stands for no bytes.
+-- A hyphen is printed where there are no bytes, and no text.
 abbrev pub noneOf : Said → Said
 noneOf t = appendedOf t (space ∷ hyphen ∷ [])
 

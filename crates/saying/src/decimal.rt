@@ -5,7 +5,7 @@ ghost use lib.ListN.{length, drop};
 ghost use Rattle.saying.specs.Said.{appendedOf};
 ghost use Rattle.saying.specs.Decimal.{decimalTextOf, numberTextOf, rangeOf};
 
-// As many as a number of 64 bits has.
+// The digits of the largest number of 64 bits.
 const DIGITS: usize = 20;
 
 impl Said {
@@ -35,7 +35,7 @@ impl Said {
     }
 }
 
-// The digits stand at the array's end: the answer is where they begin.
+// The digits are written at the end of the array; the result is where they begin.
 fn spell(n: u64, out: &mut [u8; DIGITS]) -> usize
     requires { ⌜ length (now out) ≡ 20 ⌝ }
     ensures { λ _. ⌜ length (now (out .exit)) ≡ 20 ⌝ }

@@ -1,5 +1,5 @@
-// What a program of the vectors says behind a line of its script: a text that is put together by value, piece by piece, and printed by the
-// program alone.
+// The text that a program of the vectors prints after a line of its script, put together by value, piece by piece; only the program
+// prints.
 mod decimal;
 mod hex;
 mod memory;

@@ -4,7 +4,7 @@ use script::Field;
 ghost use mathlib.Core.Path.{_≡_};
 ghost use Rattle.saying.specs.Look.{lookOf};
 
-// The place and the count are the line's two numbers. Bytes that the memory does not have, and more than a line spells, are not understood.
+// The line's two numbers are a place and a count. Bytes past the memory's end, and more than a line can spell, are not understood.
 pub fn look(words: &[u8], memory: &[u8]) -> Said
     ensures { λ r. ⌜ r ≡ lookOf (now (words .entry)) (now (memory .entry)) ⌝ }
 {

@@ -1,12 +1,12 @@
-// The text behind a line. Each piece has its space in front.
+// The text after a line of the script. Each piece has its space in front.
 use lent::Placed;
 ghost use mathlib.Core.Path.{_≡_};
 ghost use Rattle.saying.specs.Said.{emptyText, notUnderstood, appendedOf, saidLinesOf, characterOf};
 
-// More than the longest text, that of a replay: 4,000 bytes of lines and what stands around them.
+// More than the longest text, that of a replay: 4,000 bytes of lines, and the numbers before and after them.
 const ROOM: usize = 4096;
 
-// The text stands at the start of the array.
+// The text is at the start of the array.
 pub struct Said {
     pub len: usize,
     pub bytes: [u8; ROOM],
@@ -22,7 +22,7 @@ impl Said {
         }
     }
 
-    // The answer to a line that is none of the script's.
+    // The text after a line that the program does not know.
     pub fn not_understood() -> Said
         ensures { λ r. ⌜ r ≡ notUnderstood ⌝ }
     {

@@ -19,7 +19,7 @@ bytes = 0x20 ∷ 0x30 ∷ 0x31 ∷ 0x20 ∷ 0x41 ∷ 0x41 ∷ 0x2A ∷ 0x32 ∷ 
 abbrev noByte : List ℕ
 noByte = 0x20 ∷ 0x31 ∷ 0x47 ∷ []
 
--- The first word of "ab c" and what stands behind it; the number 10 up to 10 and up to 9, and no characters; the bytes 01 AA AA, and none.
+-- The first word of "ab c" and what follows it; the number 10 up to 10 and up to 9, and no characters; the bytes 01 AA AA, and none.
 pub record Cases : Type 0 where
   pub first-word : firstWordOf (0x61 ∷ 0x62 ∷ 0x20 ∷ 0x63 ∷ []) ≡ 0x61 ∷ 0x62 ∷ []
   pub behind-it : afterFirstWordOf (0x61 ∷ 0x62 ∷ 0x20 ∷ 0x63 ∷ []) ≡ 0x20 ∷ 0x63 ∷ []

@@ -1,4 +1,4 @@
--- In the middle of words: the bytes that were read so far, and then the rest of the words behind them, are what all of them spell.
+-- The loop's invariant: the bytes read so far and what the remaining words spell are together what all the words spell.
 use Prim.Native.Nat.{ℕ, _+_, _-_, _<_, _≤_, min}
 use mathlib.Core.Bool.{true}
 use mathlib.Core.Path.{_≡_, refl, sym, _∙_, ap}
@@ -26,7 +26,7 @@ pub record Mid (words bytes : List ℕ) (len at : ℕ) : Type 0 where
 pub mid-begins : (words bytes : List ℕ) → bytes ≡ spelledZeros → Mid words bytes 0 0
 mid-begins words bytes e = record { read = []; is-len = refl; is-bytes = e; fits = omega arith; place = omega arith; run = refl }
 
--- Bytes put behind those that lead the zeros lead them too.
+-- Bytes written right after those read give the longer list of bytes, again with zeros after it.
 put-behind : (read s : List ℕ) (n : ℕ) → length s ≡ n → paste (read ++ drop (length read) spelledZeros) (length read) s n ≡ (read ++ s) ++ drop (length (read ++ s)) spelledZeros
 put-behind read s n e =
     rw (take-append-seam read (drop (length read) spelledZeros), take-all n s (omega arith), drop-append-add read (drop (length read) spelledZeros) n, drop-drop n (length read) spelledZeros, length-append read s, e)

@@ -8,11 +8,11 @@ use lib.ListN.{length, take, drop, drop-of-length-le}
 use lib.Seq.{length-take-le, take-all}
 use Rattle.basis.specs.Lists.{tail-all}
 
--- Behind the end of a list there is as much as at its end.
+-- A place past the end of a list leaves nothing, as its end does.
 pub from-behind : (s : List ℕ) (at : ℕ) → length s < at → take (length s - length s) (drop (length s) s) ≡ drop at s
 from-behind s at h = rw (tail-all (length s) s, drop-of-length-le s (le-refl (length s)), drop-of-length-le s {i = at} (omega arith))
 
--- What is lent of a memory is a front of it: `&memory[..n]` asks for this.
+-- What is lent of a memory is at most all of it: `&memory[..n]` asks for this.
 pub part-counts : (n asked : ℕ) (memory : List ℕ) → n ≡ min asked (length memory) → n ≡ length (take n memory)
 part-counts n asked memory e = sym (length-take-le n memory (omega arith))
 

@@ -15,7 +15,7 @@ use Rattle.script.specs.declared.run.Run.the-variants.{Of, Other}
 use Rattle.script.specs.declared.spelling.Spelled.{Spelled}
 use Rattle.script.proofs.WordLaws.{rest-short, word-on, rest-on}
 
--- The same rest behind a word.
+-- Two ways to read on that agree on the rest agree on a word and the rest.
 rest-same : (f g : List ℕ → Spelled) (read : List ℕ) (run : Run) → ((r : List ℕ) → f r ≡ g r) → spelledOnward f read run ≡ spelledOnward g read run
 rest-same f g read (Of byte times) e = e (spelledGrown read byte times)
 rest-same f g read Other e = refl
@@ -53,7 +53,7 @@ behind-more words read h =
     ∙ turn-more (length words) words read h
     ∙ rest-same (spelledTurns (length words) rest) (λ r. spelledBehind rest r) read (byteRunOf (scriptWordAt words 0)) (λ r. enough (length words) (length rest) rest r (omega arith) (le-refl (length rest)))
 
--- And so from every place on.
+-- The same from every place in the words on.
 pub behind-at : (words : List ℕ) (at : ℕ) (read : List ℕ) → at < length words
     → spelledBehind (drop at words) read ≡ spelledOnward (λ r. spelledBehind (drop (at + 1 + length (scriptWordAt words at)) words) r) read (byteRunOf (scriptWordAt words at))
 behind-at words at read h =

@@ -1,4 +1,4 @@
--- Where the first word ends, what stands behind it, and that a word lies within its line.
+-- Where the first word ends, what follows it, and that a word lies within its line.
 use Prim.Native.Nat.{ℕ, _+_, _-_, _<_, _≤_}
 use mathlib.Core.Path.{_≡_, sym, _∙_, ap}
 use mathlib.Core.List.{List}
@@ -34,7 +34,7 @@ module _ (words : List ℕ) (at : ℕ) where
   unfolding scriptWordAt firstWordOf
   word-within h = simp (length-take, length-drop) (omega arith)
 
-  -- The words from a place on have their first word there, and behind it what stands behind that word.
+  -- From place `at` on, the first word is the word at `at`, and what follows it there is what follows it here.
   pub word-on : scriptWordAt (drop at words) 0 ≡ scriptWordAt words at
   unfolding scriptWordAt
   word-on = ap firstWordOf (drop-drop 1 at words)

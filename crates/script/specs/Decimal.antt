@@ -1,4 +1,4 @@
--- Numbers in decimal, up to the most that is asked for.
+-- Numbers read in decimal; one above `most` is not known.
 use Prim.Native.Nat.{ℕ, _+_, _*_}
 use mathlib.Core.Bool.{true, false}
 use mathlib.Core.List.{List, foldl}
@@ -11,18 +11,18 @@ use Rattle.script.specs.declared.number.Number.{Number}
 abbrev pub noNumber : Number
 noNumber = record { known = false; value = 0 }
 
--- One digit more behind a number.
+-- A number with one more digit.
 unfoldable pub addedOf : ℕ → ℕ → ℕ → Number
 addedOf most n d =
     pick (ltb 9 d) noNumber
     (pick (ltb most (10 * n + d)) noNumber
     (record { known = true; value = 10 * n + d }))
 
--- One character more behind what was read.
+-- One more character is read.
 unfoldable pub decimalStepOf : ℕ → Number → ℕ → Number
 decimalStepOf most read c = pick (read .known) (addedOf most (read .value) (digitReadOf c)) noNumber
 
--- No characters are no number.
+-- Without a character there is no number.
 abbrev pub decimalBegun : List ℕ → Number
 decimalBegun s = record { known = ltb 0 (length s); value = 0 }
 

@@ -5,7 +5,7 @@ use Rattle.basis.specs.Pick.{pick}
 use Rattle.script.specs.declared.digit.Byte.{Byte}
 use Rattle.script.specs.declared.digit.Byte.the-variants.{Is, NoByte}
 
--- No digit stands for as much.
+-- Above the value of every digit: the character is none.
 abbrev pub noDigit : ℕ
 noDigit = 16
 

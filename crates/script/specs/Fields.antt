@@ -13,18 +13,18 @@ use Rattle.script.specs.declared.field.Field.{Field}
 abbrev pub numberField : Bool → ℕ → ℕ → Field
 numberField known value end = record { known = known; value = value; end = end }
 
--- Before a line's first number.
+-- Where a line's numbers begin: none has been read.
 abbrev pub fieldsBegun : Field
 fieldsBegun = numberField true 0 0
 
 abbrev pub bothKnown : Bool → Bool → Bool
 bothKnown a b = pick a b false
 
--- This word's number, if those before it are numbers too.
+-- The number of this word, known only if all words before it are numbers too.
 abbrev pub fieldBehind : Field → List ℕ → Number → Field
 fieldBehind f word n = numberField (bothKnown (f .known) (n .known)) (n .value) (f .end + 1 + length word)
 
--- Where no word is left there is no number.
+-- The next word's number; where no word is left, none is known.
 unfoldable pub nextFieldOf : Field → List ℕ → ℕ → Field
 nextFieldOf f words most =
     pick (leb (length words) (f .end)) (numberField false 0 (f .end))
@@ -33,7 +33,7 @@ nextFieldOf f words most =
 unfoldable pub fieldsEndOf : Field → List ℕ → Bool
 fieldsEndOf f words = bothKnown (f .known) (eqb (f .end) (length words))
 
--- The value of a number of at most 8 bits, and of at most 16.
+-- The value of a number that was asked for with at most 8 bits, and with at most 16.
 abbrev pub fieldByteOf : Field → ℕ
 fieldByteOf f = f .value % 256
 

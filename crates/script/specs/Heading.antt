@@ -1,4 +1,4 @@
--- Which lines ask for an answer.
+-- Which lines ask for an answer: all but headings.
 use Prim.Native.Nat.{ℕ}
 use mathlib.Core.Bool.{Bool, true, not}
 use mathlib.Core.List.{List}
@@ -10,7 +10,7 @@ use Rattle.basis.specs.Pick.{pick}
 abbrev pub hash : ℕ
 hash = 0x23
 
--- An empty line, and a comment.
+-- A heading is an empty line or a comment.
 unfoldable pub headingOf : List ℕ → Bool
 headingOf line = pick (eqb (length line) 0) true (eqb (byteAt line 0) hash)
 

@@ -25,7 +25,7 @@ asOften byte n = pick (n .known) (Of byte (n .value)) Other
 unfoldable pub countedRunOf : ℕ → List ℕ → Run
 countedRunOf byte digits = asOften byte (decimalReadOf digits timesMost)
 
--- Nothing, or a star and the count.
+-- What follows the byte: nothing, or a star and the count.
 unfoldable pub timesOf : ℕ → List ℕ → Run
 timesOf byte tail =
     pick (eqb (length tail) 0) (Of byte 1)

@@ -1,4 +1,4 @@
--- The words of a line. One space stands before each word but a line's first.
+-- The words of a line. There is one space before each word but the line's first.
 use Prim.Native.Nat.{ℕ, _+_}
 use mathlib.Core.List.{List}
 use lib.ListN.{length, take, drop}
@@ -11,10 +11,10 @@ space = 0x20
 unfoldable pub firstWordOf : List ℕ → List ℕ
 firstWordOf s = take (indexOf space s) s
 
--- What stands behind the first word, with its space.
+-- What follows the first word, with its space.
 unfoldable pub afterFirstWordOf : List ℕ → List ℕ
 afterFirstWordOf s = drop (length (firstWordOf s)) s
 
--- The word behind the space at a place.
+-- The word that follows the space at place `at`.
 unfoldable pub scriptWordAt : List ℕ → ℕ → List ℕ
 scriptWordAt words at = firstWordOf (drop (at + 1) words)

@@ -2,7 +2,7 @@
 ghost use mathlib.Core.Path.{_≡_};
 ghost use Rattle.script.specs.Digits.{digitReadOf, byteReadOf};
 
-// No digit stands for as much.
+// Above the value of every digit: the character is none.
 const NO_DIGIT: u8 = 16;
 
 pub(crate) enum Byte {

@@ -6,7 +6,7 @@ ghost use mathlib.Core.Bool.{false};
 ghost use Rattle.basis.specs.Pick.{pick};
 ghost use Rattle.script.specs.Fields.{fieldsBegun, nextFieldOf, fieldsEndOf, fieldByteOf, fieldWordOf};
 
-// A word: its number, where it ends, and whether this word and those before it are numbers.
+// A word's number, where the word ends, and whether this word and all before it are numbers.
 pub struct Field {
     pub known: bool,
     pub value: usize,
@@ -14,7 +14,7 @@ pub struct Field {
 }
 
 impl Field {
-    // Before a line's first number.
+    // Where a line's numbers begin: none has been read.
     pub fn none() -> Field
         ensures { λ r. ⌜ r ≡ fieldsBegun ⌝ }
     {
@@ -60,7 +60,7 @@ impl Field {
         (self.value % 65536) as u16
     }
 
-    // Whether the line's words are numbers up to this one, and it is the last.
+    // Whether this is the line's last word, and all its words are numbers.
     pub fn ends(self, words: &[u8]) -> bool
         ensures { λ r. ⌜ r ≡ fieldsEndOf self (now (words .entry)) ⌝ }
     {

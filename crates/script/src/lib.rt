@@ -21,7 +21,7 @@ pub use spelling::spell;
 pub use words::first;
 pub use words::rest;
 
-// Room for a script. The most that one may have is a byte less: a longer script is refused, and none is cut without a word.
+// Room for a script. A script may have one byte less, so that one that is too long is seen and refused, not cut.
 pub const TEXT_ROOM: usize = 131072;
 
 pub const TEXT_MOST: usize = 131071;

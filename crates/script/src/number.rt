@@ -5,13 +5,13 @@ ghost use Prim.Native.Nat.{_+_, _*_};
 ghost use lib.Dec.{ltb};
 ghost use Rattle.script.specs.Decimal.{noNumber, addedOf, decimalStepOf, decimalReadOf};
 
-// The value of what is no number is 0.
+// `value` is 0 where `known` is false.
 pub struct Number {
     pub known: bool,
     pub value: usize,
 }
 
-// What passes the most is no number here.
+// A number above `most` is not known.
 pub fn decimal(s: &[u8], most: usize) -> Number
     ensures { λ r. ⌜ r ≡ decimalReadOf (now (s .entry)) most ⌝ }
 {
@@ -60,7 +60,7 @@ fn added(n: usize, d: u8, most: usize) -> Number
     }
 }
 
-// The number with the next digit is not made up, since it could wrap.
+// Whether the number with one more digit is above `most`, tested without that number, since it could wrap.
 fn passes(n: usize, d: u8, most: usize) -> bool
     ensures { λ r. ⌜ r ≡ ltb most (10 * n + d) ⌝ }
 {

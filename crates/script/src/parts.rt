@@ -22,7 +22,7 @@ pub fn upto(s: &[u8], n: usize) -> &[u8]
     &s[..n]
 }
 
-// How much of a memory a call borrows: more than there is lends all there is.
+// How much of a memory a call borrows: as much as was asked for, at most all of it.
 pub fn part_of(memory: &[u8], asked: usize) -> usize
     ensures { λ r. ⌜ r ≡ min asked (length (now (memory .entry))) ⌝ }
 {

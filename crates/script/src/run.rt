@@ -6,7 +6,7 @@ use crate::parts::from;
 ghost use mathlib.Core.Path.{_≡_};
 ghost use Rattle.script.specs.Runs.{countedRunOf, timesOf, byteRunOf};
 
-// The most that a word can ask for: more than there is room for.
+// The largest count that a word may give, which is more than there is room for.
 const TIMES_MOST: usize = 9999;
 
 pub(crate) enum Run {

@@ -11,7 +11,7 @@ ghost use Rattle.script.specs.Spelling.{spelledRoom, spelledZeros, unspe
 // Room for messages longer than the 260 bytes of document 01, and for more than the 255 of a success.
 pub const ROOM: usize = 320;
 
-// The bytes stand at the start of the array, zeros behind them. They are known if every word was a byte or a run of bytes.
+// The bytes are at the start of the array, zeros after them. `known` is true if every word was a byte or a run of bytes.
 pub struct Spelled {
     pub known: bool,
     pub len: usize,
@@ -60,7 +60,7 @@ fn nothing() -> Spelled
     }
 }
 
-// How many of so many bytes still have room.
+// How many of `times` bytes fit after the first `len`.
 fn fitting(len: usize, times: usize) -> usize
     requires { ⌜ len ≤ spelledRoom ⌝ }
     ensures { λ r. ⌜ r ≡ min times (spelledRoom - len) ⌝ }

@@ -1,4 +1,4 @@
-// The words of a line. One space stands before each word but a line's first.
+// The words of a line. There is one space before each word but the line's first.
 use crate::parts::from;
 ghost use mathlib.Core.Path.{_≡_};
 ghost use Prim.Native.Nat.{_+_, _<_, _≤_};
@@ -20,7 +20,7 @@ pub fn first(s: &[u8]) -> &[u8]
     &s[..end]
 }
 
-// What stands behind the first word, with its space.
+// What follows the first word, with its space.
 pub fn rest(s: &[u8]) -> &[u8]
     ensures { λ r. ⌜ now r ≡ afterFirstWordOf (now (s .entry)) ⌝ }
 {
@@ -28,7 +28,7 @@ pub fn rest(s: &[u8]) -> &[u8]
     &s[end..]
 }
 
-// The word behind the space at a place.
+// The word that follows the space at place `at`.
 pub(crate) fn word_at(words: &[u8], at: usize) -> &[u8]
     requires { ⌜ at < length (now words) ⌝ }
     ensures { λ r. ⌜ now r ≡ scriptWordAt (now (words .entry)) at ⌝ }

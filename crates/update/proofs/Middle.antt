@@ -1,4 +1,4 @@
--- What holds at each test of the loop.
+-- The loop's invariant: both ends are those of a session over the line, and no lent memory has changed its length.
 use Prim.Native.Nat.{ℕ, _≤_}
 use mathlib.Core.Path.{_≡_}
 use mathlib.Core.List.{List}

@@ -2,7 +2,7 @@
 use luck::Answered;
 use luck::Went;
 
-// `pushed` counts those whose place a newer one has taken before they arrived.
+// `pushed` counts those that a newer message replaced before they arrived.
 pub(crate) struct Counts {
     pub requests: u32,
     pub responses: u32,

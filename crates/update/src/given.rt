@@ -1,4 +1,4 @@
-// What the program was started with.
+// The program's arguments.
 use luck::Luck;
 use luck::Odds;
 
@@ -15,12 +15,12 @@ pub(crate) fn luck() -> Luck {
     Luck::seeded(number(1, 9), odds)
 }
 
-// A fourth argument, whatever it says.
+// Any fourth argument asks for the result alone.
 pub(crate) fn quiet() -> bool {
     4 < os::arg_count()
 }
 
-// The argument at this place, in decimal; one that is missing or no number has the usual value.
+// The argument at this place, read in decimal; `usual` where it is missing or no number.
 fn number(place: usize, usual: u32) -> u32 {
     let mut word = [0u8; WORD];
     let n = os::arg(place, &mut word);
@@ -44,7 +44,7 @@ fn value(digits: &[u8], usual: u32) -> u32 {
         if b'9' < d {
             return usual;
         }
-        // Nine digits never reach the remainder; it only shows that nothing wraps.
+        // With at most nine digits the remainder changes nothing: it is there so that the proof sees that nothing wraps.
         value = value % 100000000 * 10 + (d - b'0') as u32;
     }
     value

@@ -16,7 +16,7 @@ use wire::codes;
 use wire::request::Versions;
 use wire::response::Identity;
 
-// The largest image memory, and one byte more for the file, so that one that is too long is seen to be so (46).
+// The largest image memory. The file has one byte more, so that a file that is too long is refused (46) and not cut.
 const IMAGE: usize = codes::IMAGE_SIZE_MOST;
 
 const FILE: usize = codes::IMAGE_SIZE_MOST + 1;
@@ -27,12 +27,12 @@ fn main() {
     over(&mut file, &mut image);
 }
 
-// Here the arrays become slices: their lengths are known from their types, and no proof counts a million bytes.
+// The arrays become slices here, where their types give their lengths, so that no proof has to count a million bytes.
 fn over(file: &mut [u8; FILE], image: &mut [u8; IMAGE]) {
     read(file, image);
 }
 
-// The reading stops at a failure as at the file's end; one read more tells them apart.
+// The reading stops at a failure as it does at the file's end; one more read shows which it was.
 fn read(file: &mut [u8], image: &mut [u8]) {
     let n = io::read_full(STDIN_FILENO, file);
     let mut more = [0u8; 1];

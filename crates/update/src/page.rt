@@ -40,7 +40,7 @@ impl Page {
         self.word(&digits[..count])
     }
 
-    // The number ends at this column, or begins where the line has come to.
+    // The number ends at this column, or begins after what is there.
     pub(crate) fn right(self, column: usize, n: u64) -> Page
         requires { ⌜ self .at ≤ 120 ⌝ }
         ensures { λ r. ⌜ r .at ≤ 120 ⌝ }
@@ -53,7 +53,7 @@ impl Page {
         self.word(&digits[..count])
     }
 
-    // The next word begins at this column, or behind what is there.
+    // The next word begins at this column, or after what is there.
     pub(crate) fn column(self, column: usize) -> Page
         requires { ⌜ self .at ≤ 120 ⌝ }
         ensures { λ r. ⌜ r .at ≤ 120 ⌝ }
@@ -67,7 +67,7 @@ impl Page {
         self
     }
 
-    // Whether it was written.
+    // Returns whether the line could be written.
     pub(crate) fn print(self) -> bool
         requires { ⌜ self .at ≤ 120 ⌝ }
     {

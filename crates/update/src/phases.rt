@@ -1,4 +1,4 @@
-// Where each end stands (01, The receiver's phases; The indoor end's phases).
+// The phase of each end, and its name (01, The receiver's phases; The indoor end's phases).
 use crate::page::Page;
 use indoor_state::phase::Phase as Indoors;
 use indoor_state::session::Indoor;
@@ -6,7 +6,7 @@ use receiver_state::phase::Phase;
 use receiver_state::session::Receiver;
 ghost use Prim.Native.Nat.{_≤_};
 
-// With the blocks that it has accepted, of those that the file has.
+// The receiver's phase with the blocks that it has accepted, of those that the file has.
 pub(crate) fn receiver(page: Page, phase: Phase, blocks: u64) -> Page
     requires { ⌜ page .at ≤ 120 ⌝ }
     ensures { λ r. ⌜ r .at ≤ 120 ⌝ }

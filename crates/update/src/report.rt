@@ -1,4 +1,4 @@
-// What came of the session.
+// The result of the session, printed at its end.
 use crate::counts::Counts;
 use crate::page::Page;
 use crate::phases;
@@ -27,7 +27,7 @@ pub(crate) fn refused(number: u8) {
     say(page);
 }
 
-// It stops at a line that could not be written.
+// The first line that cannot be written ends the report.
 pub(crate) fn ended(ended: Ended, file: &[u8], image: &[u8])
     requires { ⌜ (ended .ends .indoor .state .phase ≡ Done → Same (now file) (ended .ends) (now image)) ⌝ }
 {
@@ -47,7 +47,7 @@ pub(crate) fn ended(ended: Ended, file: &[u8], image: &[u8])
     equality(judged);
 }
 
-// Done is never told of an image that differs.
+// Done is never reported of an image that differs from the file (demand 3).
 fn judge(ends: Ends, file: &[u8], image: &[u8]) -> Judged
     requires { ⌜ (ends .indoor .state .phase ≡ Done → Same (now file) ends (now image)) ⌝ }
     ensures { λ r. ⌜ r .done ≡ reportsDone (ends .indoor .state .phase) ⌝ }
@@ -131,7 +131,7 @@ fn equality(judged: Judged) -> bool {
     say(Page::blank().word(b"the image differs from the file"))
 }
 
-// Whether it failed, which standard error is told.
+// Returns whether the line could not be written, which is also said on standard error.
 fn say(page: Page) -> bool
     requires { ⌜ page .at ≤ 120 ⌝ }
 {

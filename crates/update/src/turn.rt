@@ -20,7 +20,7 @@ ghost use Rattle.lossy_ends.specs.Over.{Over};
 // The milliseconds of a turn.
 const TICK: u16 = 10;
 
-// The milliseconds of so many turns.
+// The milliseconds that these turns take.
 pub(crate) fn clock(turns: u32) -> u64 {
     turns as u64 * TICK as u64
 }
@@ -33,7 +33,7 @@ pub(crate) struct Stepped {
     pub failed: bool,
 }
 
-// What the message says is told before time may put another one in its buffer.
+// The message is printed before time passes, since an end may then write another one into its buffer.
 pub(crate) fn step(
     ends: Ends,
     counts: Counts,
@@ -53,7 +53,7 @@ pub(crate) fn step(
     turn_outcome(carried, passed, counts, view, failed_before)
 }
 
-// What the turn came to, once the silences are told too.
+// The turn's result, after what silence brought is printed too.
 fn turn_outcome(
     carried: Carried,
     passed: Passed,
@@ -92,7 +92,7 @@ fn message(carried: Carried, view: View, up: &[u8], down: &[u8]) -> bool {
     }
 }
 
-// The message that went, up to where it is told what became of it.
+// A line with the message that went, up to the column that says what became of it.
 fn line(rises: bool, way: Way, view: View, up: &[u8], down: &[u8]) -> Page
     ensures { λ r. ⌜ r .at ≤ 120 ⌝ }
 {
@@ -104,7 +104,7 @@ fn line(rises: bool, way: Way, view: View, up: &[u8], down: &[u8]) -> Page
     words::response(begun, way.message(down)).column(view::ANSWER)
 }
 
-// The answer's number, and where the end that answers then stands.
+// The answer's number, and the phase of the end that answered.
 fn answer(page: Page, rises: bool, ends: Ends, answered: Answered, blocks: u64) -> Page
     requires { ⌜ page .at ≤ 120 ⌝ }
     ensures { λ r. ⌜ r .at ≤ 120 ⌝ }
@@ -122,7 +122,7 @@ fn gave_up(before: Receiver, after: Receiver) -> bool {
     !was_idle && is_idle
 }
 
-// What time makes the ends send is told; `failed_before` says whether a line had failed before.
+// Prints what silence made the ends do. `failed_before`: a line of this turn could not be written.
 fn silence(
     failed_before: bool,
     gave_up: bool,

@@ -1,4 +1,4 @@
-// What is told of each turn.
+// The lines that are printed of each turn.
 use crate::page::Page;
 ghost use Prim.Native.Nat.{_≤_};
 
@@ -19,13 +19,13 @@ pub(crate) struct View {
 }
 
 impl View {
-    // The same at this time.
+    // The same view at another time.
     pub(crate) fn at(mut self, clock: u64) -> View {
         self.clock = clock;
         self
     }
 
-    // A line up to where it is told what comes: the time, and which way.
+    // The start of a line: the time, and the direction of the message.
     pub(crate) fn begin(self, direction: &[u8], again: bool) -> Page
         ensures { λ r. ⌜ r .at ≤ 120 ⌝ }
     {
@@ -42,7 +42,7 @@ impl View {
         self.fails(self.begin(b"silence", false).word(words))
     }
 
-    // What the columns are.
+    // The headings of the columns.
     pub(crate) fn heading(self) -> bool {
         let ways = Page::blank()
             .word(b"       time")
@@ -57,7 +57,7 @@ impl View {
         )
     }
 
-    // Whether it failed, which standard error is told.
+    // Returns whether the line could not be written, which is also said on standard error.
     pub(crate) fn fails(self, page: Page) -> bool
         requires { ⌜ page .at ≤ 120 ⌝ }
     {

@@ -1,4 +1,4 @@
-// What a message says, in a few words (001 chapter 5).
+// A message in a few words (001 chapter 5).
 use crate::page::Page;
 use wire::request::Parsed as Asks;
 use wire::request::Request;

@@ -1,4 +1,4 @@
-// What lines work on: the sessions of both ends, how much memory is lent to each, and what is said of the last line of each.
+// The state that a script's lines work on: the sessions of both ends, how much memory is lent to each, and the text after the last line of each.
 use indoor_state::session::Indoor;
 use receiver_state::session::Started;
 use saying::Said;
@@ -9,10 +9,10 @@ pub(crate) const MEMORY: usize = codes::IMAGE_SIZE_MOST + 1;
 
 pub(crate) const BUFFER: usize = script::ROOM;
 
-// What stands in the image at first, and in the buffer before every call, so that what is written shows.
+// Every byte of the image at first, and of the buffer before every call, so that what is written shows.
 pub(crate) const UNWRITTEN: u8 = 0xEE;
 
-// `memory` is of the image or of the file.
+// How many bytes are lent: of the image or the file, and of the output buffer.
 pub(crate) struct Lent {
     pub memory: usize,
     pub buffer: usize,
@@ -23,7 +23,7 @@ pub(crate) struct Bench {
     pub indoors: Indoors,
 }
 
-// Of the receiver. `Refused` is also what stands before the first start: no session.
+// The receiver's part. `session` is `Refused` before the first start too: there is no session.
 pub(crate) struct Outdoors {
     pub session: Started,
     pub lent: Lent,
@@ -78,7 +78,7 @@ impl Indoors {
     }
 }
 
-// Nothing is written in a buffer before a call.
+// Overwrites the buffer before a call.
 pub(crate) fn unwrite(buffer: &mut [u8]) {
     for i in 0..buffer.len() {
         buffer[i] = UNWRITTEN;

@@ -94,7 +94,7 @@ fn row(receiver: Receiver, count: u16, image: &mut [u8], buffer: &mut [u8]) -> O
     outcome
 }
 
-// The block that is due, each of its bytes the low byte of its number, so that it shows where a block lies.
+// The block that is due. Each of its bytes is the low byte of its number, so that the image shows where each block lies.
 fn block(receiver: Receiver, image: &mut [u8], buffer: &mut [u8]) -> Outcome {
     let phase = receiver.phase;
     let number = receiver_decide::accepted(phase).blocks;

@@ -8,7 +8,7 @@ use saying::Said;
 use script::Field;
 use wire::request::Versions;
 
-// The run gets the lent parts alone.
+// The run gets only the lent parts of file and image.
 pub(crate) fn answer(words: &[u8], file: &[u8], image: &mut [u8]) -> Said {
     let limit = Field::none().next(words, 65535);
     let resends = limit.next(words, 255);
@@ -61,7 +61,7 @@ fn run_text(ran: Ran) -> Said {
     }
 }
 
-// Of an image shorter than the file all is compared, and the lengths differ.
+// An image shorter than the file is compared whole: the lengths differ, so it is false.
 fn begins(image: &[u8], file: &[u8]) -> bool {
     check::same(script::upto(image, file.len()), file)
 }

@@ -1,6 +1,6 @@
 // The file that is lent to the indoor end. No two of its whole blocks are alike, so that it shows which one went out.
 
-// The even places of a block tell the low byte of its number, and the odd ones its high byte too.
+// The bytes at even places depend on the low byte of the block's number, those at odd places on its high byte too.
 fn byte(at: usize) -> u8 {
     let low = at % 256 + at / 256;
     if at % 2 == 0 {
@@ -15,8 +15,7 @@ pub(crate) fn fill(file: &mut [u8]) {
     }
 }
 
-// Whether these are the file's bytes from this block's place on. They are worked out anew, and not
-// looked up in the memory that was lent.
+// Whether these are the file's bytes from this block's place on. They are computed anew, so that a change of the lent memory shows.
 pub(crate) fn is_block(number: u16, block: &[u8]) -> bool {
     let from = 256 * number as usize;
     for i in 0..block.len() {

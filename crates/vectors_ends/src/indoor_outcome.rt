@@ -1,4 +1,4 @@
-// What a call of the indoor end left: its number, the request written, the phase, and then silence and resends made.
+// The text after a call of the indoor end: its number, the request written, the phase, and then silence and resends made.
 use crate::file;
 use crate::indoor_phase;
 use indoor_state::session::Indoor;
@@ -32,7 +32,7 @@ fn left(said: Said, session: Indoor, written: usize, buffer: &[u8]) -> Said {
         .number(state.resends as u64)
 }
 
-// A block is long: how many bytes it has is said, and whether they are the file's.
+// A block is too long to print: its length is printed, and whether its bytes are the file's.
 fn request(said: Said, s: &[u8]) -> Said {
     if s.len() < codes::DATA_HEAD {
         return said.shown(s);

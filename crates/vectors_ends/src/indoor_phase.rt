@@ -1,4 +1,4 @@
-// Where the indoor end stands, with the milliseconds left of a wait (01, The indoor end's phases).
+// The indoor end's phase, with the milliseconds left of a wait (01, The indoor end's phases).
 use indoor_state::phase::Phase;
 use indoor_state::phase::Progress;
 use saying::Said;

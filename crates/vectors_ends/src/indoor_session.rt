@@ -38,7 +38,7 @@ fn lend(words: &[u8], indoors: Indoors) -> Indoors {
     }
 }
 
-// A call whose session is left where it stood, so that the next line begins there too.
+// A call whose resulting session is dropped, so that the next line starts from the same session.
 fn tried(words: &[u8], indoors: Indoors, file: &[u8], buffer: &mut [u8]) -> Indoors {
     let behind = script::from(words, 1);
     let act = indoor_word::act_of(script::first(behind));
@@ -49,7 +49,7 @@ fn tried(words: &[u8], indoors: Indoors, file: &[u8], buffer: &mut [u8]) -> Indo
     indoors.says(after.said)
 }
 
-// The call gets the lent parts alone.
+// The call gets only the lent parts of the memory and the buffer.
 fn called(call: Call, words: &[u8], indoors: Indoors, file: &[u8], buffer: &mut [u8]) -> Indoors {
     let session = indoors.session;
     let lent = indoors.lent;
@@ -72,8 +72,8 @@ fn after(called: Called, indoors: Indoors, buffer: &[u8]) -> Indoors {
             }
         }
         Called::Ended(outcome) => {
-            let session = outcome.session;
-            let session = Session::Of(session);
+            let left = outcome.session;
+            let session = Session::Of(left);
             Indoors {
                 session,
                 lent,
@@ -85,7 +85,7 @@ fn after(called: Called, indoors: Indoors, buffer: &[u8]) -> Indoors {
     }
 }
 
-// The session before it ends, also where the new one is refused (29, 46, 27): then there is none.
+// A start ends the session before it, also where it is refused (29, 46, 27): then there is no session.
 fn made(started: Started) -> Session {
     match started {
         Started::Made {

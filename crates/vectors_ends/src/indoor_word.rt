@@ -12,7 +12,7 @@ pub(crate) enum Call {
     Step(Step),
 }
 
-// A call of a session that there is.
+// The calls that need a session.
 pub(crate) enum Step {
     Response,
     Blocks,

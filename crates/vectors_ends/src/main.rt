@@ -1,4 +1,4 @@
-// Reads a script of sessions of the receiver, of the indoor end and of both, and prints behind each line what came of it
+// Reads a script of sessions of the receiver, of the indoor end and of both, and prints after each line what its call answered and left
 // (01, The receiver's phases; 01, The indoor end's phases).
 mod bench;
 mod call;
@@ -32,7 +32,7 @@ fn main() {
     over(&mut text, &mut file, &mut image, &mut buffer);
 }
 
-// Here the arrays become slices: their lengths are known from their types, and no proof counts a million bytes.
+// The arrays become slices here, where their types give their lengths, so that no proof has to count a million bytes.
 fn over(
     text: &mut [u8; script::TEXT_ROOM],
     file: &mut [u8; MEMORY],
@@ -88,7 +88,7 @@ fn answer(line: &[u8], bench: Bench, file: &[u8], image: &mut [u8], buffer: &mut
     }
 }
 
-// The receiver's lines know nothing of the indoor end.
+// A line of the receiver leaves the indoor end alone.
 fn outdoors(act: Act, words: &[u8], bench: Bench, image: &mut [u8], buffer: &mut [u8]) -> Bench {
     let indoors = bench.indoors;
     let before = bench.outdoors;
@@ -97,7 +97,7 @@ fn outdoors(act: Act, words: &[u8], bench: Bench, image: &mut [u8], buffer: &mut
     Bench { outdoors, indoors }
 }
 
-// The indoor end's lines know nothing of the receiver.
+// A line of the indoor end leaves the receiver alone.
 fn indoors(words: &[u8], bench: Bench, file: &[u8], buffer: &mut [u8]) -> Bench {
     let outdoors = bench.outdoors;
     let before = bench.indoors;

@@ -1,4 +1,4 @@
-// What a call of the receiver left: its number, the bytes written, the phase, and then silence and resends made.
+// The text after a call of the receiver: its number, the bytes written, the phase, and then silence and resends made.
 use crate::phase;
 use receiver_state::session::Outcome;
 use receiver_state::session::Receiver;

@@ -1,4 +1,4 @@
-// Where a receiver stands, with the blocks and bytes that it has accepted (01, The receiver's phases).
+// The receiver's phase, with the blocks and bytes that it has accepted (01, The receiver's phases).
 use receiver_state::phase::Accepted;
 use receiver_state::phase::Phase;
 use receiver_state::phase::Progress;

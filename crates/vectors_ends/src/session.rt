@@ -54,7 +54,7 @@ pub(crate) fn identity() -> Identity {
     }
 }
 
-// The session before it ends, also where the new one is refused (29): then there is none.
+// A start ends the session before it, also where it is refused (29): then there is no session.
 fn start(words: &[u8], outdoors: Outdoors) -> Outdoors {
     let limit = Field::none().next(words, 65535);
     let resends = limit.next(words, 255);
@@ -87,7 +87,7 @@ fn lend(words: &[u8], outdoors: Outdoors) -> Outdoors {
     }
 }
 
-// The call gets the lent parts alone.
+// The call gets only the lent parts of the memory and the buffer.
 fn called(
     call: Call,
     words: &[u8],
@@ -115,8 +115,8 @@ fn called(
 fn after(called: Called, outdoors: Outdoors, buffer: &[u8]) -> Outdoors {
     match called {
         Called::Ended(outcome) => {
-            let session = outcome.session;
-            let session = Started::Made(session);
+            let left = outcome.session;
+            let session = Started::Made(left);
             let lent = outdoors.lent;
             Outdoors {
                 session,

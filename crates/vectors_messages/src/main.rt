@@ -1,4 +1,4 @@
-// Reads a script of messages, and prints behind each line what is read in it and written of that (001 chapter 5).
+// Reads a script of messages, and prints after each line what is read in the message and what is written of it (001 chapter 5).
 mod message;
 mod requests;
 mod responses;

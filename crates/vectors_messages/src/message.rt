@@ -1,4 +1,4 @@
-// A line that spells a message, which is tried as it stands or with a part of it varied.
+// A line that spells a message, which is tried as it is or with a part of it varied.
 use crate::requests;
 use crate::responses;
 use crate::sweep;

@@ -40,7 +40,7 @@ fn over_values(asking: bool, message: Spelled, at: usize) -> Said
     said
 }
 
-// Lengths that follow each other.
+// The valid lengths found so far: none, a range, or more than one range.
 enum Span {
     Nothing,
     Of { first: usize, last: usize },

@@ -1,9 +1,9 @@
-// A message that was made, as it goes into a lent buffer.
+// A message written into a lent buffer.
 use saying::Said;
 use writing::Message;
 use writing::Sent;
 
-// The buffer is full of EE, so that a byte which is not written shows. What is not built is written as nothing.
+// The buffer is full of EE first, so that a byte which is not written shows. Of a message that is not built nothing is written.
 pub(crate) fn add(said: Said, message: Message) -> Said {
     let mut buffer = [0xEEu8; 22];
     let n = put(message, &mut buffer);
