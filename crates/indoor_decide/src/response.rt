@@ -17,7 +17,7 @@ use wire::response::Identity;
 use wire::response::Response;
 use wire::status::Status;
 ghost use mathlib.Core.Path.{_≡_};
-ghost use Rattle.indoor_rules.specs.Decide.{passedOver, sendsBlock, okOf, whereOk, comparedOf, readyOf, offeredOf, indoorCloseNumberOf, indoorCloseOf, blockAskedOf, indoorDataOf, indoorSuccessOf, indoorValidatedOf, indoorIdentifyOf, indoorInitiateOf, indoorTransferOf, indoorValidateOf, indoorDecideIn, indoorDecideOf};
+ghost use Rattle.indoor_rules.specs.Decide.{passedOver, sendsBlock, notOk, whereOk, comparedOf, readyOf, offeredOf, indoorCloseNumberOf, indoorCloseOf, blockAskedOf, indoorDataOf, indoorSuccessOf, indoorValidatedOf, indoorIdentifyOf, indoorInitiateOf, indoorTransferOf, indoorValidateOf, indoorDecideIn, indoorDecideOf};
 
 // A WaitTime counts so many milliseconds in an INITIATE response (001 T5-20).
 const INITIATE_UNIT: u16 = 10;
@@ -51,21 +51,21 @@ fn passes_over(state: State) -> Step
     }
 }
 
-fn ok(status: u8) -> bool
-    ensures { λ r. ⌜ r ≡ okOf status ⌝ }
+fn not_ok(status: u8) -> bool
+    ensures { λ r. ⌜ r ≡ notOk status ⌝ }
 {
     let ok = status_code(Status::Ok);
-    status == ok
+    status != ok
 }
 
 // Every status but OK is 41 (001 T5-29), whatever else the response says.
 fn where_ok(status: u8, further: Step) -> Step
     ensures { λ r. ⌜ r ≡ whereOk status further ⌝ }
 {
-    if ok(status) {
-        return further;
+    if not_ok(status) {
+        return fails(Reason::Refused);
     }
-    fails(Reason::Refused)
+    further
 }
 
 fn identify(plan: Plan, state: State, response: Response) -> Step
@@ -81,10 +81,10 @@ fn compared(plan: Plan, reported: Identity) -> Step
     ensures { λ r. ⌜ r ≡ comparedOf plan reported ⌝ }
 {
     let release = plan.release;
-    if newer(release, reported) {
-        return goes(Phase::Initiate { wait: 0 }, Answer::Initiating);
+    if !newer(release, reported) {
+        return fails(Reason::NotNewer);
     }
-    fails(Reason::NotNewer)
+    goes(Phase::Initiate { wait: 0 }, Answer::Initiating)
 }
 
 fn initiate(plan: Plan, state: State, response: Response) -> Step
@@ -151,20 +151,20 @@ fn numbered(plan: Plan, emptied: bool, wait: u8, number: u16) -> Step
 fn closed(plan: Plan, emptied: bool, number: u16) -> Step
     ensures { λ r. ⌜ r ≡ indoorCloseOf plan emptied number ⌝ }
 {
-    if emptied {
-        return ended(plan, number);
+    if !emptied {
+        return fails(Reason::WrongNumber);
     }
-    fails(Reason::WrongNumber)
+    ended(plan, number)
 }
 
 fn ended(plan: Plan, number: u16) -> Step
     ensures { λ r. ⌜ r ≡ indoorCloseNumberOf plan number ⌝ }
 {
     let last = last(plan);
-    if number as usize == last {
-        return goes(Phase::Validate { wait: 0 }, Answer::Validating);
+    if number as usize != last {
+        return fails(Reason::WrongNumber);
     }
-    fails(Reason::WrongNumber)
+    goes(Phase::Validate { wait: 0 }, Answer::Validating)
 }
 
 fn block_asked(plan: Plan, emptied: bool, wait: u8, number: u16) -> Step
@@ -214,8 +214,8 @@ fn verdict(wait: u8, success: bool) -> Step
 fn judged(success: bool) -> Step
     ensures { λ r. ⌜ r ≡ indoorSuccessOf success ⌝ }
 {
-    if success {
-        return goes(Phase::Done, Answer::Finished);
+    if !success {
+        return fails(Reason::NotValid);
     }
-    fails(Reason::NotValid)
+    goes(Phase::Done, Answer::Finished)
 }

@@ -2,9 +2,9 @@
 use Prim.Native.Nat.{ℕ, _<_, _≤_}
 use mathlib.Core.Path.{_≡_}
 use mathlib.Core.List.{List}
-use borrow.Author.Tests.{eq-eqb, ne-eqb, lt-ltb, le-ltb}
+use borrow.Author.Tests.{lt-ltb, le-ltb}
 use lib.ListN.{length}
-use Rattle.basis.specs.Pick.{pick}
+use Rattle.basis.specs.Pick.{pick, eq-differ, ne-differ}
 use Rattle.basis.specs.Left.{left}
 use Rattle.wire.specs.Response as message
 use Rattle.wire.specs.declared.response.Response.{Response}
@@ -20,33 +20,33 @@ use Rattle.indoor_state.specs.declared.session.Indoor.{Indoor}
 module _ (s : Indoor) (file response out : List ℕ) where
   pub response-28 : (length file ≡ s .plan .length → ⊥) → indoorResponseOf s file response out ≡ left (indoorReturns s FileLength 0) out
   unfolding indoorResponseOf pick
-  response-28 h = rw (ne-eqb (length file) (s .plan .length) h)
+  response-28 h = rw (ne-differ (length file) (s .plan .length) h)
 
   module _ (lent : length file ≡ s .plan .length) where
     pub response-27 : length out < 260 → indoorResponseOf s file response out ≡ left (indoorReturns s BufferShort 0) out
     unfolding indoorResponseOf pick
-    response-27 h = rw (eq-eqb (length file) (s .plan .length) lent, lt-ltb (length out) 260 h)
+    response-27 h = rw (eq-differ (length file) (s .plan .length) lent, lt-ltb (length out) 260 h)
 
     module _ (room : 260 ≤ length out) where
       pub response-20 : message.parsedResponseOf response ≡ Par.Malformed → indoorResponseOf s file response out ≡ left (indoorReturns s Malformed 0) out
       unfolding indoorResponseOf responseReadOf pick
-      response-20 e = rw (eq-eqb (length file) (s .plan .length) lent, le-ltb (length out) 260 room, e)
+      response-20 e = rw (eq-differ (length file) (s .plan .length) lent, le-ltb (length out) 260 room, e)
 
       pub response-step : (r : Response) → message.parsedResponseOf response ≡ Par.Valid r
           → indoorResponseOf s file response out ≡ indoorDone (s .plan) (indoorDecideOf (s .plan) (s .state) r) file out
       unfolding indoorResponseOf responseReadOf pick
-      response-step r e = rw (eq-eqb (length file) (s .plan .length) lent, le-ltb (length out) 260 room, e)
+      response-step r e = rw (eq-differ (length file) (s .plan .length) lent, le-ltb (length out) 260 room, e)
 
 module _ (s : Indoor) (file : List ℕ) (elapsed : ℕ) (out : List ℕ) where
   pub time-28 : (length file ≡ s .plan .length → ⊥) → indoorTimeOf s file elapsed out ≡ left (indoorReturns s FileLength 0) out
   unfolding indoorTimeOf pick
-  time-28 h = rw (ne-eqb (length file) (s .plan .length) h)
+  time-28 h = rw (ne-differ (length file) (s .plan .length) h)
 
   module _ (lent : length file ≡ s .plan .length) where
     pub time-27 : length out < 260 → indoorTimeOf s file elapsed out ≡ left (indoorReturns s BufferShort 0) out
     unfolding indoorTimeOf pick
-    time-27 h = rw (eq-eqb (length file) (s .plan .length) lent, lt-ltb (length out) 260 h)
+    time-27 h = rw (eq-differ (length file) (s .plan .length) lent, lt-ltb (length out) 260 h)
 
     pub time-step : 260 ≤ length out → indoorTimeOf s file elapsed out ≡ indoorDone (s .plan) (indoorTickOf (s .plan) (s .state) elapsed) file out
     unfolding indoorTimeOf pick
-    time-step room = rw (eq-eqb (length file) (s .plan .length) lent, le-ltb (length out) 260 room)
+    time-step room = rw (eq-differ (length file) (s .plan .length) lent, le-ltb (length out) 260 room)

@@ -2,9 +2,8 @@
 use Prim.Native.Nat.{_<_}
 use mathlib.Core.Bool.{Bool, true, false, true≢false}
 use mathlib.Core.Path.{_≡_, refl, sym}
-use borrow.Author.Tests.{eq-eqb, lt-ltb, eqb-true, ltb-true}
-use lib.Dec.{eqb}
-use Rattle.basis.specs.Pick.{pick, pick-all}
+use borrow.Author.Tests.{lt-ltb, ltb-true}
+use Rattle.basis.specs.Pick.{pick, pick-all, differ, differ-false, eq-differ}
 use Rattle.wire.specs.declared.response.Identity.{Identity}
 use Rattle.indoor_rules.specs.Newer.{newerOf}
 use Rattle.indoor_state.specs.declared.plan.Release.{Release}
@@ -21,20 +20,18 @@ module _ (file : Release) (reported : Identity) where
   unfolding newerOf
   newer-only =
       let P : Bool → Type 0 = λ t. t ≡ true → Newer file reported in
-      pick-all P (eqb (file .vendor) (reported .vendor)) _ _
-      (λ v. pick-all P (eqb (file .product) (reported .product)) _ _
+      pick-all P (differ (file .vendor) (reported .vendor)) _ _ (λ _ e. absurd (true≢false (sym e)))
+      (λ v. pick-all P (differ (file .product) (reported .product)) _ _ (λ _ e. absurd (true≢false (sym e)))
       (λ p t. record {
-        vendor = eqb-true (file .vendor) (reported .vendor) v;
-        product = eqb-true (file .product) (reported .product) p;
+        vendor = differ-false (file .vendor) (reported .vendor) v;
+        product = differ-false (file .product) (reported .product) p;
         version = ltb-true (reported .versions .first) (file .versions .first) t;
-      })
-      (λ _ e. absurd (true≢false (sym e))))
-      (λ _ e. absurd (true≢false (sym e)))
+      }))
 
   pub newer-yes : Newer file reported → newerOf file reported ≡ true
   unfolding newerOf pick
   newer-yes n =
-      rw (eq-eqb (file .vendor) (reported .vendor) (n .vendor), eq-eqb (file .product) (reported .product) (n .product))
+      rw (eq-differ (file .vendor) (reported .vendor) (n .vendor), eq-differ (file .product) (reported .product) (n .product))
       (lt-ltb (reported .versions .first) (file .versions .first) (n .version))
 
   not-true : (b : Bool) → (b ≡ true → ⊥) → b ≡ false

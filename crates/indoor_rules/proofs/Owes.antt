@@ -1,12 +1,12 @@
 -- What every step on a response owes, by its answer, where the indoor end stood and where it stands next.
 use Prim.Native.Nat.{ℕ, _≤_}
-use mathlib.Core.Bool.{Bool, true, false, true≢false, _||_}
+use mathlib.Core.Bool.{Bool, true, false, true≢false, not, _||_}
 use mathlib.Core.Logic.{_⊎_, inl, inr}
 use mathlib.Core.Path.{_≡_, sym, ap}
 use native.Mathlib.Omega.{arith}
-use borrow.Author.Tests.{eqb-true, ltb-false}
+use borrow.Author.Tests.{eqb-true, ltb-false, not-false}
 use lib.Dec.{eqb, ltb}
-use Rattle.basis.specs.Pick.{pick-all, When}
+use Rattle.basis.specs.Pick.{pick-all, When, differ, differ-false}
 use Rattle.wire.specs.declared.response.Identity.{Identity}
 use Rattle.wire.specs.declared.response.Response.{Response}
 use Rattle.wire.specs.declared.response.Response.the-variants as Res
@@ -16,7 +16,7 @@ use Rattle.indoor_state.specs.Step.{indoorStep}
 use Rattle.indoor_rules.specs.Step.{emptyNumber, emptiedBy}
 use Rattle.indoor_rules.proofs.Accepted.{emptied-only, emptied-stays, emptied-last}
 use Rattle.indoor_rules.specs.Newer.{newerOf}
-use Rattle.indoor_rules.specs.Decide.{sendsBlock, okOf, whereOk, comparedOf, readyOf, offeredOf, indoorCloseNumberOf, indoorCloseOf, blockAskedOf, indoorDataOf, indoorSuccessOf, indoorValidatedOf, indoorIdentifyOf, indoorInitiateOf, indoorTransferOf, indoorValidateOf, indoorDecideIn, indoorDecideOf}
+use Rattle.indoor_rules.specs.Decide.{sendsBlock, notOk, whereOk, comparedOf, readyOf, offeredOf, indoorCloseNumberOf, indoorCloseOf, blockAskedOf, indoorDataOf, indoorSuccessOf, indoorValidatedOf, indoorIdentifyOf, indoorInitiateOf, indoorTransferOf, indoorValidateOf, indoorDecideIn, indoorDecideOf}
 use Rattle.indoor_state.specs.declared.plan.Plan.{Plan}
 use Rattle.indoor_state.specs.declared.phase.Progress.{Progress}
 use Rattle.indoor_state.specs.declared.phase.Phase.{Phase}
@@ -207,8 +207,8 @@ module _ (plan : Plan) (silence resends : ℕ) where
   P before r s = Row plan (indoorState before silence resends) r s
 
   identified-row : (status : ℕ) (reported : Identity) → P Identify (Res.GetFwId status reported) (whereOk status (comparedOf plan reported))
-  unfolding whereOk okOf comparedOf
-  identified-row status reported = search (pick-all (P Identify (Res.GetFwId status reported)), eqb-true) depth 8
+  unfolding whereOk notOk comparedOf
+  identified-row status reported = search (pick-all (P Identify (Res.GetFwId status reported)), differ-false, not-false) depth 8
 
   ready-row : (left status wait size : ℕ) → status ≡ 0 → wait ≡ 0 → P (Initiate left) (Res.Initiate status wait size) (readyOf plan size)
   unfolding readyOf
@@ -220,9 +220,9 @@ module _ (plan : Plan) (silence resends : ℕ) where
       (λ t. let fits = ltb-false size (plan .length) t in search)
 
   initiated-row : (left status wait size : ℕ) → P (Initiate left) (Res.Initiate status wait size) (whereOk status (offeredOf plan wait size))
-  unfolding whereOk okOf offeredOf
+  unfolding whereOk notOk offeredOf
   initiated-row left status wait size =
-      search (pick-all (P (Initiate left) (Res.Initiate status wait size)), ready-row, eqb-true) depth 8
+      search (pick-all (P (Initiate left) (Res.Initiate status wait size)), ready-row, eqb-true, differ-false) depth 8
 
   sends-row : (p : Progress) (r : Response) (number : ℕ) → number ≤ emptyNumber plan → P (Transfer p) r (sendsBlock plan number (p .emptied))
   sends-row p r number h =
@@ -235,15 +235,15 @@ module _ (plan : Plan) (silence resends : ℕ) where
       → P (Transfer p) (Res.Data status wait number) (indoorCloseNumberOf plan number)
   unfolding indoorCloseNumberOf
   ended-row p status wait number ok unable e =
-      pick-all (P (Transfer p) (Res.Data status wait number)) (eqb number (emptyNumber plan)) _ _
-      (λ t. let told : Res.Data status wait number ≡ Res.Data 0x00 255 (emptyNumber plan) = rw (ok, unable, eqb-true number (emptyNumber plan) t) in search)
-      (λ _. search)
+      pick-all (P (Transfer p) (Res.Data status wait number)) (differ number (emptyNumber plan)) _ _ (λ _. search)
+      (λ t. let close : Res.Data status wait number ≡ Res.Data 0x00 255 (emptyNumber plan) = rw (ok, unable, differ-false number (emptyNumber plan) t) in search)
 
   closed-row : (p : Progress) (status wait number : ℕ) → status ≡ 0 → wait ≡ 255
       → P (Transfer p) (Res.Data status wait number) (indoorCloseOf plan (p .emptied) number)
   unfolding indoorCloseOf
   closed-row p status wait number ok unable =
-      pick-all (P (Transfer p) (Res.Data status wait number)) (p .emptied) _ _ (ended-row p status wait number ok unable) (λ _. search)
+      pick-all (P (Transfer p) (Res.Data status wait number)) (not (p .emptied)) _ _ (λ _. search)
+      (λ t. ended-row p status wait number ok unable (not-false (p .emptied) t))
 
   asked-row : (p : Progress) (r : Response) (wait number : ℕ) → P (Transfer p) r (blockAskedOf plan (p .emptied) wait number)
   unfolding blockAskedOf
@@ -254,21 +254,20 @@ module _ (plan : Plan) (silence resends : ℕ) where
       pick-all Q (eqb wait 0) _ _ (λ _. sends-row p r number h) (λ _. search inl))
 
   receipt-row : (p : Progress) (status wait number : ℕ) → P (Transfer p) (Res.Data status wait number) (whereOk status (indoorDataOf plan (p .emptied) wait number))
-  unfolding whereOk okOf indoorDataOf
+  unfolding whereOk notOk indoorDataOf
   receipt-row p status wait number =
-      search (pick-all (P (Transfer p) (Res.Data status wait number)), closed-row, asked-row, eqb-true) depth 8
+      search (pick-all (P (Transfer p) (Res.Data status wait number)), closed-row, asked-row, eqb-true, differ-false) depth 8
 
   judged-row : (left status wait : ℕ) (success : Bool) → status ≡ 0 → wait ≡ 0 → P (Validate left) (Res.Validate status wait success) (indoorSuccessOf success)
   unfolding indoorSuccessOf
   judged-row left status wait success ok none =
-      pick-all (P (Validate left) (Res.Validate status wait success)) success _ _
-      (λ e. let told : Res.Validate status wait success ≡ Res.Validate 0x00 0 true = rw (ok, none, e) in search)
-      (λ _. search)
+      pick-all (P (Validate left) (Res.Validate status wait success)) (not success) _ _ (λ _. search)
+      (λ t. let valid : Res.Validate status wait success ≡ Res.Validate 0x00 0 true = rw (ok, none, not-false success t) in search)
 
   validated-row : (left status wait : ℕ) (success : Bool) → P (Validate left) (Res.Validate status wait success) (whereOk status (indoorValidatedOf wait success))
-  unfolding whereOk okOf indoorValidatedOf
+  unfolding whereOk notOk indoorValidatedOf
   validated-row left status wait success =
-      search (pick-all (P (Validate left) (Res.Validate status wait success)), judged-row, eqb-true) depth 8
+      search (pick-all (P (Validate left) (Res.Validate status wait success)), judged-row, eqb-true, differ-false) depth 8
 
   decided-row : (before : Phase) (r : Response) → P before r (indoorDecideIn plan (indoorState before silence resends) before r)
   unfolding indoorDecideIn indoorIdentifyOf indoorInitiateOf indoorTransferOf indoorValidateOf

@@ -2,10 +2,10 @@
 use Prim.Native.Nat.{ℕ, _≤_}
 use mathlib.Core.Path.{_≡_, refl}
 use mathlib.Core.List.{List}
-use borrow.Author.Tests.{eqb-true, ltb-false}
-use lib.Dec.{ltb, eqb}
+use borrow.Author.Tests.{ltb-false}
+use lib.Dec.{ltb}
 use lib.ListN.{length}
-use Rattle.basis.specs.Pick.{pick-all}
+use Rattle.basis.specs.Pick.{pick-all, differ, differ-false}
 use Rattle.basis.specs.Left.{Left}
 use Rattle.wire.specs.Codes.{longest}
 use Rattle.wire.specs.Response as message
@@ -39,11 +39,10 @@ module _ (s : Indoor) (file response out : List ℕ) where
       → P (indoorResponseOf s file response out)
   unfolding indoorResponseOf
   response-walk P length-bad short bad good =
-      pick-all P (eqb (length file) (s .plan .length)) _ _
+      pick-all P (differ (length file) (s .plan .length)) _ _ (λ _. length-bad)
       (λ a. pick-all P (ltb (length out) longest) _ _ (λ _. short)
       (λ b. read-walk P (message.parsedResponseOf response) bad
-      (λ r e. good r (eqb-true (length file) (s .plan .length) a) (ltb-false (length out) longest b) e)))
-      (λ _. length-bad)
+      (λ r e. good r (differ-false (length file) (s .plan .length) a) (ltb-false (length out) longest b) e)))
 
 module _ (s : Indoor) (file : List ℕ) (elapsed : ℕ) (out : List ℕ) where
   pub time-walk : (P : Left Outcome → Type 0)
@@ -53,7 +52,6 @@ module _ (s : Indoor) (file : List ℕ) (elapsed : ℕ) (out : List ℕ) where
       → P (indoorTimeOf s file elapsed out)
   unfolding indoorTimeOf
   time-walk P length-bad short passed =
-      pick-all P (eqb (length file) (s .plan .length)) _ _
+      pick-all P (differ (length file) (s .plan .length)) _ _ (λ _. length-bad)
       (λ a. pick-all P (ltb (length out) longest) _ _ (λ _. short)
-      (λ b. passed (eqb-true (length file) (s .plan .length) a) (ltb-false (length out) longest b)))
-      (λ _. length-bad)
+      (λ b. passed (differ-false (length file) (s .plan .length) a) (ltb-false (length out) longest b)))

@@ -1,9 +1,9 @@
 -- What the indoor end does with a well-formed response, by its phase: 21, 41, then 42, 43, 44, 45 (01, The indoor end's phases; 01, Numbers we
 -- answer).
 use Prim.Native.Nat.{ℕ, _*_}
-use mathlib.Core.Bool.{Bool, false}
+use mathlib.Core.Bool.{Bool, false, not}
 use lib.Dec.{ltb, eqb}
-use Rattle.basis.specs.Pick.{pick}
+use Rattle.basis.specs.Pick.{pick, differ}
 use Rattle.wire.specs.Codes.{unable}
 use Rattle.wire.specs.Status.{codeOf}
 use Rattle.wire.specs.declared.status.Status.the-variants.{Ok}
@@ -31,16 +31,16 @@ abbrev pub sendsBlock : Plan → ℕ → Bool → Step
 sendsBlock plan number emptied = goes (blockSent plan number emptied) (Ans.Sending number)
 
 -- 001 T5-29
-unfoldable pub okOf : ℕ → Bool
-okOf status = eqb status (codeOf Ok)
+unfoldable pub notOk : ℕ → Bool
+notOk status = differ status (codeOf Ok)
 
 -- 41: every status but OK, whatever else the response says.
 unfoldable pub whereOk : ℕ → Step → Step
-whereOk status further = pick (okOf status) further (fails Refused)
+whereOk status further = pick (notOk status) (fails Refused) further
 
 -- GET_FW_ID: 42 where the file is not newer, else INITIATE goes out.
 unfoldable pub comparedOf : Plan → Identity → Step
-comparedOf plan reported = pick (newerOf (plan .release) reported) (goes (Initiate 0) Ans.Initiating) (fails NotNewer)
+comparedOf plan reported = pick (not (newerOf (plan .release) reported)) (fails NotNewer) (goes (Initiate 0) Ans.Initiating)
 
 -- A ready INITIATE answer brings block 0, or 43 where the file is larger than its MaxImageSize.
 unfoldable pub readyOf : Plan → ℕ → Step
@@ -55,10 +55,10 @@ offeredOf plan wait size =
 
 -- WaitTime 255 is the close only if the empty block has been sent and the number is n, else 44.
 unfoldable pub indoorCloseNumberOf : Plan → ℕ → Step
-indoorCloseNumberOf plan number = pick (eqb number (emptyNumber plan)) (goes (Validate 0) Ans.Validating) (fails WrongNumber)
+indoorCloseNumberOf plan number = pick (differ number (emptyNumber plan)) (fails WrongNumber) (goes (Validate 0) Ans.Validating)
 
 unfoldable pub indoorCloseOf : Plan → Bool → ℕ → Step
-indoorCloseOf plan emptied number = pick emptied (indoorCloseNumberOf plan number) (fails WrongNumber)
+indoorCloseOf plan emptied number = pick (not emptied) (fails WrongNumber) (indoorCloseNumberOf plan number)
 
 -- Asked for j: 44 above n; else block j goes out, after the wait where there is one. A DATA response's WaitTime counts 1 ms.
 unfoldable pub blockAskedOf : Plan → Bool → ℕ → ℕ → Step
@@ -72,7 +72,7 @@ indoorDataOf plan emptied wait number = pick (eqb wait unable) (indoorCloseOf pl
 
 -- 45 with the success bit clear
 unfoldable pub indoorSuccessOf : Bool → Step
-indoorSuccessOf success = pick success (goes Done Ans.Finished) (fails NotValid)
+indoorSuccessOf success = pick (not success) (fails NotValid) (goes Done Ans.Finished)
 
 -- WaitTime counts 1 ms in a VALIDATE response (001 T5-24).
 unfoldable pub indoorValidatedOf : ℕ → Bool → Step

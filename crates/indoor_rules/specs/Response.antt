@@ -1,9 +1,9 @@
 -- What one response does: the outcome and the output buffer, for every session, file, response and buffer.
 use Prim.Native.Nat.{ℕ}
 use mathlib.Core.List.{List}
-use lib.Dec.{ltb, eqb}
+use lib.Dec.{ltb}
 use lib.ListN.{length}
-use Rattle.basis.specs.Pick.{pick}
+use Rattle.basis.specs.Pick.{pick, differ}
 use Rattle.basis.specs.Left.{Left}
 use Rattle.wire.specs.Codes.{longest}
 use Rattle.wire.specs.Response as message
@@ -23,7 +23,6 @@ responseReadOf s (Par.Valid valid) file out = indoorDone (s .plan) (indoorDecide
 -- 28, 27, 20, and then what the response asks for
 unfoldable pub indoorResponseOf : Indoor → List ℕ → List ℕ → List ℕ → Left Outcome
 indoorResponseOf s file response out =
-    pick (eqb (length file) (s .plan .length))
+    pick (differ (length file) (s .plan .length)) (indoorKept s FileLength out)
     (pick (ltb (length out) longest) (indoorKept s BufferShort out)
     (responseReadOf s (message.parsedResponseOf response) file out))
-    (indoorKept s FileLength out)

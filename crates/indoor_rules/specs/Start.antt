@@ -38,8 +38,8 @@ indoorBeginOf settings release file out =
     (indoorBegun (plans settings release (length file)) out)))
 
 unfoldable pub indoorStartedOf : Checked → Release → List ℕ → List ℕ → Left Started
-indoorStartedOf (Che.Made settings) release file out = indoorBeginOf settings release file out
 indoorStartedOf Che.Refused release file out = left Settings out
+indoorStartedOf (Che.Made settings) release file out = indoorBeginOf settings release file out
 
 -- 29, and then 46, 27
 abbrev pub indoorStartOf : ℕ → ℕ → Release → List ℕ → List ℕ → Left Started

@@ -1,9 +1,9 @@
 -- What one time call does: the outcome and the output buffer, for every session, file, elapsed time and buffer.
 use Prim.Native.Nat.{ℕ}
 use mathlib.Core.List.{List}
-use lib.Dec.{ltb, eqb}
+use lib.Dec.{ltb}
 use lib.ListN.{length}
-use Rattle.basis.specs.Pick.{pick}
+use Rattle.basis.specs.Pick.{pick, differ}
 use Rattle.basis.specs.Left.{Left}
 use Rattle.wire.specs.Codes.{longest}
 use Rattle.indoor_rules.specs.Tick.{indoorTickOf}
@@ -15,7 +15,6 @@ use Rattle.indoor_state.specs.declared.session.Outcome.{Outcome}
 -- 28, 27, and then what time does
 unfoldable pub indoorTimeOf : Indoor → List ℕ → ℕ → List ℕ → Left Outcome
 indoorTimeOf s file elapsed out =
-    pick (eqb (length file) (s .plan .length))
+    pick (differ (length file) (s .plan .length)) (indoorKept s FileLength out)
     (pick (ltb (length out) longest) (indoorKept s BufferShort out)
     (indoorDone (s .plan) (indoorTickOf (s .plan) (s .state) elapsed) file out))
-    (indoorKept s FileLength out)

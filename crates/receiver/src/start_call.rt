@@ -25,6 +25,7 @@ fn fresh(checked: Checked, identity: Identity, capacity: u32) -> Started
     ensures { λ r. ⌜ r ≡ receiverFreshOf checked identity capacity ⌝ }
 {
     match checked {
+        Checked::Refused => Started::Refused,
         Checked::Made(settings) => {
             Started::Made(Receiver {
                 settings,
@@ -35,7 +36,6 @@ fn fresh(checked: Checked, identity: Identity, capacity: u32) -> Started
                 resends: 0,
             })
         }
-        Checked::Refused => Started::Refused,
     }
 }
 

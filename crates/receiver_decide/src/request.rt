@@ -58,10 +58,10 @@ fn initiate(phase: Phase, readiness: u8) -> Step
 fn again(p: Progress, readiness: u8) -> Step
     ensures { λ r. ⌜ r ≡ initiateAgainOf p readiness ⌝ }
 {
-    if p.accepted.blocks == 0 {
-        return offer(Phase::Transfer(p), readiness);
+    if p.accepted.blocks != 0 {
+        return to(Phase::Transfer(p), Answer::UnexpectedInitiate);
     }
-    to(Phase::Transfer(p), Answer::UnexpectedInitiate)
+    offer(Phase::Transfer(p), readiness)
 }
 
 fn offer(phase: Phase, readiness: u8) -> Step

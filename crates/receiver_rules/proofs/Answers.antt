@@ -3,9 +3,9 @@ use Prim.Native.Nat.{ℕ, _≤_, _<_}
 use mathlib.Core.Bool.{true, false}
 use mathlib.Core.Path.{_≡_}
 use mathlib.Core.List.{List}
-use borrow.Author.Tests.{eq-eqb, ne-eqb, lt-ltb, le-ltb}
+use borrow.Author.Tests.{lt-ltb, le-ltb}
 use lib.ListN.{length, take}
-use Rattle.basis.specs.Pick.{pick}
+use Rattle.basis.specs.Pick.{pick, eq-differ, ne-differ}
 use Rattle.image.specs.Sum as sums
 use Rattle.wire.specs.Request as message
 use Rattle.wire.specs.declared.request.Request.{Request}
@@ -24,35 +24,35 @@ use Rattle.receiver_state.specs.declared.sum.Summed.the-variants as Summed
 module _ (r : Receiver) (image request : List ℕ) (readiness : ℕ) (verdict : Verdict) (out : List ℕ) where
   pub answers-28 : (length image ≡ r .capacity → ⊥) → receiverRequestOf r image request readiness verdict out ≡ effect (receiverReturns r ImageLength 0) image out
   unfolding receiverRequestOf pick
-  answers-28 h = rw (ne-eqb (length image) (r .capacity) h)
+  answers-28 h = rw (ne-differ (length image) (r .capacity) h)
 
   module _ (lent : length image ≡ r .capacity) where
     pub answers-27 : length out < 260 → receiverRequestOf r image request readiness verdict out ≡ effect (receiverReturns r BufferShort 0) image out
     unfolding receiverRequestOf pick
-    answers-27 h = rw (eq-eqb (length image) (r .capacity) lent, lt-ltb (length out) 260 h)
+    answers-27 h = rw (eq-differ (length image) (r .capacity) lent, lt-ltb (length out) 260 h)
 
     module _ (room : 260 ≤ length out) where
       pub answers-26 : outOfRange readiness verdict ≡ true → receiverRequestOf r image request readiness verdict out ≡ effect (receiverReturns r OutOfRange 0) image out
       unfolding receiverRequestOf pick
-      answers-26 h = rw (eq-eqb (length image) (r .capacity) lent, le-ltb (length out) 260 room, h)
+      answers-26 h = rw (eq-differ (length image) (r .capacity) lent, le-ltb (length out) 260 room, h)
 
       pub answers-20 : outOfRange readiness verdict ≡ false → message.parsedRequestOf request ≡ Par.Malformed
           → receiverRequestOf r image request readiness verdict out ≡ effect (receiverReturns r Malformed 0) image out
       unfolding receiverRequestOf requestReadOf pick
-      answers-20 h e = rw (eq-eqb (length image) (r .capacity) lent, le-ltb (length out) 260 room, h, e)
+      answers-20 h e = rw (eq-differ (length image) (r .capacity) lent, le-ltb (length out) 260 room, h, e)
 
       pub answers-step : (q : Request) → outOfRange readiness verdict ≡ false → message.parsedRequestOf request ≡ Par.Valid q
           → receiverRequestOf r image request readiness verdict out
           ≡ requestDone r (receiverDecideOf (r .phase) q (r .capacity) readiness verdict) image request out
       unfolding receiverRequestOf requestReadOf pick
-      answers-step q h e = rw (eq-eqb (length image) (r .capacity) lent, le-ltb (length out) 260 room, h, e)
+      answers-step q h e = rw (eq-differ (length image) (r .capacity) lent, le-ltb (length out) 260 room, h, e)
 
 -- The sum: 28, or the sum of the accepted bytes.
 module _ (r : Receiver) (image : List ℕ) where
   pub sum-28 : (length image ≡ r .capacity → ⊥) → receiverSumOf r image ≡ Summed.ImageLength
   unfolding receiverSumOf pick
-  sum-28 h = rw (ne-eqb (length image) (r .capacity) h)
+  sum-28 h = rw (ne-differ (length image) (r .capacity) h)
 
   pub sum-0 : length image ≡ r .capacity → receiverSumOf r image ≡ Summed.Sum (sums.sumOf (take (acceptedOf (r .phase) .bytes) image))
   unfolding receiverSumOf pick
-  sum-0 h = rw (eq-eqb (length image) (r .capacity) h)
+  sum-0 h = rw (eq-differ (length image) (r .capacity) h)

@@ -3,8 +3,8 @@ use Prim.Native.Nat.{ℕ, _<_}
 use mathlib.Core.Bool.{false}
 use mathlib.Core.Path.{_≡_, refl}
 use native.Mathlib.Omega.{arith}
-use borrow.Author.Tests.{eq-eqb, ne-eqb}
-use Rattle.basis.specs.Pick.{pick}
+use borrow.Author.Tests.{ne-eqb}
+use Rattle.basis.specs.Pick.{pick, eq-differ, ne-differ}
 use Rattle.wire.specs.declared.request.Versions.{Versions}
 use Rattle.wire.specs.declared.request.Request.the-variants as Req
 use Rattle.receiver_state.specs.Phase.{nothingAccepted}
@@ -37,7 +37,7 @@ module _ (capacity : ℕ) where
     pub transfer-ready : (p : Progress) → p .accepted .blocks ≡ 0
         → receiverDecideOf (Transfer p) (Req.Initiate v) capacity 0 verdict ≡ goesTo (Transfer (receiverProgress nothingAccepted false)) (Offered 0)
     unfolding receiverDecideOf receiverInitiateOf initiateAgainOf offerOf pick
-    transfer-ready p none = rw (eq-eqb (p .accepted .blocks) 0 none)
+    transfer-ready p none = rw (eq-differ (p .accepted .blocks) 0 none)
 
     -- Above 0: that wait, phase kept.
     pub idle-waits : (readiness : ℕ) → 0 < readiness → receiverDecideOf Idle (Req.Initiate v) capacity readiness verdict ≡ goesTo Idle (Offered readiness)
@@ -47,13 +47,13 @@ module _ (capacity : ℕ) where
     pub transfer-waits : (p : Progress) (readiness : ℕ) → p .accepted .blocks ≡ 0 → 0 < readiness
         → receiverDecideOf (Transfer p) (Req.Initiate v) capacity readiness verdict ≡ goesTo (Transfer p) (Offered readiness)
     unfolding receiverDecideOf receiverInitiateOf initiateAgainOf offerOf pick
-    transfer-waits p readiness none h = rw (eq-eqb (p .accepted .blocks) 0 none, ne-eqb readiness 0 (λ e. omega arith))
+    transfer-waits p readiness none h = rw (eq-differ (p .accepted .blocks) 0 none, ne-eqb readiness 0 (λ e. omega arith))
 
     -- Elsewhere 21.
     pub initiate-21-transfer : (p : Progress) (readiness : ℕ) → 0 < p .accepted .blocks
         → receiverDecideOf (Transfer p) (Req.Initiate v) capacity readiness verdict ≡ goesTo (Transfer p) UnexpectedInitiate
     unfolding receiverDecideOf receiverInitiateOf initiateAgainOf pick
-    initiate-21-transfer p readiness some = rw (ne-eqb (p .accepted .blocks) 0 (λ e. omega arith))
+    initiate-21-transfer p readiness some = rw (ne-differ (p .accepted .blocks) 0 (λ e. omega arith))
 
     pub initiate-21-await : (a : Accepted) (readiness : ℕ) → receiverDecideOf (Await a) (Req.Initiate v) capacity readiness verdict ≡ goesTo (Await a) UnexpectedInitiate
     unfolding receiverDecideOf receiverInitiateOf

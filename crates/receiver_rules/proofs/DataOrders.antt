@@ -4,7 +4,7 @@ use mathlib.Core.Bool.{true, false}
 use mathlib.Core.Path.{_≡_}
 use borrow.Author.Tests.{eq-eqb, ne-eqb}
 use lib.Dec.{ltb}
-use Rattle.basis.specs.Pick.{pick}
+use Rattle.basis.specs.Pick.{pick, eq-differ, ne-differ}
 use Rattle.receiver_state.specs.declared.answer.Answer.the-variants.{Asking, Closed, NotDue, PassesCapacity, WrongFile}
 use Rattle.wire.specs.declared.request.Request.the-variants as Req
 use Rattle.receiver_state.specs.Phase.{accepts}
@@ -23,29 +23,29 @@ module _ (p : Progress) (number size capacity readiness : ℕ) (verdict : Verdic
   -- 22 whatever the block is
   pub answers-22 : (number ≡ p .accepted .blocks → ⊥) → then ≡ goesTo (Transfer p) (NotDue (p .accepted .blocks))
   unfolding receiverDecideOf receiverDataOf receiverTransferOf pick
-  answers-22 h = rw (ne-eqb number (p .accepted .blocks) h)
+  answers-22 h = rw (ne-differ number (p .accepted .blocks) h)
 
   module _ (due : number ≡ p .accepted .blocks) where
     -- 24: empty with none accepted
     pub answers-24-empty : size ≡ 0 → p .accepted .blocks ≡ 0 → then ≡ goesTo Idle WrongFile
     unfolding receiverDecideOf receiverDataOf receiverTransferOf closeTransferOf pick
-    answers-24-empty e z = rw (eq-eqb number (p .accepted .blocks) due, eq-eqb size 0 e, eq-eqb (p .accepted .blocks) 0 z)
+    answers-24-empty e z = rw (eq-differ number (p .accepted .blocks) due, eq-eqb size 0 e, eq-eqb (p .accepted .blocks) 0 z)
 
     -- The close never gets 23: an empty block puts no byte anywhere.
     pub closes : size ≡ 0 → (p .accepted .blocks ≡ 0 → ⊥) → then ≡ goesTo (Await (p .accepted)) (Closed (p .accepted .blocks))
     unfolding receiverDecideOf receiverDataOf receiverTransferOf closeTransferOf pick
-    closes e z = rw (eq-eqb number (p .accepted .blocks) due, eq-eqb size 0 e, ne-eqb (p .accepted .blocks) 0 z)
+    closes e z = rw (eq-differ number (p .accepted .blocks) due, eq-eqb size 0 e, ne-eqb (p .accepted .blocks) 0 z)
 
     module _ (some : size ≡ 0 → ⊥) where
       -- 24: non-empty after a short block, also where it passes the capacity
       pub answers-24-short : p .short ≡ true → then ≡ goesTo Idle WrongFile
       unfolding receiverDecideOf receiverDataOf receiverTransferOf pick
-      answers-24-short s = rw (eq-eqb number (p .accepted .blocks) due, ne-eqb size 0 some, s)
+      answers-24-short s = rw (eq-differ number (p .accepted .blocks) due, ne-eqb size 0 some, s)
 
       module _ (whole : p .short ≡ false) where
         passing : passesCapacity number size capacity ≡ true → then ≡ goesTo Idle PassesCapacity
         unfolding receiverDecideOf receiverDataOf receiverTransferOf pick
-        passing t = rw (eq-eqb number (p .accepted .blocks) due, ne-eqb size 0 some, whole, t)
+        passing t = rw (eq-differ number (p .accepted .blocks) due, ne-eqb size 0 some, whole, t)
 
         pub answers-23 : capacity < 256 * number + size → then ≡ goesTo Idle PassesCapacity
         answers-23 h = passing (end-passes number size capacity h)
@@ -61,4 +61,4 @@ module _ (p : Progress) (number size capacity readiness : ℕ) (verdict : Verdic
           store = At number;
         }
         unfolding receiverDecideOf receiverDataOf receiverTransferOf takeBlockOf pick
-        takes low fits = rw (eq-eqb number (p .accepted .blocks) due, ne-eqb size 0 some, whole, none-passes number size capacity low fits)
+        takes low fits = rw (eq-differ number (p .accepted .blocks) due, ne-eqb size 0 some, whole, none-passes number size capacity low fits)

@@ -7,7 +7,7 @@ use native.Mathlib.Omega.{arith}
 use borrow.Author.Tests.{eqb-true, eqb-false, lt-ltb}
 use lib.Dec.{eqb}
 use lib.ListN.{length, take, drop, length-append}
-use Rattle.basis.specs.Pick.{pick, pick-all}
+use Rattle.basis.specs.Pick.{pick, pick-all, differ, differ-false}
 use Rattle.lent.proofs.Laws.{put-fits, pasted-there}
 use Rattle.wire.specs.Request as message
 use Rattle.wire.proofs.Sizes.{request-sized}
@@ -44,14 +44,13 @@ module _ (capacity : ℕ) (image request : List ℕ) (taken : List (List ℕ)) (
       pick-all (Then Idle (Req.Initiate v)) (eqb readiness 0) _ _ (λ _. nothing-held capacity image taken h) (λ _. refl)
   initiate-keeps (Transfer p) v h =
       let P : Step → Type 0 = Then (Transfer p) (Req.Initiate v) in
-      pick-all P (eqb (p .accepted .blocks) 0) _ _
+      pick-all P (differ (p .accepted .blocks) 0) _ _ (λ _. h)
       (λ t. pick-all P (eqb readiness 0) _ _
       (λ _.
-      let none = eqb-true (p .accepted .blocks) 0 t in
+      let none = differ-false (p .accepted .blocks) 0 t in
       let count = h .0 .blocks in
       nothing-held capacity image taken (none-taken taken (omega arith)))
       (λ _. h))
-      (λ _. h)
   initiate-keeps (Await a) v h = h
   initiate-keeps (Good a) v h = h
 
@@ -116,14 +115,13 @@ module _ (capacity : ℕ) (image request : List ℕ) (taken : List (List ℕ)) (
       unfolding receiverTransferOf imageAfter pick
       transfer-keeps =
           let P : Step → Type 0 = Then (Transfer p) (Req.Data number size) in
-          pick-all P (eqb number (p .accepted .blocks)) _ _
+          pick-all P (differ number (p .accepted .blocks)) _ _ (λ _. h)
           (λ a. pick-all P (eqb size 0) _ _ (λ b. close-keeps (eqb-true size 0 b))
           (λ b. pick-all P (p .short) _ _ (λ _. refl)
           (λ whole. pick-all P (passesCapacity number size capacity) _ _ (λ _. refl)
           (λ passed.
           let some = eqb-false size 0 b in
-          take-keeps (eqb-true number (p .accepted .blocks) a) whole (omega arith) passed))))
-          (λ _. h)
+          take-keeps (differ-false number (p .accepted .blocks) a) whole (omega arith) passed))))
 
   module _ (lent : length image ≡ capacity) where
     data-keeps : (before : Phase) (number size : ℕ) → message.parsedRequestOf request ≡ Par.Valid (Req.Data number size) → Has before

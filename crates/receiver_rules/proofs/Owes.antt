@@ -5,7 +5,7 @@ use mathlib.Core.Path.{_≡_, refl}
 use native.Mathlib.Omega.{arith}
 use borrow.Author.Tests.{eqb-true, eqb-false}
 use lib.Dec.{ltb, eqb}
-use Rattle.basis.specs.Pick.{pick-all, When}
+use Rattle.basis.specs.Pick.{pick-all, When, differ, differ-false}
 use Rattle.wire.specs.declared.request.Request.{Request}
 use Rattle.wire.specs.declared.request.Request.the-variants as Req
 use Rattle.receiver_state.specs.Answer.{receiverNumberOf}
@@ -129,15 +129,14 @@ module _ (capacity : ℕ) (verdict : Verdict) where
   unfolding receiverTransferOf
   transfer-row p number size readiness =
       let P : Step → Type 0 = Row (Transfer p) (Req.Data number size) capacity verdict in
-      pick-all P (eqb number (p .accepted .blocks)) _ _
-      (λ a. let due = eqb-true number (p .accepted .blocks) a in
+      pick-all P (differ number (p .accepted .blocks)) _ _ (λ _. search)
+      (λ a. let due = differ-false number (p .accepted .blocks) a in
       pick-all P (eqb size 0) _ _
       (λ b. let none = eqb-true size 0 b in rw none (close-row p number due))
       (λ b. let some = eqb-false size 0 b in
       pick-all P (p .short) _ _ (λ _. search)
       (λ whole. pick-all P (passesCapacity number size capacity) _ _ (λ _. search)
       (λ passed. take-row p number size readiness due whole (omega arith) passed))))
-      (λ _. search)
 
   data-row : (before : Phase) (number size readiness : ℕ) → Row before (Req.Data number size) capacity verdict (receiverDataOf before number size capacity readiness)
   unfolding receiverDataOf

@@ -2,10 +2,10 @@
 use Prim.Native.Nat.{ℕ, _≤_}
 use mathlib.Core.Path.{_≡_, refl}
 use mathlib.Core.List.{List}
-use borrow.Author.Tests.{eqb-true, ltb-false}
-use lib.Dec.{ltb, eqb}
+use borrow.Author.Tests.{ltb-false}
+use lib.Dec.{ltb}
 use lib.ListN.{length}
-use Rattle.basis.specs.Pick.{pick-all}
+use Rattle.basis.specs.Pick.{pick-all, differ, differ-false}
 use Rattle.basis.specs.Left.{Left, left}
 use Rattle.wire.specs.Codes.{longest}
 use Rattle.wire.specs.Request as message
@@ -43,12 +43,11 @@ module _ (r : Receiver) (image request : List ℕ) (readiness : ℕ) (verdict : 
       → P (receiverRequestOf r image request readiness verdict out)
   unfolding receiverRequestOf
   request-walk P length-bad short range bad good =
-      pick-all P (eqb (length image) (r .capacity)) _ _
+      pick-all P (differ (length image) (r .capacity)) _ _ (λ _. length-bad)
       (λ a. pick-all P (ltb (length out) longest) _ _ (λ _. short)
       (λ b. pick-all P (outOfRange readiness verdict) _ _ (λ _. range)
       (λ _. read-walk P (message.parsedRequestOf request) (λ _. bad)
-      (λ q e. good q (eqb-true (length image) (r .capacity) a) (ltb-false (length out) longest b) e))))
-      (λ _. length-bad)
+      (λ q e. good q (differ-false (length image) (r .capacity) a) (ltb-false (length out) longest b) e))))
 
 module _ (r : Receiver) (elapsed : ℕ) (out : List ℕ) where
   pub time-walk : (P : Left Outcome → Type 0)

@@ -2,7 +2,7 @@
 use Prim.Native.Nat.{ℕ, _+_}
 use mathlib.Core.Bool.{Bool, true, false}
 use lib.Dec.{ltb, eqb}
-use Rattle.basis.specs.Pick.{pick}
+use Rattle.basis.specs.Pick.{pick, differ}
 use Rattle.image.specs.Blocks.{blockSize, placeOf, blockPassesOf}
 use Rattle.wire.specs.declared.request.Request.{Request}
 use Rattle.wire.specs.declared.request.Request.the-variants as Req
@@ -32,7 +32,7 @@ offerOf phase readiness =
 
 -- .. in Transfer only with nothing accepted
 unfoldable pub initiateAgainOf : Progress → ℕ → Step
-initiateAgainOf p readiness = pick (eqb (p .accepted .blocks) 0) (offerOf (Transfer p) readiness) (goesTo (Transfer p) UnexpectedInitiate)
+initiateAgainOf p readiness = pick (differ (p .accepted .blocks) 0) (goesTo (Transfer p) UnexpectedInitiate) (offerOf (Transfer p) readiness)
 
 unfoldable pub receiverInitiateOf : Phase → ℕ → Step
 receiverInitiateOf Idle readiness = offerOf Idle readiness
@@ -63,12 +63,11 @@ takeBlockOf number size readiness = record {
 -- DATA in Transfer: 22, 24, 23, or taken.
 unfoldable pub receiverTransferOf : Progress → ℕ → ℕ → ℕ → ℕ → Step
 receiverTransferOf p number size capacity readiness =
-    pick (eqb number (p .accepted .blocks))
+    pick (differ number (p .accepted .blocks)) (goesTo (Transfer p) (NotDue (p .accepted .blocks)))
     (pick (eqb size 0) (closeTransferOf (p .accepted))
     (pick (p .short) (goesTo Idle WrongFile)
     (pick (passesCapacity number size capacity) (goesTo Idle PassesCapacity)
     (takeBlockOf number size readiness))))
-    (goesTo (Transfer p) (NotDue (p .accepted .blocks)))
 
 unfoldable pub receiverDataOf : Phase → ℕ → ℕ → ℕ → ℕ → Step
 receiverDataOf Idle number size capacity readiness = goesTo Idle UnexpectedData

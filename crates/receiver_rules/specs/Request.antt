@@ -1,9 +1,9 @@
 -- What one request does: everything that the call returns and leaves, for every session, image, request, readiness, verdict and buffer.
 use Prim.Native.Nat.{ℕ, _≤_}
 use mathlib.Core.List.{List}
-use lib.Dec.{ltb, eqb}
+use lib.Dec.{ltb}
 use lib.ListN.{length, drop}
-use Rattle.basis.specs.Pick.{pick}
+use Rattle.basis.specs.Pick.{pick, differ}
 use Rattle.lent.specs.Led.{writtenInto}
 use Rattle.image.specs.Blocks.{putBlockOf}
 use Rattle.wire.specs.Codes.{longest, dataHead}
@@ -62,8 +62,7 @@ requestReadOf r (Par.Valid valid) image request readiness verdict out =
 -- 28, 27, 26, 20, and then what the request asks for
 unfoldable pub receiverRequestOf : Receiver → List ℕ → List ℕ → ℕ → Verdict → List ℕ → Effect
 receiverRequestOf r image request readiness verdict out =
-    pick (eqb (length image) (r .capacity))
+    pick (differ (length image) (r .capacity)) (requestKept r ImageLength image out)
     (pick (ltb (length out) longest) (requestKept r BufferShort image out)
     (pick (outOfRange readiness verdict) (requestKept r OutOfRange image out)
     (requestReadOf r (message.parsedRequestOf request) image request readiness verdict out)))
-    (requestKept r ImageLength image out)

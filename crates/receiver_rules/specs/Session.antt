@@ -16,9 +16,9 @@ use Rattle.receiver_state.specs.declared.session.Started.{Started}
 use Rattle.receiver_state.specs.declared.session.Started.the-variants.{Made, Refused}
 
 unfoldable pub receiverFreshOf : Checked → Identity → ℕ → Started
+receiverFreshOf Che.Refused identity capacity = Refused
 receiverFreshOf (Che.Made settings) identity capacity =
     Made (record { settings = settings; identity = identity; capacity = capacity; phase = Idle; silence = 0; resends = 0 })
-receiverFreshOf Che.Refused identity capacity = Refused
 
 -- Capacity is the lent image memory's length; above 1,048,575: 29; 0 is allowed (01, Sizes and numbers).
 unfoldable pub receiverStartOf : ℕ → ℕ → Identity → ℕ → Started

@@ -1,9 +1,8 @@
 -- The sum of the accepted bytes, which are the first of the image (01, Sizes and numbers).
 use Prim.Native.Nat.{ℕ}
 use mathlib.Core.List.{List}
-use lib.Dec.{eqb}
 use lib.ListN.{length, take}
-use Rattle.basis.specs.Pick.{pick}
+use Rattle.basis.specs.Pick.{pick, differ}
 use Rattle.image.specs.Sum as sums
 use Rattle.receiver_state.specs.Phase.{acceptedOf}
 use Rattle.receiver_state.specs.declared.session.Receiver.{Receiver}
@@ -12,5 +11,5 @@ use Rattle.receiver_state.specs.declared.sum.Summed.the-variants.{Sum, ImageLen
 
 unfoldable pub receiverSumOf : Receiver → List ℕ → Summed
 receiverSumOf r image =
-    pick (eqb (length image) (r .capacity)) (Sum (sums.sumOf (take (acceptedOf (r .phase) .bytes) image)))
-    ImageLength
+    pick (differ (length image) (r .capacity)) ImageLength
+    (Sum (sums.sumOf (take (acceptedOf (r .phase) .bytes) image)))

@@ -10,6 +10,6 @@ where-ok-spec =
     tie.close
     (tie.spec
     (λ c κs. search needs)
-    (λ c. search (tests, ← (c .before .ok .ensures)))
     (λ c κs. search needs)
-    (λ c. search (tests, ← (c .before .before .ok .ensures))))
+    (λ c. search (tests, ← (c .before .before .not-ok .ensures)))
+    (λ c. search (tests, ← (c .before .not-ok .ensures))))

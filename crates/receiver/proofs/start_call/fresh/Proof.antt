@@ -10,5 +10,5 @@ fresh-spec =
     (tie.spec
     (λ c. search needs)
     (λ c. search needs)
-    (λ c. rw (c .before .checked .given .1))
-    (λ c. rw (c .enum-told .given .1)))
+    (λ c. rw (c .enum-told .given .1))
+    (λ c. rw (c .before .checked .given .1)))
