@@ -11,11 +11,10 @@ use indoor_state::step::Step;
 use silence::Event;
 use silence::Grown;
 ghost use mathlib.Core.Path.{_≡_};
-ghost use Prim.Native.Nat.{_-_};
 ghost use Rattle.indoor_state.specs.Phase.{indoorState};
 ghost use Rattle.indoor_state.specs.declared.answer.Answer.the-variants.{Passed};
 ghost use Rattle.indoor_state.specs.Step.{indoorStep};
-ghost use Rattle.indoor_rules.specs.Tick.{indoorSilenceOf, resentOf, transferExpiredOf, resendsOf, transferExpiresOf, initiateTickOf, transferTickOf, pacedOf, validateTickOf, indoorTickIn, indoorTickOf};
+ghost use Rattle.indoor_rules.specs.Tick.{indoorSilenceOf, resentOf, transferExpiredOf, resendsOf, transferExpiresOf, waitsOn, waitOver, initiateTickOf, transferTickOf, validateTickOf, indoorTickIn, indoorTickOf};
 
 pub fn pass(plan: Plan, state: State, elapsed: u16) -> Step
     ensures { λ r. ⌜ r ≡ indoorTickOf plan state elapsed ⌝ }
@@ -105,71 +104,62 @@ fn expired(phase: Phase, grown: Grown, event: Event) -> Step
     }
 }
 
-// Outside a wait (0 ms left) it listens. In one it waits on, or the wait is over: the request goes out, and the leftover time is dropped.
-fn paced(
-    state: State,
-    wait: u16,
-    elapsed: u16,
-    listens: Step,
-    left: Phase,
-    over: Phase,
-    answer: Answer,
-) -> Step
-    ensures { λ r. ⌜ r ≡ pacedOf state wait elapsed listens left over answer ⌝ }
+// Silence doesn't grow in a wait.
+fn waits_on(state: State, phase: Phase) -> Step
+    ensures { λ r. ⌜ r ≡ waitsOn state phase ⌝ }
 {
-    if wait == 0 {
-        return listens;
-    }
-    if elapsed < wait {
-        return at(left, state.silence, state.resends, Answer::Passed);
-    }
-    at(over, 0, state.resends, answer)
+    at(phase, state.silence, state.resends, Answer::Passed)
 }
 
-fn left_of(wait: u16, elapsed: u16) -> u16
-    ensures { λ r. ⌜ r ≡ wait - elapsed ⌝ }
+// The request goes out, and the call's leftover time is dropped.
+fn wait_over(state: State, phase: Phase, answer: Answer) -> Step
+    ensures { λ r. ⌜ r ≡ waitOver state phase answer ⌝ }
 {
-    if elapsed < wait {
-        return wait - elapsed;
-    }
-    0
+    at(phase, 0, state.resends, answer)
 }
 
+// Outside a wait (0 ms left) silence grows; so in Transfer and Validate.
 fn initiate(plan: Plan, state: State, wait: u16, elapsed: u16) -> Step
     ensures { λ r. ⌜ r ≡ initiateTickOf plan state wait elapsed ⌝ }
 {
-    let again = Answer::Initiating;
-    let listens = resends(plan, state, again, elapsed);
-    let left = Phase::Initiate {
-        wait: left_of(wait, elapsed),
-    };
-    let over = Phase::Initiate { wait: 0 };
-    paced(state, wait, elapsed, listens, left, over, again)
+    if wait == 0 {
+        return resends(plan, state, Answer::Initiating, elapsed);
+    }
+    if elapsed < wait {
+        let left = wait - elapsed;
+        return waits_on(state, Phase::Initiate { wait: left });
+    }
+    wait_over(state, Phase::Initiate { wait: 0 }, Answer::Initiating)
 }
 
 fn transfer(plan: Plan, state: State, p: Progress, elapsed: u16) -> Step
     ensures { λ r. ⌜ r ≡ transferTickOf plan state p elapsed ⌝ }
 {
     let number = p.asked;
-    let listens = expires(plan, state, elapsed);
-    let left = Phase::Transfer(Progress {
-        asked: number,
-        wait: left_of(p.wait, elapsed),
-        emptied: p.emptied,
-    });
-    let over = sent(plan, number, p.emptied);
-    let answer = Answer::Sending { number };
-    paced(state, p.wait, elapsed, listens, left, over, answer)
+    if p.wait == 0 {
+        return expires(plan, state, elapsed);
+    }
+    if elapsed < p.wait {
+        let left = Progress {
+            asked: number,
+            wait: p.wait - elapsed,
+            emptied: p.emptied,
+        };
+        return waits_on(state, Phase::Transfer(left));
+    }
+    let phase = sent(plan, number, p.emptied);
+    wait_over(state, phase, Answer::Sending { number })
 }
 
 fn validate(plan: Plan, state: State, wait: u16, elapsed: u16) -> Step
     ensures { λ r. ⌜ r ≡ validateTickOf plan state wait elapsed ⌝ }
 {
-    let again = Answer::Validating;
-    let listens = resends(plan, state, again, elapsed);
-    let left = Phase::Validate {
-        wait: left_of(wait, elapsed),
-    };
-    let over = Phase::Validate { wait: 0 };
-    paced(state, wait, elapsed, listens, left, over, again)
+    if wait == 0 {
+        return resends(plan, state, Answer::Validating, elapsed);
+    }
+    if elapsed < wait {
+        let left = wait - elapsed;
+        return waits_on(state, Phase::Validate { wait: left });
+    }
+    wait_over(state, Phase::Validate { wait: 0 }, Answer::Validating)
 }

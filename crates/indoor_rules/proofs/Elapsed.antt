@@ -13,7 +13,7 @@ use Rattle.silence.proofs.Laws.{below-quiet, left-resends, none-left-ends, limi
 use Rattle.indoor_state.specs.Phase.{indoorProgress, indoorState}
 use Rattle.indoor_state.specs.Step.{indoorStep}
 use Rattle.indoor_rules.specs.Step.{emptiedBy}
-use Rattle.indoor_rules.specs.Tick.{resentOf, transferExpiredOf, resendsOf, transferExpiresOf, initiateTickOf, transferTickOf, validateTickOf, pacedOf, indoorTickIn, indoorTickOf}
+use Rattle.indoor_rules.specs.Tick.{resentOf, transferExpiredOf, resendsOf, transferExpiresOf, initiateTickOf, transferTickOf, validateTickOf, indoorTickIn, indoorTickOf}
 use Rattle.indoor_state.specs.declared.plan.Plan.{Plan}
 use Rattle.indoor_state.specs.declared.phase.Reason.{Reason}
 use Rattle.indoor_state.specs.declared.phase.Reason.the-variants.{Silence}
@@ -46,35 +46,35 @@ module _ (plan : Plan) (silence resends elapsed : ℕ) where
   -- Silence doesn't grow in a wait.
   module _ (left : ℕ) (below : elapsed < left) where
     pub initiate-still : then (Initiate left) ≡ indoorStep (indoorState (Initiate (left - elapsed)) silence resends) Ans.Passed
-    unfolding indoorTickIn initiateTickOf pick pacedOf
+    unfolding indoorTickIn initiateTickOf pick
     initiate-still = rw (ne-eqb left 0 (λ e. omega arith), lt-ltb elapsed left below)
 
     pub transfer-still : (asked : ℕ) (emptied : Bool)
         → then (Transfer (indoorProgress asked left emptied)) ≡ indoorStep (indoorState (Transfer (indoorProgress asked (left - elapsed) emptied)) silence resends) Ans.Passed
-    unfolding indoorTickIn transferTickOf pick pacedOf
+    unfolding indoorTickIn transferTickOf pick
     transfer-still asked emptied = rw (ne-eqb left 0 (λ e. omega arith), lt-ltb elapsed left below)
 
     pub validate-still : then (Validate left) ≡ indoorStep (indoorState (Validate (left - elapsed)) silence resends) Ans.Passed
-    unfolding indoorTickIn validateTickOf pick pacedOf
+    unfolding indoorTickIn validateTickOf pick
     validate-still = rw (ne-eqb left 0 (λ e. omega arith), lt-ltb elapsed left below)
 
   -- The call that ends a wait sends, and its leftover time is dropped; this isn't a resend.
   module _ (left : ℕ) (some : 0 < left) (over : left ≤ elapsed) where
     pub initiate-sends : then (Initiate left) ≡ indoorStep (indoorState (Initiate 0) 0 resends) Ans.Initiating
-    unfolding indoorTickIn initiateTickOf pick pacedOf
+    unfolding indoorTickIn initiateTickOf pick
     initiate-sends = rw (ne-eqb left 0 (λ e. omega arith), le-ltb elapsed left over)
 
     pub transfer-sends : (asked : ℕ) (emptied : Bool)
         → then (Transfer (indoorProgress asked left emptied)) ≡ indoorStep (indoorState (Transfer (indoorProgress asked 0 (emptiedBy plan asked emptied))) 0 resends) (Ans.Sending asked)
-    unfolding indoorTickIn transferTickOf pick pacedOf
+    unfolding indoorTickIn transferTickOf pick
     transfer-sends asked emptied = rw (ne-eqb left 0 (λ e. omega arith), le-ltb elapsed left over)
 
     pub validate-sends : then (Validate left) ≡ indoorStep (indoorState (Validate 0) 0 resends) Ans.Validating
-    unfolding indoorTickIn validateTickOf pick pacedOf
+    unfolding indoorTickIn validateTickOf pick
     validate-sends = rw (ne-eqb left 0 (λ e. omega arith), le-ltb elapsed left over)
 
   listens : (phase : Phase) (again : Answer) → Resends phase again → then phase ≡ resendsOf plan (indoorState phase silence resends) again elapsed
-  unfolding indoorTickIn initiateTickOf validateTickOf pick pacedOf
+  unfolding indoorTickIn initiateTickOf validateTickOf pick
   listens Identify again e = rw e
   listens (Initiate left) again h = rw (h .0, h .1)
   listens (Transfer p) again h = absurd h
@@ -100,12 +100,12 @@ module _ (plan : Plan) (silence resends elapsed : ℕ) where
   module _ (asked : ℕ) (emptied : Bool) where
     pub transfer-quiet : silence + elapsed < plan .settings .limit
         → then (Transfer (indoorProgress asked 0 emptied)) ≡ indoorStep (indoorState (Transfer (indoorProgress asked 0 emptied)) (silence + elapsed) resends) Ans.Passed
-    unfolding indoorTickIn transferTickOf transferExpiresOf transferExpiredOf pick pacedOf
+    unfolding indoorTickIn transferTickOf transferExpiresOf transferExpiredOf pick
     transfer-quiet h = rw (below-quiet silence elapsed resends (plan .settings) h)
 
     -- The first expiry in Transfer: 40, whatever resends are left.
     pub transfer-40 : plan .settings .limit ≤ silence + elapsed → then (Transfer (indoorProgress asked 0 emptied)) ≡ failed Silence
-    unfolding indoorTickIn transferTickOf transferExpiresOf pick pacedOf
+    unfolding indoorTickIn transferTickOf transferExpiresOf pick
     transfer-40 h =
         let g = grownOf silence elapsed resends (plan .settings) in
         expired-40 (Transfer (indoorProgress asked 0 emptied)) g (g .event) (limit-expires silence elapsed resends (plan .settings) h)

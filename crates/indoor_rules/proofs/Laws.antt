@@ -1,6 +1,6 @@
 -- The paper's sentences on the indoor end's calls, said back of the definitions (01, The indoor end's phases; 01, Numbers we answer).
 use Prim.Native.Nat.{ℕ}
-use mathlib.Core.Bool.{Bool, true, false, true≢false, _||_}
+use mathlib.Core.Bool.{Bool, true, true≢false, _||_}
 use mathlib.Core.Path.{_≡_, refl, sym}
 use mathlib.Core.List.{List}
 use native.Mathlib.Omega.{arith}

@@ -11,7 +11,7 @@ use Rattle.silence.proofs.Laws.{grown-all}
 use Rattle.indoor_state.specs.Phase.{indoorState}
 use Rattle.indoor_state.specs.Answer.{indoorNumberOf, sendsOf}
 use Rattle.indoor_state.specs.Step.{indoorStep}
-use Rattle.indoor_rules.specs.Tick.{resentOf, transferExpiredOf, resendsOf, transferExpiresOf, initiateTickOf, transferTickOf, validateTickOf, pacedOf, indoorTickIn, indoorTickOf}
+use Rattle.indoor_rules.specs.Tick.{resentOf, transferExpiredOf, resendsOf, transferExpiresOf, initiateTickOf, transferTickOf, validateTickOf, indoorTickIn, indoorTickOf}
 use Rattle.indoor_state.specs.declared.plan.Plan.{Plan}
 use Rattle.indoor_state.specs.declared.phase.Reason.the-variants.{Silence}
 use Rattle.indoor_state.specs.declared.phase.Progress.{Progress}
@@ -100,7 +100,7 @@ module _ (plan : Plan) (silence resends elapsed : ℕ) where
       (λ _. search inl) (λ at _. search (inl, inr)) (λ at _. search (inl, inr))
 
   initiate-ticks : (left : ℕ) → P (Initiate left) (initiateTickOf plan (indoorState (Initiate left) silence resends) left elapsed)
-  unfolding initiateTickOf resendsOf resentOf pacedOf
+  unfolding initiateTickOf resendsOf resentOf
   initiate-ticks left =
       let k = sums resends in
       pick-all (P (Initiate left)) (eqb left 0) _ _
@@ -110,7 +110,7 @@ module _ (plan : Plan) (silence resends elapsed : ℕ) where
       (λ _. pick-all (P (Initiate left)) (ltb elapsed left) _ _ (λ _. search inl) (λ _. search inl))
 
   validate-ticks : (left : ℕ) → P (Validate left) (validateTickOf plan (indoorState (Validate left) silence resends) left elapsed)
-  unfolding validateTickOf resendsOf resentOf pacedOf
+  unfolding validateTickOf resendsOf resentOf
   validate-ticks left =
       let k = sums resends in
       pick-all (P (Validate left)) (eqb left 0) _ _
@@ -120,7 +120,7 @@ module _ (plan : Plan) (silence resends elapsed : ℕ) where
       (λ _. pick-all (P (Validate left)) (ltb elapsed left) _ _ (λ _. search inl) (λ _. search inl))
 
   transfer-ticks : (p : Progress) → P (Transfer p) (transferTickOf plan (indoorState (Transfer p) silence resends) p elapsed)
-  unfolding transferTickOf transferExpiresOf transferExpiredOf pacedOf
+  unfolding transferTickOf transferExpiresOf transferExpiredOf
   transfer-ticks p =
       let k = sums resends in
       let later = later-empties plan (p .asked) (p .emptied) in
@@ -150,7 +150,7 @@ module _ (plan : Plan) (silence resends elapsed : ℕ) where
   Calm s = (s .state .silence ≤ silence) × (s .state .resends ≡ resends)
 
   calm : (before : Phase) → 0 < waitLeft before → Calm (indoorTickIn plan (indoorState before silence resends) before elapsed)
-  unfolding indoorTickIn initiateTickOf transferTickOf validateTickOf pacedOf
+  unfolding indoorTickIn initiateTickOf transferTickOf validateTickOf
   calm Identify h = absurd (omega arith)
   calm (Initiate left) h =
       pick-all Calm (eqb left 0) _ _ (λ t. let none = eqb-true left 0 t in absurd (omega arith))

@@ -48,26 +48,24 @@ waitsOn state phase = indoorStep (indoorState phase (state .silence) (state .res
 abbrev pub waitOver : State → Phase → Answer → Step
 waitOver state phase answer = indoorStep (indoorState phase 0 (state .resends)) answer
 
--- Outside a wait (0 ms left) it listens; in one it waits on, or the wait is over and the request goes out.
-unfoldable pub pacedOf : State → ℕ → ℕ → Step → Phase → Phase → Answer → Step
-pacedOf state wait elapsed listens left over answer =
-    pick (eqb wait 0) listens
-    (pick (ltb elapsed wait) (waitsOn state left)
-    (waitOver state over answer))
-
+-- Each in three cases: outside a wait (0 ms left) silence grows; a wait goes on; a wait is over.
 unfoldable pub initiateTickOf : Plan → State → ℕ → ℕ → Step
 initiateTickOf plan state wait elapsed =
-    pacedOf state wait elapsed (resendsOf plan state Initiating elapsed) (Initiate (wait - elapsed)) (Initiate 0) Initiating
+    pick (eqb wait 0) (resendsOf plan state Initiating elapsed)
+    (pick (ltb elapsed wait) (waitsOn state (Initiate (wait - elapsed)))
+    (waitOver state (Initiate 0) Initiating))
 
 unfoldable pub transferTickOf : Plan → State → Progress → ℕ → Step
 transferTickOf plan state p elapsed =
-    pacedOf state (p .wait) elapsed (transferExpiresOf plan state elapsed) (Transfer (indoorProgress (p .asked) (p .wait - elapsed) (p .emptied)))
-    (blockSent plan (p .asked) (p .emptied))
-    (Sending (p .asked))
+    pick (eqb (p .wait) 0) (transferExpiresOf plan state elapsed)
+    (pick (ltb elapsed (p .wait)) (waitsOn state (Transfer (indoorProgress (p .asked) (p .wait - elapsed) (p .emptied))))
+    (waitOver state (blockSent plan (p .asked) (p .emptied)) (Sending (p .asked))))
 
 unfoldable pub validateTickOf : Plan → State → ℕ → ℕ → Step
 validateTickOf plan state wait elapsed =
-    pacedOf state wait elapsed (resendsOf plan state Validating elapsed) (Validate (wait - elapsed)) (Validate 0) Validating
+    pick (eqb wait 0) (resendsOf plan state Validating elapsed)
+    (pick (ltb elapsed wait) (waitsOn state (Validate (wait - elapsed)))
+    (waitOver state (Validate 0) Validating))
 
 -- In Done and Failed time does nothing.
 unfoldable pub indoorTickIn : Plan → State → Phase → ℕ → Step

@@ -52,7 +52,6 @@ use Rattle.indoor_rules.specs.Newer.{newerOf}
 use Rattle.indoor_rules.proofs.Compared.{Newer, newer-only, newer-yes}
 use Rattle.indoor_rules.proofs.Orders as responses
 use Rattle.indoor_rules.specs.Send.{blockBytes, sendsBytes}
-use Rattle.indoor_rules.specs.Response.{indoorResponseOf}
 use Rattle.indoor_state.specs.declared.session.Indoor.{Indoor}
 use Rattle.indoor_rules.proofs.Fresh as indoorFresh
 use Rattle.indoor_rules.proofs.Genuine.{whole-read, block-read}

@@ -3,8 +3,10 @@ use receiver_state::answer::Answer;
 use receiver_state::phase::Phase;
 use receiver_state::step::Tick;
 use silence::Event;
+use silence::Grown;
 use silence::Settings;
 ghost use mathlib.Core.Path.{_≡_};
+ghost use Rattle.silence.specs.Expiry.{grownOf};
 ghost use Rattle.receiver_rules.specs.Tick.{tick, receiverExpiryOf, receiverSilenceOf, receiverTickOf};
 
 // Transfer asks for the next number with wait 0, Await repeats the closing answer.
@@ -59,19 +61,19 @@ fn wait(
     resends: u8,
     settings: Settings,
 ) -> Tick
-    ensures { λ r. ⌜ r ≡ receiverSilenceOf phase again silence elapsed resends settings ⌝ }
+    ensures { λ r. ⌜ r ≡ receiverSilenceOf phase again (grownOf silence elapsed resends settings) ⌝ }
 {
     let grown = silence::grow(silence, elapsed, resends, settings);
     let event = grown.event;
-    expire(phase, again, grown.silence, grown.resends, event)
+    expire(phase, again, grown, event)
 }
 
-fn expire(phase: Phase, again: Answer, silence: u16, resends: u8, event: Event) -> Tick
-    ensures { λ r. ⌜ r ≡ receiverExpiryOf phase again silence resends event ⌝ }
+fn expire(phase: Phase, again: Answer, grown: Grown, event: Event) -> Tick
+    ensures { λ r. ⌜ r ≡ receiverExpiryOf phase again grown event ⌝ }
 {
     match event {
-        Event::Quiet => after(phase, silence, resends, Answer::Passed),
-        Event::Resend => after(phase, silence, resends, again),
-        Event::NoneLeft => after(Phase::Idle, silence, resends, Answer::Passed),
+        Event::Quiet => after(phase, grown.silence, grown.resends, Answer::Passed),
+        Event::Resend => after(phase, grown.silence, grown.resends, again),
+        Event::NoneLeft => after(Phase::Idle, grown.silence, grown.resends, Answer::Passed),
     }
 }

@@ -3,6 +3,7 @@ use Prim.Native.Nat.{ℕ, _+_, _<_, _≤_}
 use mathlib.Core.Path.{_≡_, refl}
 use native.Mathlib.Omega.{arith}
 use Rattle.silence.specs.Expiry.{grownOf}
+use Rattle.silence.specs.declared.Grown.{Grown}
 use Rattle.silence.proofs.Laws.{below-quiet, left-resends, none-left-ends, one-expiry, many-limits}
 use Rattle.silence.specs.declared.Settings.{Settings}
 use Rattle.silence.specs.declared.Event.{Event}
@@ -23,7 +24,7 @@ module _ (silence elapsed made : ℕ) (settings : Settings) where
   then phase = receiverTickOf phase silence elapsed made settings
 
   module _ (below : silence + elapsed < settings .limit) where
-    wait-quiet : (phase : Phase) (again : Answer) → receiverSilenceOf phase again silence elapsed made settings ≡ tick phase (silence + elapsed) made Passed
+    wait-quiet : (phase : Phase) (again : Answer) → receiverSilenceOf phase again (grownOf silence elapsed made settings) ≡ tick phase (silence + elapsed) made Passed
     unfolding receiverSilenceOf receiverExpiryOf
     wait-quiet phase again = rw (below-quiet silence elapsed made settings below)
 
@@ -37,7 +38,7 @@ module _ (silence elapsed made : ℕ) (settings : Settings) where
     await-quiet a = wait-quiet (Await a) _
 
   module _ (limit : settings .limit ≤ silence + elapsed) (left : made < settings .resends) where
-    wait-again : (phase : Phase) (again : Answer) → receiverSilenceOf phase again silence elapsed made settings ≡ tick phase 0 (made + 1) again
+    wait-again : (phase : Phase) (again : Answer) → receiverSilenceOf phase again (grownOf silence elapsed made settings) ≡ tick phase 0 (made + 1) again
     unfolding receiverSilenceOf receiverExpiryOf
     wait-again phase again = rw (left-resends silence elapsed made settings limit left)
 
@@ -52,7 +53,7 @@ module _ (silence elapsed made : ℕ) (settings : Settings) where
     await-repeats a = wait-again (Await a) (Closed (a .blocks))
 
   module _ (limit : settings .limit ≤ silence + elapsed) (none : settings .resends ≤ made) where
-    wait-ends : (phase : Phase) (again : Answer) → receiverSilenceOf phase again silence elapsed made settings ≡ tick Idle 0 made Passed
+    wait-ends : (phase : Phase) (again : Answer) → receiverSilenceOf phase again (grownOf silence elapsed made settings) ≡ tick Idle 0 made Passed
     unfolding receiverSilenceOf receiverExpiryOf
     wait-ends phase again = rw (none-left-ends silence elapsed made settings limit none)
 
@@ -88,14 +89,14 @@ pub record Ticks (before : Phase) (made : ℕ) (t : Tick) : Type 0 where
   pub once : t .resends ≤ made + 1
   pub tells : Tells (t .answer) (t .phase)
 
-module _ (made silence resends : ℕ) (once : resends ≤ made + 1) where
-  transfer-ticks : (p : Progress) (number : ℕ) (event : Event) → Ticks (Transfer p) made (receiverExpiryOf (Transfer p) (Asking 0 number) silence resends event)
+module _ (made : ℕ) (g : Grown) (once : g .resends ≤ made + 1) where
+  transfer-ticks : (p : Progress) (number : ℕ) (event : Event) → Ticks (Transfer p) made (receiverExpiryOf (Transfer p) (Asking 0 number) g event)
   unfolding receiverExpiryOf
   transfer-ticks p number Quiet = search
   transfer-ticks p number Resend = search
   transfer-ticks p number NoneLeft = search
 
-  await-ticks : (a : Accepted) (number : ℕ) (event : Event) → Ticks (Await a) made (receiverExpiryOf (Await a) (Closed number) silence resends event)
+  await-ticks : (a : Accepted) (number : ℕ) (event : Event) → Ticks (Await a) made (receiverExpiryOf (Await a) (Closed number) g event)
   unfolding receiverExpiryOf
   await-ticks a number Quiet = search
   await-ticks a number Resend = search
@@ -106,15 +107,15 @@ unfolding receiverTickOf receiverSilenceOf
 pass-ticks Idle silence elapsed made settings = record { taken = refl; lasts = tt; once = omega arith; tells = tt }
 pass-ticks (Transfer p) silence elapsed made settings =
     let g = grownOf silence elapsed made settings in
-    transfer-ticks made (g .silence) (g .resends) (one-expiry silence elapsed made settings) p (p .accepted .blocks) (g .event)
+    transfer-ticks made g (one-expiry silence elapsed made settings) p (p .accepted .blocks) (g .event)
 pass-ticks (Await a) silence elapsed made settings =
     let g = grownOf silence elapsed made settings in
-    await-ticks made (g .silence) (g .resends) (one-expiry silence elapsed made settings) a (a .blocks) (g .event)
+    await-ticks made g (one-expiry silence elapsed made settings) a (a .blocks) (g .event)
 pass-ticks (Good a) silence elapsed made settings = record { taken = refl; lasts = refl; once = omega arith; tells = tt }
 
 -- One call that passes several limits is one expiry: it does what a call does that reaches the first exactly.
 module _ (silence made e e′ : ℕ) (settings : Settings) (h : settings .limit ≤ silence + e) (h′ : settings .limit ≤ silence + e′) where
-  wait-many : (phase : Phase) (again : Answer) → receiverSilenceOf phase again silence e made settings ≡ receiverSilenceOf phase again silence e′ made settings
+  wait-many : (phase : Phase) (again : Answer) → receiverSilenceOf phase again (grownOf silence e made settings) ≡ receiverSilenceOf phase again (grownOf silence e′ made settings)
   unfolding receiverSilenceOf
   wait-many phase again = rw (many-limits silence made e e′ settings h h′)
 

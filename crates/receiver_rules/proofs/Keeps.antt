@@ -36,7 +36,13 @@ module _ (capacity : ℕ) (image request : List ℕ) (taken : List (List ℕ)) (
   -- After the step s from a phase, by the request q.
   abbrev Then : Phase → Request → Step → Type 0
   Then before q s =
-      Held capacity (imageAfter (s .store) image request) (takenBy before (Par.Valid q) (drop 4 request) (receiverNumberOf (s .answer)) (s .phase) taken) (s .phase)
+      Held capacity (imageAfter (s .store) image request) (takenBy (record {
+        before = before;
+        message = Par.Valid q;
+        block = drop 4 request;
+        answered = receiverNumberOf (s .answer);
+        after = s .phase;
+      }) taken) (s .phase)
 
   initiate-keeps : (before : Phase) (v : Versions) → Has before → Then before (Req.Initiate v) (receiverInitiateOf before readiness)
   unfolding receiverInitiateOf initiateAgainOf offerOf imageAfter pick

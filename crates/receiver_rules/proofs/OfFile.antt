@@ -29,7 +29,6 @@ use Rattle.receiver_rules.proofs.DataOrders.{answers-22}
 use Rattle.receiver_state.specs.declared.verdict.Verdict.{Verdict}
 use Rattle.receiver_state.specs.declared.step.Step.{Step}
 use Rattle.receiver_rules.proofs.Elapsed.{Lasts}
-use Rattle.receiver_rules.specs.Request.{receiverRequestOf}
 use Rattle.receiver_rules.specs.Time.{receiverTimeOf}
 use Rattle.receiver_rules.specs.History.{acceptsBlock, forgets, takenBy, takenAfter, inOrder, Reached, asks, passes}
 use Rattle.receiver_state.specs.declared.session.Receiver.{Receiver}
@@ -39,7 +38,7 @@ use Rattle.receiver_rules.proofs.Entering.{Validated, Closes, good-ente
 use Rattle.receiver_rules.proofs.Stored.{Stored, image-changes}
 use Rattle.receiver_rules.proofs.TimeLaws.{time-lasts}
 use Rattle.receiver_rules.proofs.Held.{Held}
-use Rattle.receiver_rules.proofs.Reached.{refused-accepts, reached-holds}
+use Rattle.receiver_rules.proofs.Reached.{refused-accepts, refusedAs, reached-holds}
 use Rattle.receiver_rules.proofs.InPlace.{in-place, counted}
 
 by-test : (a b : ℕ) (t : Bool) → eqb a b ≡ t → (a ≡ b) ⊎ (a ≡ b → ⊥)
@@ -137,9 +136,9 @@ module _ (file : List ℕ) where
 
   module _ (r : Receiver) (image : List ℕ) (taken : List (List ℕ)) (h : OfFile r image taken) where
     module _ (request : List ℕ) (readiness : ℕ) (verdict : Verdict) (out : List ℕ) (same : Carries request) where
-      refused : (number : ℕ) → eqb number 0 ≡ false → FirstBlocks (takenBy (r .phase) (message.parsedRequestOf request) (drop 4 request) number (r .phase) taken)
+      refused : (answered : ℕ) → eqb answered 0 ≡ false → FirstBlocks (takenBy (refusedAs r request answered) taken)
       unfolding pick
-      refused number n = rw (refused-accepts (r .phase) (message.parsedRequestOf request) number n) (forgets-first (r .phase) taken (h .blocks))
+      refused answered n = rw (refused-accepts (r .phase) (message.parsedRequestOf request) answered n) (forgets-first (r .phase) taken (h .blocks))
 
       asks-first : FirstBlocks (takenAfter r request (after r image request readiness verdict out .outcome) taken)
       asks-first =

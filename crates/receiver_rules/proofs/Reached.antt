@@ -16,7 +16,7 @@ use Rattle.receiver_state.specs.declared.phase.Phase.the-variants.{Idle, Transf
 use Rattle.receiver_state.specs.declared.verdict.Verdict.{Verdict}
 use Rattle.receiver_rules.specs.Request.{receiverRequestOf}
 use Rattle.receiver_rules.specs.Time.{receiverTimeOf}
-use Rattle.receiver_rules.specs.History.{carried, acceptsBlock, forgets, takenBy, takenAfter, Reached, starts, asks, passes}
+use Rattle.receiver_rules.specs.History.{blockAnswered, acceptsBlock, forgets, Asked, takenBy, takenAfter, Reached, starts, asks, passes}
 use Rattle.receiver_state.specs.declared.session.Receiver.{Receiver}
 use Rattle.receiver_rules.proofs.Walk.{request-walk}
 use Rattle.receiver_rules.proofs.Laws.{settings-stay}
@@ -26,26 +26,26 @@ use Rattle.receiver_rules.proofs.Keeps.{decide-keeps}
 use Rattle.receiver_rules.proofs.Fresh.{start-fresh}
 
 -- What is refused accepts no block.
-refused-carries : (m : Parsed) (number : ℕ) → eqb number 0 ≡ false → carried m number ≡ false
-refused-carries Par.Malformed number h = refl
-refused-carries (Par.Valid Req.GetFwId) number h = refl
-refused-carries (Par.Valid (Req.Initiate v)) number h = refl
-refused-carries (Par.Valid (Req.Data n size)) number h = rw h
-refused-carries (Par.Valid Req.Validate) number h = refl
-refused-carries (Par.Valid Req.Abort) number h = refl
-refused-carries (Par.Valid Req.NotBuilt) number h = refl
+refused-block : (m : Parsed) (answered : ℕ) → eqb answered 0 ≡ false → blockAnswered m answered ≡ false
+refused-block Par.Malformed answered h = refl
+refused-block (Par.Valid Req.GetFwId) answered h = refl
+refused-block (Par.Valid (Req.Initiate v)) answered h = refl
+refused-block (Par.Valid (Req.Data number size)) answered h = rw h
+refused-block (Par.Valid Req.Validate) answered h = refl
+refused-block (Par.Valid Req.Abort) answered h = refl
+refused-block (Par.Valid Req.NotBuilt) answered h = refl
 
-pub refused-accepts : (before : Phase) (m : Parsed) (number : ℕ) → eqb number 0 ≡ false → acceptsBlock before m number ≡ false
-refused-accepts Idle m number h = refl
-refused-accepts (Transfer p) m number h = refused-carries m number h
-refused-accepts (Await a) m number h = refl
-refused-accepts (Good a) m number h = refl
+pub refused-accepts : (before : Phase) (m : Parsed) (answered : ℕ) → eqb answered 0 ≡ false → acceptsBlock before m answered ≡ false
+refused-accepts Idle m answered h = refl
+refused-accepts (Transfer p) m answered h = refused-block m answered h
+refused-accepts (Await a) m answered h = refl
+refused-accepts (Good a) m answered h = refl
 
 module _ (capacity : ℕ) (image : List ℕ) (taken : List (List ℕ)) where
-  refused-holds : (before : Phase) (m : Parsed) (block : List ℕ) (number : ℕ) → eqb number 0 ≡ false → Held capacity image taken before
-      → Held capacity image (takenBy before m block number before taken) before
+  refused-holds : (before : Phase) (m : Parsed) (block : List ℕ) (answered : ℕ) → eqb answered 0 ≡ false → Held capacity image taken before
+      → Held capacity image (takenBy (record { before = before; message = m; block = block; answered = answered; after = before }) taken) before
   unfolding pick
-  refused-holds before m block number n h = rw (refused-accepts before m number n) (forgets-held capacity image taken before h)
+  refused-holds before m block answered n h = rw (refused-accepts before m answered n) (forgets-held capacity image taken before h)
 
   lasts-holds : (before next : Phase) → Lasts before next → Held capacity image taken before → Held capacity image (forgets next taken) next
   lasts-holds before Idle l h = refl
@@ -56,9 +56,19 @@ module _ (capacity : ℕ) (image : List ℕ) (taken : List (List ℕ)) where
 abbrev Holds : Receiver → List ℕ → List (List ℕ) → Type 0
 Holds r image taken = Held (r .capacity) image taken (r .phase)
 
+-- A request that is refused and leaves the phase as it was.
+abbrev pub refusedAs : Receiver → List ℕ → ℕ → Asked
+refusedAs r request answered = record {
+  before = r .phase;
+  message = message.parsedRequestOf request;
+  block = drop 4 request;
+  answered = answered;
+  after = r .phase;
+}
+
 module _ (r : Receiver) (image : List ℕ) (taken : List (List ℕ)) (h : Holds r image taken) where
-  refused : (request : List ℕ) (number : ℕ) → eqb number 0 ≡ false → Holds r image (takenBy (r .phase) (message.parsedRequestOf request) (drop 4 request) number (r .phase) taken)
-  refused request number n = refused-holds (r .capacity) image taken (r .phase) (message.parsedRequestOf request) (drop 4 request) number n h
+  refused : (request : List ℕ) (answered : ℕ) → eqb answered 0 ≡ false → Holds r image (takenBy (refusedAs r request answered) taken)
+  refused request answered n = refused-holds (r .capacity) image taken (r .phase) (message.parsedRequestOf request) (drop 4 request) answered n h
 
   asks-holds : (request : List ℕ) (readiness : ℕ) (verdict : Verdict) (out : List ℕ)
       → Holds (receiverRequestOf r image request readiness verdict out .outcome .session) (receiverRequestOf r image request readiness verdict out .image)

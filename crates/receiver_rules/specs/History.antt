@@ -9,7 +9,6 @@ use lib.ListN.{drop}
 use Rattle.basis.specs.Pick.{pick}
 use Rattle.wire.specs.Codes.{dataHead}
 use Rattle.wire.specs.Request as message
-use Rattle.wire.specs.declared.request.Request.{Request}
 use Rattle.wire.specs.declared.request.Request.the-variants as Req
 use Rattle.wire.specs.declared.request.Parsed.{Parsed}
 use Rattle.wire.specs.declared.request.Parsed.the-variants as Par
@@ -25,25 +24,22 @@ use Rattle.receiver_state.specs.declared.session.Receiver.{Receiver}
 use Rattle.receiver_state.specs.declared.session.Outcome.{Outcome}
 use Rattle.receiver_state.specs.declared.session.Started.the-variants.{Made}
 
--- A DATA request with a non-empty block; the number is that of the answer.
-abbrev pub carries : Request → ℕ → Bool
-carries Req.GetFwId number = false
-carries (Req.Initiate versions) number = false
-carries (Req.Data block size) number = eqb number 0 && ltb 0 size
-carries Req.Validate number = false
-carries Req.Abort number = false
-carries Req.NotBuilt number = false
+-- A DATA request with a non-empty block that was answered 0.
+abbrev pub blockAnswered : Parsed → ℕ → Bool
+blockAnswered Par.Malformed answered = false
+blockAnswered (Par.Valid Req.GetFwId) answered = false
+blockAnswered (Par.Valid (Req.Initiate versions)) answered = false
+blockAnswered (Par.Valid (Req.Data number size)) answered = eqb answered 0 && ltb 0 size
+blockAnswered (Par.Valid Req.Validate) answered = false
+blockAnswered (Par.Valid Req.Abort) answered = false
+blockAnswered (Par.Valid Req.NotBuilt) answered = false
 
-abbrev pub carried : Parsed → ℕ → Bool
-carried Par.Malformed number = false
-carried (Par.Valid q) number = carries q number
-
--- A block is accepted where such a request is answered 0 in Transfer.
+-- In Transfer that block is accepted; in Await the same answer is the closing answer again.
 abbrev pub acceptsBlock : Phase → Parsed → ℕ → Bool
-acceptsBlock Idle message number = false
-acceptsBlock (Transfer p) message number = carried message number
-acceptsBlock (Await a) message number = false
-acceptsBlock (Good a) message number = false
+acceptsBlock Idle message answered = false
+acceptsBlock (Transfer p) message answered = blockAnswered message answered
+acceptsBlock (Await a) message answered = false
+acceptsBlock (Good a) message answered = false
 
 -- Going to Idle sets accepted to zero.
 abbrev pub forgets : Phase → List (List ℕ) → List (List ℕ)
@@ -52,19 +48,32 @@ forgets (Transfer p) taken = taken
 forgets (Await a) taken = taken
 forgets (Good a) taken = taken
 
--- The accepted blocks, the newest first, before and after a request that holds this block.
-abbrev pub takenBy : Phase → Parsed → List ℕ → ℕ → Phase → List (List ℕ) → List (List ℕ)
-takenBy before message block number then taken = forgets then (pick (acceptsBlock before message number) (block ∷ taken) taken)
+-- One request call: the phase before it, what a reader finds in the request, the request from its fifth byte on, the number that was answered,
+-- and the phase after it.
+pub record Asked : Type 0 where
+  pub before : Phase
+  pub message : Parsed
+  pub block : List ℕ
+  pub answered : ℕ
+  pub after : Phase
+
+-- The accepted blocks after a request call, the newest first; `taken` are those before it.
+abbrev pub takenBy : Asked → List (List ℕ) → List (List ℕ)
+takenBy call taken = forgets (call .after) (pick (acceptsBlock (call .before) (call .message) (call .answered)) (call .block ∷ taken) taken)
+
+abbrev pub takenAfter : Receiver → List ℕ → Outcome → List (List ℕ) → List (List ℕ)
+takenAfter r request outcome taken = takenBy (record {
+  before = r .phase;
+  message = message.parsedRequestOf request;
+  block = drop dataHead request;
+  answered = receiverNumberOf (outcome .answer);
+  after = outcome .session .phase;
+}) taken
 
 -- The accepted blocks in order, one after the other.
 abbrev pub inOrder : List (List ℕ) → List ℕ
 inOrder [] = []
 inOrder (block ∷ taken) = inOrder taken ++ block
-
--- What a request leaves of the accepted blocks.
-abbrev pub takenAfter : Receiver → List ℕ → Outcome → List (List ℕ) → List (List ℕ)
-takenAfter r request outcome taken =
-    takenBy (r .phase) (message.parsedRequestOf request) (drop dataHead request) (receiverNumberOf (outcome .answer)) (outcome .session .phase) taken
 
 pub data Reached : Receiver → List ℕ → List (List ℕ) → Type 0 where
   starts : (limit resends : ℕ) (identity : Identity) (capacity : ℕ) (r : Receiver) (image : List ℕ) → receiverStartOf limit resends identity capacity ≡ Made r → Reached r image []

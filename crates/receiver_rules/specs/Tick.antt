@@ -15,21 +15,20 @@ use Rattle.receiver_state.specs.declared.step.Tick.{Tick}
 abbrev pub tick : Phase → ℕ → ℕ → Answer → Tick
 tick phase silence resends answer = record { phase = phase; silence = silence; resends = resends; answer = answer }
 
--- `again` is what a resend sends.
-unfoldable pub receiverExpiryOf : Phase → Answer → ℕ → ℕ → Event → Tick
-receiverExpiryOf phase again silence resends Quiet = tick phase silence resends Passed
-receiverExpiryOf phase again silence resends Resend = tick phase silence resends again
-receiverExpiryOf phase again silence resends NoneLeft = tick Idle silence resends Passed
+-- Below the limit nothing is sent; at it, while resends are left, the DATA response `again`; with none left: Idle.
+unfoldable pub receiverExpiryOf : Phase → Answer → Grown → Event → Tick
+receiverExpiryOf phase again grown Quiet = tick phase (grown .silence) (grown .resends) Passed
+receiverExpiryOf phase again grown Resend = tick phase (grown .silence) (grown .resends) again
+receiverExpiryOf phase again grown NoneLeft = tick Idle (grown .silence) (grown .resends) Passed
 
-abbrev receiverExpiredOf : Phase → Answer → Grown → Tick
-receiverExpiredOf phase again grown = receiverExpiryOf phase again (grown .silence) (grown .resends) (grown .event)
+unfoldable pub receiverSilenceOf : Phase → Answer → Grown → Tick
+receiverSilenceOf phase again grown = receiverExpiryOf phase again grown (grown .event)
 
-unfoldable pub receiverSilenceOf : Phase → Answer → ℕ → ℕ → ℕ → Settings → Tick
-receiverSilenceOf phase again silence elapsed made settings = receiverExpiredOf phase again (grownOf silence elapsed made settings)
-
--- Transfer asks for the next number with wait 0, Await repeats the closing answer; in Idle and Good nothing changes.
+-- Transfer asks for the next number with wait 0, Await repeats the closing answer; in Idle and Good nothing changes. `made` is how many
+-- resends were made.
 unfoldable pub receiverTickOf : Phase → ℕ → ℕ → ℕ → Settings → Tick
 receiverTickOf Idle silence elapsed made settings = tick Idle silence made Passed
-receiverTickOf (Transfer p) silence elapsed made settings = receiverSilenceOf (Transfer p) (Asking 0 (p .accepted .blocks)) silence elapsed made settings
-receiverTickOf (Await a) silence elapsed made settings = receiverSilenceOf (Await a) (Closed (a .blocks)) silence elapsed made settings
+receiverTickOf (Transfer p) silence elapsed made settings =
+    receiverSilenceOf (Transfer p) (Asking 0 (p .accepted .blocks)) (grownOf silence elapsed made settings)
+receiverTickOf (Await a) silence elapsed made settings = receiverSilenceOf (Await a) (Closed (a .blocks)) (grownOf silence elapsed made settings)
 receiverTickOf (Good a) silence elapsed made settings = tick (Good a) silence made Passed

@@ -1,3 +1,4 @@
+use Rattle.basis.specs.Pick.{tests}
 use Rattle.indoor_rules.specs.Tick.{transferTickOf}
 use borrow.Author.Needs.{needs}
 use Rattle.indoor_decide.proofs.time.transfer.Statement.{statement}
@@ -9,7 +10,10 @@ transfer-spec =
     tie.close
     (tie.spec
     (λ c κs. search needs)
+    (λ c. search tests)
+    (λ c. search needs)
+    (λ c κs. search needs)
+    (λ c. search tests)
     (λ c κs. search needs)
     (λ c κs. search needs)
-    (λ c κs. search needs)
-    (λ c. rw (← (c .before .before .left-of .ensures), ← (c .before .before .before .expires .ensures), ← (c .before .sent .ensures)) (c .paced .ensures)))
+    (λ c. search (tests, ← (c .before .sent .ensures))))

@@ -1,3 +1,4 @@
+use Rattle.basis.specs.Pick.{tests}
 use Rattle.indoor_rules.specs.Tick.{validateTickOf}
 use borrow.Author.Needs.{needs}
 use Rattle.indoor_decide.proofs.time.validate.Statement.{statement}
@@ -9,6 +10,9 @@ validate-spec =
     tie.close
     (tie.spec
     (λ c κs. search needs)
+    (λ c. search tests)
+    (λ c. search needs)
     (λ c κs. search needs)
+    (λ c. search tests)
     (λ c κs. search needs)
-    (λ c. rw (← (c .before .left-of .ensures), ← (c .before .before .resends .ensures)) (c .paced .ensures)))
+    (λ c. search tests))
