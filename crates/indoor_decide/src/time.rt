@@ -14,7 +14,7 @@ ghost use mathlib.Core.Path.{_≡_};
 ghost use Rattle.indoor_state.specs.Phase.{indoorState};
 ghost use Rattle.indoor_state.specs.declared.answer.Answer.the-variants.{Passed};
 ghost use Rattle.indoor_state.specs.Step.{indoorStep};
-ghost use Rattle.indoor_rules.specs.Tick.{indoorSilenceOf, resentOf, transferExpiredOf, resendsOf, transferExpiresOf, waitsOn, waitOver, initiateTickOf, transferTickOf, validateTickOf, indoorTickIn, indoorTickOf};
+ghost use Rattle.indoor_rules.specs.Tick.{indoorSilenceOf, resendOnEvent, transferOnEvent, resendsOf, transferExpiresOf, waitsOn, waitOver, initiateTickOf, transferTickOf, validateTickOf, indoorTickIn, indoorTickOf};
 
 pub fn pass(plan: Plan, state: State, elapsed: u16) -> Step
     ensures { λ r. ⌜ r ≡ indoorTickOf plan state elapsed ⌝ }
@@ -75,7 +75,7 @@ fn resends(plan: Plan, state: State, again: Answer, elapsed: u16) -> Step
 }
 
 fn resent(phase: Phase, again: Answer, grown: Grown, event: Event) -> Step
-    ensures { λ r. ⌜ r ≡ resentOf phase again grown event ⌝ }
+    ensures { λ r. ⌜ r ≡ resendOnEvent phase again grown event ⌝ }
 {
     match event {
         Event::Quiet => at(phase, grown.silence, grown.resends, Answer::Passed),
@@ -95,7 +95,7 @@ fn expires(plan: Plan, state: State, elapsed: u16) -> Step
 
 // Nothing is resent in Transfer: its first expiry is its end.
 fn expired(phase: Phase, grown: Grown, event: Event) -> Step
-    ensures { λ r. ⌜ r ≡ transferExpiredOf phase grown event ⌝ }
+    ensures { λ r. ⌜ r ≡ transferOnEvent phase grown event ⌝ }
 {
     match event {
         Event::Quiet => at(phase, grown.silence, grown.resends, Answer::Passed),

@@ -17,7 +17,7 @@ use Rattle.indoor_state.specs.Phase.{indoorState}
 use Rattle.indoor_state.specs.declared.plan.Release.{Release}
 use Rattle.indoor_state.specs.declared.phase.Phase.the-variants.{Identify}
 use Rattle.indoor_rules.specs.Session.{indoor}
-use Rattle.indoor_rules.specs.Start.{plans, indoorBeginOf, indoorStartedOf, indoorStartOf}
+use Rattle.indoor_rules.specs.Start.{indoorPlan, indoorBeginOf, indoorStartedOf, indoorStartOf}
 use Rattle.indoor_state.specs.declared.session.Indoor.{Indoor}
 use Rattle.indoor_state.specs.declared.session.Started.the-variants.{Made, Settings, FileSize, BufferShort}
 
@@ -48,7 +48,7 @@ module _ (limit resends : ℕ) (release : Release) (file out : List ℕ) where
           rw (within-made limit resends within, ne-eqb (length file) 0 (λ e. omega arith), le-ltb 1048575 (length file) most, lt-ltb (length out) 260 h)
 
       abbrev pub fresh : Indoor
-      fresh = indoor (plans (record { limit = limit; resends = resends }) release (length file)) (indoorState Identify 0 0)
+      fresh = indoor (indoorPlan (record { limit = limit; resends = resends }) release (length file)) (indoorState Identify 0 0)
 
       -- The start writes GET_FW_ID.
       pub start-made : 260 ≤ length out

@@ -13,7 +13,7 @@ use Rattle.silence.proofs.Laws.{below-quiet, left-resends, none-left-ends, limi
 use Rattle.indoor_state.specs.Phase.{indoorProgress, indoorState}
 use Rattle.indoor_state.specs.Step.{indoorStep}
 use Rattle.indoor_rules.specs.Step.{emptiedBy}
-use Rattle.indoor_rules.specs.Tick.{resentOf, transferExpiredOf, resendsOf, transferExpiresOf, initiateTickOf, transferTickOf, validateTickOf, indoorTickIn, indoorTickOf}
+use Rattle.indoor_rules.specs.Tick.{resendOnEvent, transferOnEvent, resendsOf, transferExpiresOf, initiateTickOf, transferTickOf, validateTickOf, indoorTickIn, indoorTickOf}
 use Rattle.indoor_state.specs.declared.plan.Plan.{Plan}
 use Rattle.indoor_state.specs.declared.phase.Reason.{Reason}
 use Rattle.indoor_state.specs.declared.phase.Reason.the-variants.{Silence}
@@ -33,8 +33,8 @@ Resends (Validate left) again = (left ≡ 0) × (again ≡ Ans.Validating)
 Resends Done again = ⊥
 Resends (Failed reason) again = ⊥
 
-expired-40 : (phase : Phase) (g : Grown) (event : Event) → (event ≡ Quiet → ⊥) → transferExpiredOf phase g event ≡ failed Silence
-unfolding transferExpiredOf
+expired-40 : (phase : Phase) (g : Grown) (event : Event) → (event ≡ Quiet → ⊥) → transferOnEvent phase g event ≡ failed Silence
+unfolding transferOnEvent
 expired-40 phase g Quiet h = absurd (h refl)
 expired-40 phase g Resend h = refl
 expired-40 phase g NoneLeft h = refl
@@ -84,23 +84,23 @@ module _ (plan : Plan) (silence resends elapsed : ℕ) where
 
   module _ (phase : Phase) (again : Answer) (r : Resends phase again) where
     pub quiet : silence + elapsed < plan .settings .limit → then phase ≡ indoorStep (indoorState phase (silence + elapsed) resends) Ans.Passed
-    unfolding resendsOf resentOf
+    unfolding resendsOf resendOnEvent
     quiet h = rw (listens phase again r, below-quiet silence elapsed resends (plan .settings) h)
 
     -- The request is resent at each silence limit while resends are left ..
     pub resent : plan .settings .limit ≤ silence + elapsed → resends < plan .settings .resends → then phase ≡ indoorStep (indoorState phase 0 (resends + 1)) again
-    unfolding resendsOf resentOf
+    unfolding resendsOf resendOnEvent
     resent h k = rw (listens phase again r, left-resends silence elapsed resends (plan .settings) h k)
 
     -- .. with none left: 40.
     pub none-left-40 : plan .settings .limit ≤ silence + elapsed → plan .settings .resends ≤ resends → then phase ≡ failed Silence
-    unfolding resendsOf resentOf
+    unfolding resendsOf resendOnEvent
     none-left-40 h k = rw (listens phase again r, none-left-ends silence elapsed resends (plan .settings) h k)
 
   module _ (asked : ℕ) (emptied : Bool) where
     pub transfer-quiet : silence + elapsed < plan .settings .limit
         → then (Transfer (indoorProgress asked 0 emptied)) ≡ indoorStep (indoorState (Transfer (indoorProgress asked 0 emptied)) (silence + elapsed) resends) Ans.Passed
-    unfolding indoorTickIn transferTickOf transferExpiresOf transferExpiredOf pick
+    unfolding indoorTickIn transferTickOf transferExpiresOf transferOnEvent pick
     transfer-quiet h = rw (below-quiet silence elapsed resends (plan .settings) h)
 
     -- The first expiry in Transfer: 40, whatever resends are left.

@@ -30,14 +30,14 @@ use Rattle.indoor_rules.proofs.Walk.{response-walk, time-walk}
 pub record Succeeds (before : Phase) (response : List ℕ) : Type 0 where
   pub left : ℕ
   pub validate : before ≡ Validate left
-  pub told : message.parsedResponseOf response ≡ Valid (Res.Validate 0x00 0 true)
+  pub parsed : message.parsedResponseOf response ≡ Valid (Res.Validate 0x00 0 true)
 
 -- In Transfer with the empty block sent, and a DATA response with WaitTime 255 and the number n.
 pub record Closes (plan : Plan) (before : Phase) (response : List ℕ) : Type 0 where
   pub progress : Progress
   pub transfer : before ≡ Transfer progress
   pub emptied : progress .emptied ≡ true
-  pub told : message.parsedResponseOf response ≡ Valid (Res.Data 0x00 255 (emptyNumber plan))
+  pub parsed : message.parsedResponseOf response ≡ Valid (Res.Data 0x00 255 (emptyNumber plan))
 
 abbrev pub Validating : Phase → Type 0
 Validating Identify = ⊥
@@ -52,14 +52,14 @@ module _ (response : List ℕ) (r : Response) (e : message.parsedResponseOf resp
   to-done Identify h = absurd h
   to-done (Initiate left) h = absurd h
   to-done (Transfer p) h = absurd h
-  to-done (Validate left) h = inr (record { left = left; validate = refl; told = e ∙ ap (λ x. Valid x) h })
+  to-done (Validate left) h = inr (record { left = left; validate = refl; parsed = e ∙ ap (λ x. Valid x) h })
   to-done Done h = inl refl
   to-done (Failed reason) h = absurd h
 
   to-validate : (plan : Plan) (before : Phase) → ToValidate plan before r → Validating before ⊎ Closes plan before response
   to-validate plan Identify h = absurd h
   to-validate plan (Initiate left) h = absurd h
-  to-validate plan (Transfer p) h = inr (record { progress = p; transfer = refl; emptied = h .0; told = e ∙ ap (λ x. Valid x) (h .1) })
+  to-validate plan (Transfer p) h = inr (record { progress = p; transfer = refl; emptied = h .0; parsed = e ∙ ap (λ x. Valid x) (h .1) })
   to-validate plan (Validate left) h = inl tt
   to-validate plan Done h = absurd h
   to-validate plan (Failed reason) h = absurd h

@@ -80,38 +80,38 @@ module _ (plan : Plan) (silence resends : ℕ) where
 
   -- DATA in Transfer, in a wait or not
   module _ (asked left : ℕ) (emptied : Bool) (number : ℕ) where
-    abbrev told : ℕ → ℕ → Step
-    told status wait = then (Transfer (indoorProgress asked left emptied)) (Res.Data status wait number)
+    abbrev onData : ℕ → ℕ → Step
+    onData status wait = then (Transfer (indoorProgress asked left emptied)) (Res.Data status wait number)
 
     -- 41 whatever the wait and the number are
-    pub transfer-41 : (status wait : ℕ) → (status ≡ 0 → ⊥) → told status wait ≡ failed Refused
+    pub transfer-41 : (status wait : ℕ) → (status ≡ 0 → ⊥) → onData status wait ≡ failed Refused
     unfolding indoorDecideIn indoorTransferOf whereOk notOk pick
     transfer-41 status wait h = rw (ne-differ status 0 h)
 
     -- WaitTime 255 is the close only if the empty block has been sent and the number is n, else 44.
-    pub closed : emptied ≡ true → number ≡ n → told 0 255 ≡ accepted (Validate 0) Ans.Validating
+    pub closed : emptied ≡ true → number ≡ n → onData 0 255 ≡ accepted (Validate 0) Ans.Validating
     unfolding indoorDecideIn indoorTransferOf indoorDataOf indoorCloseOf indoorCloseNumberOf whereOk notOk differ pick
     closed e h = rw (e, eq-differ number n h)
 
-    pub close-44-early : emptied ≡ false → told 0 255 ≡ failed WrongNumber
+    pub close-44-early : emptied ≡ false → onData 0 255 ≡ failed WrongNumber
     unfolding indoorDecideIn indoorTransferOf indoorDataOf indoorCloseOf whereOk notOk differ pick
     close-44-early e = rw e
 
-    pub close-44-number : emptied ≡ true → (number ≡ n → ⊥) → told 0 255 ≡ failed WrongNumber
+    pub close-44-number : emptied ≡ true → (number ≡ n → ⊥) → onData 0 255 ≡ failed WrongNumber
     unfolding indoorDecideIn indoorTransferOf indoorDataOf indoorCloseOf indoorCloseNumberOf whereOk notOk differ pick
     close-44-number e h = rw (e, ne-differ number n h)
 
-    pub asked-44 : (wait : ℕ) → wait ≤ 254 → n < number → told 0 wait ≡ failed WrongNumber
+    pub asked-44 : (wait : ℕ) → wait ≤ 254 → n < number → onData 0 wait ≡ failed WrongNumber
     unfolding indoorDecideIn indoorTransferOf indoorDataOf blockAskedOf whereOk notOk differ pick
     asked-44 wait most h = rw (ne-eqb wait 255 (λ e. omega arith), lt-ltb n number h)
 
     -- Block j goes out at once ..
-    pub asked-sends : number ≤ n → told 0 0 ≡ accepted (Transfer (indoorProgress number 0 (emptiedBy plan number emptied))) (Ans.Sending number)
+    pub asked-sends : number ≤ n → onData 0 0 ≡ accepted (Transfer (indoorProgress number 0 (emptiedBy plan number emptied))) (Ans.Sending number)
     unfolding indoorDecideIn indoorTransferOf indoorDataOf blockAskedOf whereOk notOk differ pick
     asked-sends h = rw (le-ltb n number h)
 
     -- .. or after the wait. WaitTime counts 1 ms.
-    pub asked-waits : (wait : ℕ) → 0 < wait → wait ≤ 254 → number ≤ n → told 0 wait ≡ accepted (Transfer (indoorProgress number wait emptied)) Ans.Waiting
+    pub asked-waits : (wait : ℕ) → 0 < wait → wait ≤ 254 → number ≤ n → onData 0 wait ≡ accepted (Transfer (indoorProgress number wait emptied)) Ans.Waiting
     unfolding indoorDecideIn indoorTransferOf indoorDataOf blockAskedOf whereOk notOk differ pick
     asked-waits wait some most h = rw (ne-eqb wait 255 (λ e. omega arith), le-ltb n number h, ne-eqb wait 0 (λ e. omega arith))
 

@@ -11,7 +11,7 @@ use Rattle.silence.proofs.Laws.{grown-all}
 use Rattle.indoor_state.specs.Phase.{indoorState}
 use Rattle.indoor_state.specs.Answer.{indoorNumberOf, sendsOf}
 use Rattle.indoor_state.specs.Step.{indoorStep}
-use Rattle.indoor_rules.specs.Tick.{resentOf, transferExpiredOf, resendsOf, transferExpiresOf, initiateTickOf, transferTickOf, validateTickOf, indoorTickIn, indoorTickOf}
+use Rattle.indoor_rules.specs.Tick.{resendOnEvent, transferOnEvent, resendsOf, transferExpiresOf, initiateTickOf, transferTickOf, validateTickOf, indoorTickIn, indoorTickOf}
 use Rattle.indoor_state.specs.declared.plan.Plan.{Plan}
 use Rattle.indoor_state.specs.declared.phase.Reason.the-variants.{Silence}
 use Rattle.indoor_state.specs.declared.phase.Progress.{Progress}
@@ -93,34 +93,34 @@ module _ (plan : Plan) (silence resends elapsed : ℕ) where
   P before s = Ticks plan (indoorState before silence resends) elapsed s
 
   identify-ticks : P Identify (resendsOf plan (indoorState Identify silence resends) Ans.Identifying elapsed)
-  unfolding resendsOf resentOf
+  unfolding resendsOf resendOnEvent
   identify-ticks =
       let k = sums resends in
-      grown-all silence elapsed resends (plan .settings) (λ x. P Identify (resentOf Identify Ans.Identifying x (x .event)))
+      grown-all silence elapsed resends (plan .settings) (λ x. P Identify (resendOnEvent Identify Ans.Identifying x (x .event)))
       (λ _. search inl) (λ at _. search (inl, inr)) (λ at _. search (inl, inr))
 
   initiate-ticks : (left : ℕ) → P (Initiate left) (initiateTickOf plan (indoorState (Initiate left) silence resends) left elapsed)
-  unfolding initiateTickOf resendsOf resentOf
+  unfolding initiateTickOf resendsOf resendOnEvent
   initiate-ticks left =
       let k = sums resends in
       pick-all (P (Initiate left)) (eqb left 0) _ _
       (λ t. let none = eqb-true left 0 t in
-      grown-all silence elapsed resends (plan .settings) (λ x. P (Initiate left) (resentOf (Initiate left) Ans.Initiating x (x .event)))
+      grown-all silence elapsed resends (plan .settings) (λ x. P (Initiate left) (resendOnEvent (Initiate left) Ans.Initiating x (x .event)))
       (λ _. search inl) (λ at _. search (inl, inr)) (λ at _. search (inl, inr)))
       (λ _. pick-all (P (Initiate left)) (ltb elapsed left) _ _ (λ _. search inl) (λ _. search inl))
 
   validate-ticks : (left : ℕ) → P (Validate left) (validateTickOf plan (indoorState (Validate left) silence resends) left elapsed)
-  unfolding validateTickOf resendsOf resentOf
+  unfolding validateTickOf resendsOf resendOnEvent
   validate-ticks left =
       let k = sums resends in
       pick-all (P (Validate left)) (eqb left 0) _ _
       (λ t. let none = eqb-true left 0 t in
-      grown-all silence elapsed resends (plan .settings) (λ x. P (Validate left) (resentOf (Validate left) Ans.Validating x (x .event)))
+      grown-all silence elapsed resends (plan .settings) (λ x. P (Validate left) (resendOnEvent (Validate left) Ans.Validating x (x .event)))
       (λ _. search inl) (λ at _. search (inl, inr)) (λ at _. search (inl, inr)))
       (λ _. pick-all (P (Validate left)) (ltb elapsed left) _ _ (λ _. search inl) (λ _. search inl))
 
   transfer-ticks : (p : Progress) → P (Transfer p) (transferTickOf plan (indoorState (Transfer p) silence resends) p elapsed)
-  unfolding transferTickOf transferExpiresOf transferExpiredOf
+  unfolding transferTickOf transferExpiresOf transferOnEvent
   transfer-ticks p =
       let k = sums resends in
       let later = later-empties plan (p .asked) (p .emptied) in
@@ -128,7 +128,7 @@ module _ (plan : Plan) (silence resends elapsed : ℕ) where
       let marked = emptied-last plan (p .asked) (p .emptied) in
       pick-all (P (Transfer p)) (eqb (p .wait) 0) _ _
       (λ t. let none = eqb-true (p .wait) 0 t in
-      grown-all silence elapsed resends (plan .settings) (λ x. P (Transfer p) (transferExpiredOf (Transfer p) x (x .event)))
+      grown-all silence elapsed resends (plan .settings) (λ x. P (Transfer p) (transferOnEvent (Transfer p) x (x .event)))
       (λ _. search inl) (λ at _. search (inl, inr)) (λ at _. search (inl, inr)))
       (λ _. pick-all (P (Transfer p)) (ltb elapsed (p .wait)) _ _ (λ _. search inl) (λ _. search inl))
 

@@ -21,8 +21,8 @@ use Rattle.indoor_rules.specs.Session.{indoor}
 use Rattle.indoor_state.specs.declared.session.Started.{Started}
 use Rattle.indoor_state.specs.declared.session.Started.the-variants.{Made, Settings, FileSize, BufferShort}
 
-abbrev pub plans : silence.Settings → Release → ℕ → Plan
-plans settings release length = record { settings = settings; release = release; length = length }
+abbrev pub indoorPlan : silence.Settings → Release → ℕ → Plan
+indoorPlan settings release length = record { settings = settings; release = release; length = length }
 
 -- The start writes GET_FW_ID.
 abbrev pub indoorBegun : Plan → List ℕ → Left Started
@@ -35,7 +35,7 @@ indoorBeginOf settings release file out =
     pick (eqb (length file) 0) (left FileSize out)
     (pick (ltb imageSizeMost (length file)) (left FileSize out)
     (pick (ltb (length out) longest) (left BufferShort out)
-    (indoorBegun (plans settings release (length file)) out)))
+    (indoorBegun (indoorPlan settings release (length file)) out)))
 
 unfoldable pub indoorStartedOf : Checked → Release → List ℕ → List ℕ → Left Started
 indoorStartedOf Che.Refused release file out = left Settings out

@@ -20,25 +20,25 @@ use Rattle.indoor_state.specs.declared.answer.Answer.the-variants.{Identifying,
 use Rattle.indoor_state.specs.declared.step.Step.{Step}
 
 -- In Identify, Initiate and Validate the request is resent at each silence limit while resends are left; with none left: 40.
-unfoldable pub resentOf : Phase → Answer → Grown → Event → Step
-resentOf phase again grown Quiet = indoorStep (indoorState phase (grown .silence) (grown .resends)) Passed
-resentOf phase again grown Resend = indoorStep (indoorState phase (grown .silence) (grown .resends)) again
-resentOf phase again grown NoneLeft = fails Silence
+unfoldable pub resendOnEvent : Phase → Answer → Grown → Event → Step
+resendOnEvent phase again grown Quiet = indoorStep (indoorState phase (grown .silence) (grown .resends)) Passed
+resendOnEvent phase again grown Resend = indoorStep (indoorState phase (grown .silence) (grown .resends)) again
+resendOnEvent phase again grown NoneLeft = fails Silence
 
 -- The first expiry in Transfer: 40.
-unfoldable pub transferExpiredOf : Phase → Grown → Event → Step
-transferExpiredOf phase grown Quiet = indoorStep (indoorState phase (grown .silence) (grown .resends)) Passed
-transferExpiredOf phase grown Resend = fails Silence
-transferExpiredOf phase grown NoneLeft = fails Silence
+unfoldable pub transferOnEvent : Phase → Grown → Event → Step
+transferOnEvent phase grown Quiet = indoorStep (indoorState phase (grown .silence) (grown .resends)) Passed
+transferOnEvent phase grown Resend = fails Silence
+transferOnEvent phase grown NoneLeft = fails Silence
 
 abbrev pub indoorSilenceOf : Plan → State → ℕ → Grown
 indoorSilenceOf plan state elapsed = grownOf (state .silence) elapsed (state .resends) (plan .settings)
 
 unfoldable pub resendsOf : Plan → State → Answer → ℕ → Step
-resendsOf plan state again elapsed = resentOf (state .phase) again (indoorSilenceOf plan state elapsed) (indoorSilenceOf plan state elapsed .event)
+resendsOf plan state again elapsed = resendOnEvent (state .phase) again (indoorSilenceOf plan state elapsed) (indoorSilenceOf plan state elapsed .event)
 
 unfoldable pub transferExpiresOf : Plan → State → ℕ → Step
-transferExpiresOf plan state elapsed = transferExpiredOf (state .phase) (indoorSilenceOf plan state elapsed) (indoorSilenceOf plan state elapsed .event)
+transferExpiresOf plan state elapsed = transferOnEvent (state .phase) (indoorSilenceOf plan state elapsed) (indoorSilenceOf plan state elapsed .event)
 
 -- Silence doesn't grow in a wait.
 abbrev pub waitsOn : State → Phase → Step

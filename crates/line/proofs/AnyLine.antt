@@ -70,10 +70,10 @@ module _ (file memory : List ℕ) (release : Release) (identity : Identity) wher
   old-or-new before next responses written out stays new old m (inr h) = λ t. stays (old m h t)
 
   -- What was told stays true while Good is never left.
-  told-on : (before next : ReceiverPhase) (responses : List (List ℕ)) (written : ℕ) (out : List ℕ) → (IsGood before → IsGood next) → Truthful next (take written out)
+  truthful-on : (before next : ReceiverPhase) (responses : List (List ℕ)) (written : ℕ) (out : List ℕ) → (IsGood before → IsGood next) → Truthful next (take written out)
       → ((m : List ℕ) → List·Memᴰ m responses → Truthful before m)
       → (m : List ℕ) → List·Memᴰ m (withSent written out responses) → Truthful next m
-  told-on before next responses written out stays new old m h = old-or-new before next responses written out stays new old m (sent-or-new written out responses m h)
+  truthful-on before next responses written out stays new old m h = old-or-new before next responses written out stays new old m (sent-or-new written out responses m h)
 
   module _ (wide : Wide release identity) (w : World) (s : Safe w) where
     asked-safe : (request : List ℕ) → List·Memᴰ request (w .requests) → (readiness : ℕ) (verdict : Verdict) (out : List ℕ)
@@ -90,7 +90,7 @@ module _ (file memory : List ℕ) (release : Release) (identity : Identity) wher
           size = image-length r (w .image) request readiness verdict out ∙ s .size;
           behind = behind-kept file r (w .image) request readiness verdict out same ∙ s .behind;
           sent = s .sent;
-          truthful = told-on (r .phase) (x .outcome .session .phase) (w .responses) (x .outcome .written) (x .out)
+          truthful = truthful-on (r .phase) (x .outcome .session .phase) (w .responses) (x .outcome .written) (x .out)
               (request-stays-good r (w .image) request readiness verdict out) (request-truthful r (w .image) request readiness verdict out) (s .truthful);
           done = λ e. request-stays-good r (w .image) request readiness verdict out (s .done e);
         }
@@ -107,7 +107,7 @@ module _ (file memory : List ℕ) (release : Release) (identity : Identity) wher
           size = s .size;
           behind = s .behind;
           sent = s .sent;
-          truthful = told-on (r .phase) (x .answer .session .phase) (w .responses) (x .answer .written) (x .memory) (time-stays-good r elapsed out) (time-truthful r elapsed out) (s .truthful);
+          truthful = truthful-on (r .phase) (x .answer .session .phase) (w .responses) (x .answer .written) (x .memory) (time-stays-good r elapsed out) (time-truthful r elapsed out) (s .truthful);
           done = λ e. time-stays-good r elapsed out (s .done e);
         }
 
@@ -132,13 +132,13 @@ module _ (file memory : List ℕ) (release : Release) (identity : Identity) wher
     -- Done is believed only on a success that is true.
     believed : (response : List ℕ) → List·Memᴰ response (w .responses) → (w .indoor .state .phase ≡ Done) ⊎ entering.Succeeds (w .indoor .state .phase) response → IsGood (w .receiver .phase)
     believed response h (inl e) = s .done e
-    believed response h (inr t) = s .truthful response h (subst Succeeds (sym (t .told)) refl)
+    believed response h (inr t) = s .truthful response h (subst Succeeds (sym (t .parsed)) refl)
 
     -- A call of the indoor end changes it alone, and what it sent.
-    told-safe : (x : Left IndoorOutcome) → sending.Reached file release (x .answer .session) (withSent (x .answer .written) (x .memory) (w .requests))
+    indoor-safe : (x : Left IndoorOutcome) → sending.Reached file release (x .answer .session) (withSent (x .answer .written) (x .memory) (w .requests))
         → (x .answer .session .state .phase ≡ Done → IsGood (w .receiver .phase))
         → Safe (afterIndoorCall w x)
-    told-safe x sent done = record {
+    indoor-safe x sent done = record {
       taken = s .taken;
       accepted = s .accepted;
       who = s .who;
@@ -152,13 +152,13 @@ module _ (file memory : List ℕ) (release : Release) (identity : Identity) wher
 
     response-safe : (response : List ℕ) → List·Memᴰ response (w .responses) → (lent : List ℕ) → Lent file lent → (out : List ℕ) → Safe (afterIndoorCall w (indoorResponseOf (w .indoor) lent response out))
     response-safe response h lent which out =
-        told-safe (indoorResponseOf (w .indoor) lent response out)
+        indoor-safe (indoorResponseOf (w .indoor) lent response out)
         (sending.hears (s .sent) lent response out (lent-same lent which))
         (λ e. believed response h (entering.done-entered (w .indoor) lent response out e))
 
     time-safe : (lent : List ℕ) → Lent file lent → (elapsed : ℕ) (out : List ℕ) → Safe (afterIndoorCall w (indoorTimeOf (w .indoor) lent elapsed out))
     time-safe lent which elapsed out =
-        told-safe (indoorTimeOf (w .indoor) lent elapsed out)
+        indoor-safe (indoorTimeOf (w .indoor) lent elapsed out)
         (sending.passes (s .sent) lent elapsed out (lent-same lent which))
         (λ e. s .done (entering.time-done (w .indoor) lent elapsed out e))
 

@@ -15,7 +15,7 @@ use Rattle.wire.specs.Response as answer
 use Rattle.wire.specs.declared.request.Request.{Request}
 use Rattle.wire.specs.declared.request.Parsed.the-variants as Asked
 use Rattle.wire.specs.declared.response.Response.{Response}
-use Rattle.wire.specs.declared.response.Parsed.the-variants as Told
+use Rattle.wire.specs.declared.response.Parsed.the-variants as ResPar
 use Rattle.wire.specs.declared.response.Identity.{Identity}
 use Rattle.receiver_state.specs.Answer.{replyOf}
 use Rattle.receiver_state.specs.declared.answer.Answer.{Answer}
@@ -63,8 +63,8 @@ first-same x y l m e = cc
 later-same : (x y : List ℕ) (l m : List (List ℕ)) → x ∷ l ≡ y ∷ m → l ≡ m
 later-same x y l m e = cc
 
-stand-at : (state : State) (g : indoor.Phase) → state .phase ≡ g → state ≡ indoorState g (state .silence) (state .resends)
-stand-at state g e = ap (λ (y : indoor.Phase). indoorState y (state .silence) (state .resends)) e
+state-at : (state : State) (g : indoor.Phase) → state .phase ≡ g → state ≡ indoorState g (state .silence) (state .resends)
+state-at state g e = ap (λ (y : indoor.Phase). indoorState y (state .silence) (state .resends)) e
 
 -- Where both ends stand, what is on its way up and down, and how many requests were sent.
 pub record At (x : Line) (p : receiver.Phase) (g : indoor.Phase) (up down : List (List ℕ)) (count : ℕ) : Type 0 where
@@ -132,7 +132,7 @@ module _ (file memory : List ℕ) (release : Release) (identity : Identity) wher
 
     -- A response is delivered: the indoor end goes on, and its next request is on its way.
     pub answered : Wide release identity → (m : List ℕ) (p : receiver.Phase) (g g′ : indoor.Phase) (r : Response) (a : indoorAnswer.Answer) (count : ℕ) → At x p g [] (m ∷ []) count
-        → answer.parsedResponseOf m ≡ Told.Valid r
+        → answer.parsedResponseOf m ≡ ResPar.Valid r
         → rules.indoorDecideOf (x .world .indoor .plan) (indoorState g (x .world .indoor .state .silence) (x .world .indoor .state .resends)) r ≡ indoorStep (indoorState g′ 0 0) a
         → (response : List ℕ) (later : List (List ℕ)) → x .down ≡ response ∷ later
         → At (carriedDown x later (reply response)) p g′ (one (asks a)) [] (count + length (one (asks a)))
@@ -140,7 +140,7 @@ module _ (file memory : List ℕ) (release : Release) (identity : Identity) wher
         let i = x .world .indoor in
         let h = reach-holds file release i (x .world .requests) (wide .offered) (s .sent) in
         let same : response ≡ m = first-same response m later [] (sym f ∙ at .falling) in
-        let decided : rules.indoorDecideOf (i .plan) (i .state) r ≡ indoorStep (indoorState g′ 0 0) a = ap (λ (y : State). rules.indoorDecideOf (i .plan) y r) (stand-at (i .state) g (at .indoor)) ∙ d in
+        let decided : rules.indoorDecideOf (i .plan) (i .state) r ≡ indoorStep (indoorState g′ 0 0) a = ap (λ (y : State). rules.indoorDecideOf (i .plan) y r) (state-at (i .state) g (at .indoor)) ∙ d in
         let did : reply response ≡ indoorDoneOf (i .plan) (indoorStep (indoorState g′ 0 0) a) file out =
         ap reply same ∙ response-step i file m out (sym (h .lent)) room r e ∙ ap (λ (y : IndoorStep). indoorDoneOf (i .plan) y file out) decided in
         let bytes : sendsBytes (i .plan .release .versions) file (sendsOf a) ≡ asks a = rw (h .offered) in

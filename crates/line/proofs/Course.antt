@@ -17,10 +17,10 @@ use Rattle.wire.specs.Written.{requestBytes, bareBytes, initiateBytes, headByte
 use Rattle.wire.specs.Identity.{cleared}
 use Rattle.wire.specs.declared.request.Request.the-variants as Req
 use Rattle.wire.specs.declared.response.Response.the-variants as Res
-use Rattle.wire.specs.declared.response.Parsed.the-variants as Told
+use Rattle.wire.specs.declared.response.Parsed.the-variants as ResPar
 use Rattle.wire.specs.declared.response.Identity.{Identity}
 use Rattle.wire.proofs.RoundTrip.{response-back}
-use Rattle.receiver_state.specs.Phase.{accepts, nothingAccepted}
+use Rattle.receiver_state.specs.Phase.{acceptedCounts, nothingAccepted}
 use Rattle.receiver_state.specs.Answer.{replyOf}
 use Rattle.receiver_state.specs.Answer as replies
 use Rattle.receiver_state.specs.declared.answer.Answer.{Answer}
@@ -145,15 +145,15 @@ module _ (file memory : List ℕ) (release : Release) (identity : Identity) wher
       block-taken : (j : ℕ) (p : Progress) (q : sending.Progress) → k ≡ 4 + 2 * j → Fits
           → j < n → p .accepted .blocks ≡ j → p .short ≡ false
           → At x (Transfer p) (In.Transfer q) (asks (Ans.Sending j) ∷ []) [] (3 + j) → Course (suc k) next
-      unfolding blocksOf sendsBytes replyBytes replyOf replies.receipt responseBytes receiptBytes pick
+      unfolding blocksOf sendsBytes replyBytes replyOf replies.dataResponse responseBytes receiptBytes pick
       block-taken j p q c fit low due whole at =
           let fits = fit .room in
           let size : ℕ = length (blockAt file j) in
           let long = block-length file j in
           let few = few in
           let some : size ≡ 0 → ⊥ = λ z. omega arith in
-          let then : Step = record { phase = Transfer (receiverProgress (accepts (j + 1) (256 * j + size)) (ltb size 256)); answer = Asking 0 (j + 1); store = Sto.At j } in
-          receipt j (receiverProgress (accepts (j + 1) (256 * j + size)) (ltb size 256)) q (omega arith) fit low refl (λ more. le-ltb size 256 (omega arith))
+          let then : Step = record { phase = Transfer (receiverProgress (acceptedCounts (j + 1) (256 * j + size)) (ltb size 256)); answer = Asking 0 (j + 1); store = Sto.At j } in
+          receipt j (receiverProgress (acceptedCounts (j + 1) (256 * j + size)) (ltb size 256)) q (omega arith) fit low refl (λ more. le-ltb size 256 (omega arith))
           (heard file memory release identity x s out room (asks (Ans.Sending j)) (Transfer p) (In.Transfer q) (Req.Data j size) then (3 + j) at
           (block-read (release .versions) file j (omega arith))
           (orders.takes p j size (length memory) 0 Ver.Good (sym due) some whole (omega arith) (omega arith)) request later e)
@@ -161,7 +161,7 @@ module _ (file memory : List ℕ) (release : Release) (identity : Identity) wher
       block-closed : (j : ℕ) (p : Progress) (q : sending.Progress) → k ≡ 4 + 2 * j → Fits
           → j ≡ n → p .accepted .blocks ≡ j → q .emptied ≡ true
           → At x (Transfer p) (In.Transfer q) (asks (Ans.Sending j) ∷ []) [] (3 + j) → Course (suc k) next
-      unfolding sendsBytes replyBytes replyOf replies.receipt responseBytes receiptBytes pick
+      unfolding sendsBytes replyBytes replyOf replies.dataResponse responseBytes receiptBytes pick
       block-closed j p q c fit last due emptied at =
           let few = few in
           let some = some in
@@ -181,7 +181,7 @@ module _ (file memory : List ℕ) (release : Release) (identity : Identity) wher
       block-either j p q c fit (inr last) due whole emptied at = block-closed j p q c fit last due (emptied last) at
 
       moves-up : Course k x → Course (suc k) next
-      unfolding sendsBytes requestBytes replyBytes replyOf replies.identified replies.initiated replies.validated responseBytes identifiedBytes initiatedBytes validatedBytes pick
+      unfolding sendsBytes requestBytes replyBytes replyOf replies.getFwIdResponse replies.initiateResponse replies.validateResponse responseBytes identifiedBytes initiatedBytes validatedBytes pick
       moves-up (asking c lies at) =
           identified (omega arith) (heard-lies file memory release identity x s out room (asks Ans.Identifying) Idle Req.GetFwId (goesTo Idle Identified) (at .receiver) (at .rising) (whole-read Req.GetFwId tt refl)
           (rows.identified-everywhere (length memory) Idle 0 Ver.Good) refl lies request later e)
@@ -228,18 +228,18 @@ module _ (file memory : List ℕ) (release : Release) (identity : Identity) wher
       abbrev i : Indoor
       i = x .world .indoor
 
-      identity-read : answer.parsedResponseOf (says Identified) ≡ Told.Valid (Res.GetFwId 0 (cleared identity))
-      unfolding replyBytes replyOf replies.identified
+      identity-read : answer.parsedResponseOf (says Identified) ≡ ResPar.Valid (Res.GetFwId 0 (cleared identity))
+      unfolding replyBytes replyOf replies.getFwIdResponse
       identity-read = response-back (Res.GetFwId 0 identity) tt (wide .vendor, wide .product, wide .reported)
 
-      offer-read : answer.parsedResponseOf (says (Offered 0)) ≡ Told.Valid (Res.Initiate 0 0 (length memory))
-      unfolding replyBytes replyOf replies.initiated
+      offer-read : answer.parsedResponseOf (says (Offered 0)) ≡ ResPar.Valid (Res.Initiate 0 0 (length memory))
+      unfolding replyBytes replyOf replies.initiateResponse
       offer-read =
           let most = reached-capacity (s .accepted .reached) in
           let capacity = s .capacity in
           response-back (Res.Initiate 0 0 (length memory)) tt (omega arith)
 
-      receipt-read : (wait number : ℕ) → number < 65536 → answer.parsedResponseOf (responseBytes (Res.Data 0 wait number)) ≡ Told.Valid (Res.Data 0 wait number)
+      receipt-read : (wait number : ℕ) → number < 65536 → answer.parsedResponseOf (responseBytes (Res.Data 0 wait number)) ≡ ResPar.Valid (Res.Data 0 wait number)
       receipt-read wait number h = response-back (Res.Data 0 wait number) tt h
 
       -- The file is newer or not.
@@ -279,7 +279,7 @@ module _ (file memory : List ℕ) (release : Release) (identity : Identity) wher
       next-block : (j : ℕ) (p : Progress) (q : sending.Progress) → k ≡ 5 + 2 * j → Fits
           → j < n → p .accepted .blocks ≡ j + 1 → (j + 1 < n → p .short ≡ false)
           → At x (Transfer p) (In.Transfer q) [] (says (Asking 0 (j + 1)) ∷ []) (3 + j) → Course (suc k) then
-      unfolding replyBytes replyOf replies.receipt
+      unfolding replyBytes replyOf replies.dataResponse
       next-block j p q c fit low due whole at =
           let few = few in
           let last = last-same in
@@ -294,7 +294,7 @@ module _ (file memory : List ℕ) (release : Release) (identity : Identity) wher
 
       close : (a : Accepted) (q : sending.Progress) → k ≡ 5 + 2 * n → Fits → q .emptied ≡ true
           → At x (Await a) (In.Transfer q) [] (says (Closed n) ∷ []) (3 + n) → Course (suc k) then
-      unfolding sendsBytes requestBytes bareBytes replyBytes replyOf replies.receipt pick
+      unfolding sendsBytes requestBytes bareBytes replyBytes replyOf replies.dataResponse pick
       close a q c fit emptied at =
           let few = few in
           validating a (omega arith) fit
@@ -305,7 +305,7 @@ module _ (file memory : List ℕ) (release : Release) (identity : Identity) wher
           (omega arith))
 
       moves-down : Course k x → Course (suc k) then
-      unfolding sendsBytes replyBytes replyOf replies.validated pick
+      unfolding sendsBytes replyBytes replyOf replies.validateResponse pick
       moves-down (asking c lies at) = absurd (no-message (x .down) later response (at .falling) e)
       moves-down (identified c lies at) = compared (newerOf release identity) refl c lies at
       moves-down (notNewer c new lies at) = absurd (no-message (x .down) later response (at .falling) e)

@@ -18,7 +18,7 @@ use Rattle.line.proofs.Course.{no-message, Course, asking, identified, 
 
 -- At rest the indoor end stands there, and so many requests were sent.
 pub record Rests (x : Line) (phase : Phase) (count : ℕ) : Type 0 where
-  pub stands : x .world .indoor .state .phase ≡ phase
+  pub inPhase : x .world .indoor .state .phase ≡ phase
   pub requests : length (x .world .requests) ≡ count
 
 module _ (file memory : List ℕ) (release : Release) (identity : Identity) where
@@ -70,17 +70,17 @@ module _ (file memory : List ℕ) (release : Release) (identity : Identity) wher
   rested : {k : ℕ} {x : Line} → Course file memory release identity k x → AtRest x → Rested x
   rested (asking c lies at) rest = absurd (no-message _ _ _ (rest .up) (at .rising))
   rested (identified c lies at) rest = absurd (no-message _ _ _ (rest .down) (at .falling))
-  rested (notNewer c new lies at) rest = old new lies (record { stands = at .indoor; requests = at .sent })
+  rested (notNewer c new lies at) rest = old new lies (record { inPhase = at .indoor; requests = at .sent })
   rested (initiating c new lies at) rest = absurd (no-message _ _ _ (rest .up) (at .rising))
   rested (offered c new lies at) rest = absurd (no-message _ _ _ (rest .down) (at .falling))
   rested (tooLarge c new more lies at) rest = absurd (no-message _ _ _ (rest .up) (at .rising))
-  rested (aborted c new more lies at) rest = large new more lies (record { stands = at .indoor; requests = at .sent })
+  rested (aborted c new more lies at) rest = large new more lies (record { inPhase = at .indoor; requests = at .sent })
   rested (block j p q c fit low due whole emptied at) rest = absurd (no-message _ _ _ (rest .up) (at .rising))
   rested (receipt j p q c fit low due whole at) rest = absurd (no-message _ _ _ (rest .down) (at .falling))
   rested (closing a q c fit emptied at) rest = absurd (no-message _ _ _ (rest .down) (at .falling))
   rested (validating a c fit at) rest = absurd (no-message _ _ _ (rest .up) (at .rising))
   rested (succeeded a c fit at) rest = absurd (no-message _ _ _ (rest .down) (at .falling))
-  rested (finished a c fit at) rest = fine (fit .newer) (fit .room) (record { stands = at .indoor; requests = at .sent ∙ omega arith })
+  rested (finished a c fit at) rest = fine (fit .newer) (fit .room) (record { inPhase = at .indoor; requests = at .sent ∙ omega arith })
 
   done-rested : {x : Line} → Rested x → newerOf release identity ≡ true → length file ≤ length memory → Rests x Done (n + 4)
   done-rested (old not lies r) given room = absurd (true≢false (sym given ∙ not))

@@ -51,17 +51,17 @@ fn send(out: &mut [u8], response: Response) -> usize
             status,
             wait,
             number,
-        } => receipt(out, status, wait, number),
+        } => data_response(out, status, wait, number),
         Response::Validate {
             status,
             wait,
             success,
-        } => validated(out, status, wait, success),
+        } => validate_response(out, status, wait, success),
         Response::NotBuilt => write(out, Response::NotBuilt),
     }
 }
 
-fn receipt(out: &mut [u8], status: u8, wait: u8, number: u16) -> usize
+fn data_response(out: &mut [u8], status: u8, wait: u8, number: u16) -> usize
     requires { ⌜ longest ≤ length (now out) ⌝ }
     ensures { λ r. ⌜ left r (now (out .exit)) ≡ returnsWritten (responseBytes (Data status wait number)) (now (out .entry)) ⌝ }
 {
@@ -75,7 +75,7 @@ fn receipt(out: &mut [u8], status: u8, wait: u8, number: u16) -> usize
     )
 }
 
-fn validated(out: &mut [u8], status: u8, wait: u8, success: bool) -> usize
+fn validate_response(out: &mut [u8], status: u8, wait: u8, success: bool) -> usize
     requires { ⌜ longest ≤ length (now out) ⌝ }
     ensures { λ r. ⌜ left r (now (out .exit)) ≡ returnsWritten (responseBytes (Validate status wait success)) (now (out .entry)) ⌝ }
 {

@@ -16,7 +16,7 @@ ghost use Rattle.lent.specs.Led.{returnsWritten};
 ghost use Rattle.wire.specs.Codes.{longest};
 ghost use Rattle.receiver_state.specs.Answer.{replyOf};
 ghost use Rattle.receiver_rules.specs.Respond.{replyBytes};
-ghost use Rattle.receiver_rules.specs.Time.{receiverSpendOf, receiverTimeOf};
+ghost use Rattle.receiver_rules.specs.Time.{receiverElapsedOf, receiverTimeOf};
 
 pub fn time(session: Receiver, elapsed: u16, out: &mut [u8]) -> Outcome
     ensures { λ r. ⌜ left r (now (out .exit)) ≡ receiverTimeOf session elapsed (now (out .entry)) ⌝ }
@@ -29,7 +29,7 @@ pub fn time(session: Receiver, elapsed: u16, out: &mut [u8]) -> Outcome
 
 fn spend(session: Receiver, elapsed: u16, out: &mut [u8]) -> Outcome
     requires { ⌜ longest ≤ length (now out) ⌝ }
-    ensures { λ r. ⌜ left r (now (out .exit)) ≡ receiverSpendOf session elapsed (now (out .entry)) ⌝ }
+    ensures { λ r. ⌜ left r (now (out .exit)) ≡ receiverElapsedOf session elapsed (now (out .entry)) ⌝ }
 {
     let before = session.phase;
     let settings = session.settings;

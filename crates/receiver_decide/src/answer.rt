@@ -7,7 +7,7 @@ use wire::response::Identity;
 use wire::response::Response;
 use wire::status::Status;
 ghost use mathlib.Core.Path.{_≡_};
-ghost use Rattle.receiver_state.specs.Answer.{identified, initiated, receipt, validated, receiverNumberOf, replyOf};
+ghost use Rattle.receiver_state.specs.Answer.{getFwIdResponse, initiateResponse, dataResponse, validateResponse, receiverNumberOf, replyOf};
 
 // 01, Numbers we answer.
 pub fn answer_number(answer: Answer) -> u8
@@ -42,45 +42,53 @@ pub fn reply(answer: Answer, identity: Identity, capacity: u32) -> Reply
     ensures { λ r. ⌜ r ≡ replyOf identity capacity answer ⌝ }
 {
     match answer {
-        Answer::Identified => identified(identity),
-        Answer::Offered { wait } => initiated(Status::Ok, wait, capacity),
-        Answer::Asking { wait, number } => receipt(Status::Ok, wait, number),
-        Answer::Closed { number } => receipt(Status::Ok, codes::UNABLE, number),
-        Answer::Success => validated(Status::Ok, 0, true),
-        Answer::Later { wait } => validated(Status::Ok, wait, false),
+        Answer::Identified => get_fw_id_response(identity),
+        Answer::Offered { wait } => initiate_response(Status::Ok, wait, capacity),
+        Answer::Asking { wait, number } => data_response(Status::Ok, wait, number),
+        Answer::Closed { number } => data_response(Status::Ok, codes::UNABLE, number),
+        Answer::Success => validate_response(Status::Ok, 0, true),
+        Answer::Later { wait } => validate_response(Status::Ok, wait, false),
         Answer::Aborted => Reply::Nothing,
         Answer::Passed => Reply::Nothing,
         Answer::Malformed => Reply::Nothing,
-        Answer::UnexpectedInitiate => initiated(Status::UnexpectedRequest, codes::UNABLE, 0),
-        Answer::UnexpectedData => receipt(Status::UnexpectedRequest, codes::UNABLE, 0),
-        Answer::UnexpectedValidate => validated(Status::UnexpectedRequest, codes::UNABLE, false),
+        Answer::UnexpectedInitiate => initiate_response(
+            Status::UnexpectedRequest,
+            codes::UNABLE,
+            0,
+        ),
+        Answer::UnexpectedData => data_response(Status::UnexpectedRequest, codes::UNABLE, 0),
+        Answer::UnexpectedValidate => validate_response(
+            Status::UnexpectedRequest,
+            codes::UNABLE,
+            false,
+        ),
         Answer::Unexpected => Reply::Nothing,
-        Answer::NotDue { due } => receipt(Status::Ok, 0, due),
-        Answer::PassesCapacity => receipt(Status::Address, codes::UNABLE, 0),
-        Answer::WrongFile => receipt(Status::File, codes::UNABLE, 0),
-        Answer::VerdictBad => validated(Status::Ok, 0, false),
+        Answer::NotDue { due } => data_response(Status::Ok, 0, due),
+        Answer::PassesCapacity => data_response(Status::Address, codes::UNABLE, 0),
+        Answer::WrongFile => data_response(Status::File, codes::UNABLE, 0),
+        Answer::VerdictBad => validate_response(Status::Ok, 0, false),
         Answer::OutOfRange => Reply::Nothing,
         Answer::BufferShort => Reply::Nothing,
         Answer::ImageLength => Reply::Nothing,
     }
 }
 
-fn identified(identity: Identity) -> Reply
-    ensures { λ r. ⌜ r ≡ identified identity ⌝ }
+fn get_fw_id_response(identity: Identity) -> Reply
+    ensures { λ r. ⌜ r ≡ getFwIdResponse identity ⌝ }
 {
     let status = status_code(Status::Ok);
     Reply::Sends(Response::GetFwId { status, identity })
 }
 
-fn initiated(status: Status, wait: u8, size: u32) -> Reply
-    ensures { λ r. ⌜ r ≡ initiated status wait size ⌝ }
+fn initiate_response(status: Status, wait: u8, size: u32) -> Reply
+    ensures { λ r. ⌜ r ≡ initiateResponse status wait size ⌝ }
 {
     let status = status_code(status);
     Reply::Sends(Response::Initiate { status, wait, size })
 }
 
-fn receipt(status: Status, wait: u8, number: u16) -> Reply
-    ensures { λ r. ⌜ r ≡ receipt status wait number ⌝ }
+fn data_response(status: Status, wait: u8, number: u16) -> Reply
+    ensures { λ r. ⌜ r ≡ dataResponse status wait number ⌝ }
 {
     let status = status_code(status);
     Reply::Sends(Response::Data {
@@ -90,8 +98,8 @@ fn receipt(status: Status, wait: u8, number: u16) -> Reply
     })
 }
 
-fn validated(status: Status, wait: u8, success: bool) -> Reply
-    ensures { λ r. ⌜ r ≡ validated status wait success ⌝ }
+fn validate_response(status: Status, wait: u8, success: bool) -> Reply
+    ensures { λ r. ⌜ r ≡ validateResponse status wait success ⌝ }
 {
     let status = status_code(status);
     Reply::Sends(Response::Validate {

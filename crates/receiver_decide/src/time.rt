@@ -7,7 +7,7 @@ use silence::Grown;
 use silence::Settings;
 ghost use mathlib.Core.Path.{_≡_};
 ghost use Rattle.silence.specs.Expiry.{grownOf};
-ghost use Rattle.receiver_rules.specs.Tick.{tick, receiverExpiryOf, receiverSilenceOf, receiverTickOf};
+ghost use Rattle.receiver_rules.specs.Tick.{tick, receiverOnEvent, receiverSilenceOf, receiverTickOf};
 
 // Transfer asks for the next number with wait 0, Await repeats the closing answer.
 pub fn pass(phase: Phase, silence: u16, elapsed: u16, resends: u8, settings: Settings) -> Tick
@@ -69,7 +69,7 @@ fn wait(
 }
 
 fn expire(phase: Phase, again: Answer, grown: Grown, event: Event) -> Tick
-    ensures { λ r. ⌜ r ≡ receiverExpiryOf phase again grown event ⌝ }
+    ensures { λ r. ⌜ r ≡ receiverOnEvent phase again grown event ⌝ }
 {
     match event {
         Event::Quiet => after(phase, grown.silence, grown.resends, Answer::Passed),

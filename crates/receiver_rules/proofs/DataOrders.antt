@@ -7,7 +7,7 @@ use lib.Dec.{ltb}
 use Rattle.basis.specs.Pick.{pick, eq-differ, ne-differ}
 use Rattle.receiver_state.specs.declared.answer.Answer.the-variants.{Asking, Closed, NotDue, PassesCapacity, WrongFile}
 use Rattle.wire.specs.declared.request.Request.the-variants as Req
-use Rattle.receiver_state.specs.Phase.{accepts}
+use Rattle.receiver_state.specs.Phase.{acceptedCounts}
 use Rattle.receiver_rules.specs.Decide.{goesTo, receiverProgress, passesCapacity, closeTransferOf, takeBlockOf, receiverTransferOf, receiverDataOf, receiverDecideOf}
 use Rattle.receiver_state.specs.declared.phase.Progress.{Progress}
 use Rattle.receiver_state.specs.declared.phase.Phase.the-variants.{Idle, Transfer, Await}
@@ -56,7 +56,7 @@ module _ (p : Progress) (number size capacity readiness : ℕ) (verdict : Verdic
 
         -- Put at 256 × number, counted, answered with the readiness wait, asking for the next number.
         pub takes : number ≤ 4095 → 256 * number + size ≤ capacity → then ≡ record {
-          phase = Transfer (receiverProgress (accepts (number + 1) (256 * number + size)) (ltb size 256));
+          phase = Transfer (receiverProgress (acceptedCounts (number + 1) (256 * number + size)) (ltb size 256));
           answer = Asking readiness (number + 1);
           store = At number;
         }

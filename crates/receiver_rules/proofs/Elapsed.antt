@@ -8,11 +8,11 @@ use Rattle.silence.proofs.Laws.{below-quiet, left-resends, none-left-ends, one-
 use Rattle.silence.specs.declared.Settings.{Settings}
 use Rattle.silence.specs.declared.Event.{Event}
 use Rattle.silence.specs.declared.Event.the-variants.{Quiet, Resend, NoneLeft}
-use Rattle.receiver_state.proofs.Truth.{Tells}
+use Rattle.receiver_state.proofs.Truth.{GoodIfSuccess}
 use Rattle.receiver_state.specs.Answer.{receiverNumberOf}
 use Rattle.receiver_state.specs.declared.answer.Answer.{Answer}
 use Rattle.receiver_state.specs.declared.answer.Answer.the-variants.{Asking, Closed, Passed}
-use Rattle.receiver_rules.specs.Tick.{tick, receiverExpiryOf, receiverSilenceOf, receiverTickOf}
+use Rattle.receiver_rules.specs.Tick.{tick, receiverOnEvent, receiverSilenceOf, receiverTickOf}
 use Rattle.receiver_state.specs.declared.phase.Accepted.{Accepted}
 use Rattle.receiver_state.specs.declared.phase.Progress.{Progress}
 use Rattle.receiver_state.specs.declared.phase.Phase.{Phase}
@@ -25,7 +25,7 @@ module _ (silence elapsed made : ℕ) (settings : Settings) where
 
   module _ (below : silence + elapsed < settings .limit) where
     wait-quiet : (phase : Phase) (again : Answer) → receiverSilenceOf phase again (grownOf silence elapsed made settings) ≡ tick phase (silence + elapsed) made Passed
-    unfolding receiverSilenceOf receiverExpiryOf
+    unfolding receiverSilenceOf receiverOnEvent
     wait-quiet phase again = rw (below-quiet silence elapsed made settings below)
 
     -- Silence grows.
@@ -39,7 +39,7 @@ module _ (silence elapsed made : ℕ) (settings : Settings) where
 
   module _ (limit : settings .limit ≤ silence + elapsed) (left : made < settings .resends) where
     wait-again : (phase : Phase) (again : Answer) → receiverSilenceOf phase again (grownOf silence elapsed made settings) ≡ tick phase 0 (made + 1) again
-    unfolding receiverSilenceOf receiverExpiryOf
+    unfolding receiverSilenceOf receiverOnEvent
     wait-again phase again = rw (left-resends silence elapsed made settings limit left)
 
     -- Transfer asks for the next number with wait 0.
@@ -54,7 +54,7 @@ module _ (silence elapsed made : ℕ) (settings : Settings) where
 
   module _ (limit : settings .limit ≤ silence + elapsed) (none : settings .resends ≤ made) where
     wait-ends : (phase : Phase) (again : Answer) → receiverSilenceOf phase again (grownOf silence elapsed made settings) ≡ tick Idle 0 made Passed
-    unfolding receiverSilenceOf receiverExpiryOf
+    unfolding receiverSilenceOf receiverOnEvent
     wait-ends phase again = rw (none-left-ends silence elapsed made settings limit none)
 
     -- With none left: Idle.
@@ -87,31 +87,31 @@ pub record Ticks (before : Phase) (made : ℕ) (t : Tick) : Type 0 where
   pub taken : receiverNumberOf (t .answer) ≡ 0
   pub lasts : Lasts before (t .phase)
   pub once : t .resends ≤ made + 1
-  pub tells : Tells (t .answer) (t .phase)
+  pub success : GoodIfSuccess (t .answer) (t .phase)
 
 module _ (made : ℕ) (g : Grown) (once : g .resends ≤ made + 1) where
-  transfer-ticks : (p : Progress) (number : ℕ) (event : Event) → Ticks (Transfer p) made (receiverExpiryOf (Transfer p) (Asking 0 number) g event)
-  unfolding receiverExpiryOf
+  transfer-ticks : (p : Progress) (number : ℕ) (event : Event) → Ticks (Transfer p) made (receiverOnEvent (Transfer p) (Asking 0 number) g event)
+  unfolding receiverOnEvent
   transfer-ticks p number Quiet = search
   transfer-ticks p number Resend = search
   transfer-ticks p number NoneLeft = search
 
-  await-ticks : (a : Accepted) (number : ℕ) (event : Event) → Ticks (Await a) made (receiverExpiryOf (Await a) (Closed number) g event)
-  unfolding receiverExpiryOf
+  await-ticks : (a : Accepted) (number : ℕ) (event : Event) → Ticks (Await a) made (receiverOnEvent (Await a) (Closed number) g event)
+  unfolding receiverOnEvent
   await-ticks a number Quiet = search
   await-ticks a number Resend = search
   await-ticks a number NoneLeft = search
 
 pub pass-ticks : (before : Phase) (silence elapsed made : ℕ) (settings : Settings) → Ticks before made (receiverTickOf before silence elapsed made settings)
 unfolding receiverTickOf receiverSilenceOf
-pass-ticks Idle silence elapsed made settings = record { taken = refl; lasts = tt; once = omega arith; tells = tt }
+pass-ticks Idle silence elapsed made settings = record { taken = refl; lasts = tt; once = omega arith; success = tt }
 pass-ticks (Transfer p) silence elapsed made settings =
     let g = grownOf silence elapsed made settings in
     transfer-ticks made g (one-expiry silence elapsed made settings) p (p .accepted .blocks) (g .event)
 pass-ticks (Await a) silence elapsed made settings =
     let g = grownOf silence elapsed made settings in
     await-ticks made g (one-expiry silence elapsed made settings) a (a .blocks) (g .event)
-pass-ticks (Good a) silence elapsed made settings = record { taken = refl; lasts = refl; once = omega arith; tells = tt }
+pass-ticks (Good a) silence elapsed made settings = record { taken = refl; lasts = refl; once = omega arith; success = tt }
 
 -- One call that passes several limits is one expiry: it does what a call does that reaches the first exactly.
 module _ (silence made e e′ : ℕ) (settings : Settings) (h : settings .limit ≤ silence + e) (h′ : settings .limit ≤ silence + e′) where

@@ -65,8 +65,8 @@ module _ {r : Receiver} {image : List ℕ} {taken : List (List ℕ)} (h : Reache
       omega arith
 
   -- Whether the last block was short is whether it lacks anything.
-  pub short-told : (p : Progress) → r .phase ≡ Transfer p → p .short ≡ shortOf taken
-  short-told p e = held-short (r .capacity) image taken (r .phase) p e (reached-holds h)
+  pub short-agrees : (p : Progress) → r .phase ≡ Transfer p → p .short ≡ shortOf taken
+  short-agrees p e = held-short (r .capacity) image taken (r .phase) p e (reached-holds h)
 
   pub limits : (accepted .blocks ≤ 4096) × (accepted .bytes ≤ r .capacity) × (r .capacity ≤ 1048575)
   limits = (counts .few, counts .room, reached-capacity h)

@@ -9,8 +9,8 @@ use Rattle.basis.specs.Pick.{pick-all, When, differ, differ-false}
 use Rattle.wire.specs.declared.request.Request.{Request}
 use Rattle.wire.specs.declared.request.Request.the-variants as Req
 use Rattle.receiver_state.specs.Answer.{receiverNumberOf}
-use Rattle.receiver_state.specs.Phase.{accepts}
-use Rattle.receiver_state.proofs.Truth.{Tells}
+use Rattle.receiver_state.specs.Phase.{acceptedCounts}
+use Rattle.receiver_state.proofs.Truth.{GoodIfSuccess}
 use Rattle.receiver_rules.specs.Decide.{receiverProgress, offerOf, initiateAgainOf, receiverInitiateOf, passesCapacity, closeTransferOf, takeBlockOf, receiverTransferOf, receiverDataOf, receiverVerdictOf, receiverValidateOf, receiverAbortOf, receiverDecideOf}
 use Rattle.receiver_state.specs.declared.phase.Accepted.{Accepted}
 use Rattle.receiver_state.specs.declared.phase.Progress.{Progress}
@@ -69,7 +69,7 @@ pub record Taken (p : Progress) (q : Request) (capacity number : ℕ) (next : Ph
   pub some : 0 < size
   pub low : number ≤ 4095
   pub fits : 256 * number + size ≤ capacity
-  pub counted : next ≡ Transfer (receiverProgress (accepts (number + 1) (256 * number + size)) (ltb size 256))
+  pub counted : next ≡ Transfer (receiverProgress (acceptedCounts (number + 1) (256 * number + size)) (ltb size 256))
 
 abbrev pub Puts : Phase → Request → ℕ → Phase → Store → Type 0
 Puts before q capacity next Nowhere = Unit
@@ -85,7 +85,7 @@ pub record Row (before : Phase) (q : Request) (capacity : ℕ) (verdict : Verdic
   pub stays : Stays before (s .phase)
   pub enters : Enters before q verdict (s .phase)
   pub puts : Puts before q capacity (s .phase) (s .store)
-  pub tells : Tells (s .answer) (s .phase)
+  pub success : GoodIfSuccess (s .answer) (s .phase)
 
 module _ (capacity : ℕ) (verdict : Verdict) where
   initiate-row : (before : Phase) (q : Request) (readiness : ℕ) → Row before q capacity verdict (receiverInitiateOf before readiness)
@@ -113,7 +113,7 @@ module _ (capacity : ℕ) (verdict : Verdict) where
         ends = tt;
         stays = tt;
         enters = tt;
-        tells = tt;
+        success = tt;
         puts = record { size = size; asked = refl; due = due; whole = whole; some = some; low = w .0; fits = w .1; counted = refl };
       }
 
@@ -123,7 +123,7 @@ module _ (capacity : ℕ) (verdict : Verdict) where
       pick-all (Row (Transfer p) (Req.Data number 0) capacity verdict) (eqb (p .accepted .blocks) 0) _ _ (λ _. search)
       (λ t.
       let some = eqb-false (p .accepted .blocks) 0 t in
-      record { heard = refl; keeps = tt; ends = tt; stays = tt; enters = (refl, rw due, omega arith); puts = tt; tells = tt })
+      record { heard = refl; keeps = tt; ends = tt; stays = tt; enters = (refl, rw due, omega arith); puts = tt; success = tt })
 
   transfer-row : (p : Progress) (number size readiness : ℕ) → Row (Transfer p) (Req.Data number size) capacity verdict (receiverTransferOf p number size capacity readiness)
   unfolding receiverTransferOf

@@ -6,7 +6,7 @@ use mathlib.Core.List.{List}
 use native.Mathlib.Omega.{arith}
 use lib.ListN.{length}
 use Rattle.wire.specs.declared.request.Request.the-variants as Req
-use Rattle.receiver_state.specs.Phase.{accepts}
+use Rattle.receiver_state.specs.Phase.{acceptedCounts}
 use Rattle.receiver_state.specs.declared.answer.Answer.the-variants.{NotDue}
 use Rattle.receiver_state.specs.declared.phase.Phase.{Phase}
 use Rattle.receiver_state.specs.declared.phase.Phase.the-variants.{Transfer}
@@ -20,10 +20,10 @@ use Rattle.receiver_rules.proofs.Answers.{answers-step}
 use Rattle.receiver_rules.proofs.Stored.{Stored}
 
 module _ (number size capacity readiness : ℕ) (verdict : Verdict) where
-  counted-22 : (phase : Phase) (bytes : ℕ) (short : Bool) → phase ≡ Transfer (receiverProgress (accepts (number + 1) bytes) short)
+  counted-22 : (phase : Phase) (bytes : ℕ) (short : Bool) → phase ≡ Transfer (receiverProgress (acceptedCounts (number + 1) bytes) short)
       → receiverDecideOf phase (Req.Data number size) capacity readiness verdict ≡ goesTo phase (NotDue (number + 1))
   counted-22 phase bytes short e =
-      rw e (answers-22 (receiverProgress (accepts (number + 1) bytes) short) number size capacity readiness verdict (λ n. omega arith))
+      rw e (answers-22 (receiverProgress (acceptedCounts (number + 1) bytes) short) number size capacity readiness verdict (λ n. omega arith))
 
 -- r is the session that taking the block led to, and image the image that it left.
 module _ (before : Phase) (request image₀ image : List ℕ) (r : Receiver) (taken : Stored before (r .capacity) request image₀ image (r .phase)) where

@@ -13,7 +13,7 @@ use Rattle.wire.proofs.Sizes.{request-sized}
 use Rattle.wire.specs.declared.request.Request.{Request}
 use Rattle.wire.specs.declared.request.Request.the-variants as Req
 use Rattle.wire.specs.declared.request.Parsed.the-variants.{Valid}
-use Rattle.receiver_state.specs.Phase.{accepts}
+use Rattle.receiver_state.specs.Phase.{acceptedCounts}
 use Rattle.receiver_rules.specs.Decide.{receiverProgress, receiverDecideOf}
 use Rattle.receiver_rules.proofs.Owes.{Taken, Puts, decide-row}
 use Rattle.receiver_state.specs.declared.phase.Progress.{Progress}
@@ -44,7 +44,7 @@ pub record Stored (before : Phase) (capacity : ℕ) (request image image′ : Li
   pub fits : 256 * number + size ≤ capacity
   pub there : take (256 * number + size) image′ ≡ take (256 * number) image ++ drop 4 request
   pub behind : drop (256 * number + size) image′ ≡ drop (256 * number + size) image
-  pub counted : then ≡ Transfer (receiverProgress (accepts (number + 1) (256 * number + size)) (ltb size 256))
+  pub counted : then ≡ Transfer (receiverProgress (acceptedCounts (number + 1) (256 * number + size)) (ltb size 256))
 
 module _ (image request : List ℕ) (capacity : ℕ) (room : length image ≡ capacity) where
   pub taken-stored : (p : Progress) (q : Request) (number : ℕ) (then : Phase) → message.parsedRequestOf request ≡ Valid q → Taken p q capacity number then

@@ -16,7 +16,7 @@ use Rattle.receiver_state.specs.declared.phase.Accepted.{Accepted}
 use Rattle.receiver_state.specs.declared.phase.Phase.{Phase}
 use Rattle.receiver_state.specs.declared.phase.Phase.the-variants.{Idle, Transfer, Await, Good}
 use Rattle.receiver_rules.specs.Session.{receiverReturns}
-use Rattle.receiver_rules.specs.Time.{receiverTickedOf, receiverSpendOf, receiverTimeOf}
+use Rattle.receiver_rules.specs.Time.{receiverTickedOf, receiverElapsedOf, receiverTimeOf}
 use Rattle.receiver_state.specs.declared.session.Receiver.{Receiver}
 use Rattle.receiver_state.specs.declared.session.Outcome.{Outcome}
 use Rattle.receiver_rules.proofs.Walk.{time-walk}
@@ -44,7 +44,7 @@ module _ (r : Receiver) (elapsed : ℕ) (out : List ℕ) where
   time-27 h = rw (lt-ltb (length out) 260 h)
 
   pub time-passes : 260 ≤ length out → receiverTimeOf r elapsed out ≡ receiverTickedOf r (receiverTickOf (r .phase) (r .silence) elapsed (r .resends) (r .settings)) out
-  unfolding receiverTimeOf receiverSpendOf pick
+  unfolding receiverTimeOf receiverElapsedOf pick
   time-passes h = rw (le-ltb (length out) 260 h)
 
   -- Every other time call is answered 0.
@@ -85,5 +85,5 @@ module _ (r : Receiver) (elapsed : ℕ) (out : List ℕ) where
 
 -- A time call that passes several limits is one expiry: it does what a call does that reaches the first exactly.
 pub time-many : (r : Receiver) (e e′ : ℕ) (out : List ℕ) → r .settings .limit ≤ r .silence + e → r .settings .limit ≤ r .silence + e′ → receiverTimeOf r e out ≡ receiverTimeOf r e′ out
-unfolding receiverTimeOf receiverSpendOf
+unfolding receiverTimeOf receiverElapsedOf
 time-many r e e′ out h h′ = rw (pass-many (r .silence) (r .resends) e e′ (r .settings) h h′ (r .phase))

@@ -11,13 +11,13 @@ use Rattle.wire.specs.Written.{responseBytes, identifiedBytes, initiatedBytes, 
 use Rattle.wire.specs.declared.response.Response.the-variants as Res
 use Rattle.wire.specs.declared.response.Parsed.{Parsed}
 use Rattle.wire.specs.declared.response.Parsed.the-variants as Par
-use Rattle.receiver_state.specs.Answer.{identified, initiated, receipt, validated, replyOf}
+use Rattle.receiver_state.specs.Answer.{getFwIdResponse, initiateResponse, dataResponse, validateResponse, replyOf}
 use Rattle.receiver_state.specs.declared.answer.Answer.{Answer}
 use Rattle.receiver_state.specs.declared.answer.Answer.the-variants.{Identified, Offered, Asking, Closed, Success, Later, Aborted, Passed, Malformed, UnexpectedInitiate, UnexpectedData, UnexpectedValidate, Unexpected, NotDue, PassesCapacity, WrongFile, VerdictBad, OutOfRange, BufferShort, ImageLength}
 use Rattle.receiver_state.specs.declared.phase.Accepted.{Accepted}
 use Rattle.receiver_state.specs.declared.phase.Phase.{Phase}
 use Rattle.receiver_state.specs.declared.phase.Phase.the-variants.{Idle, Transfer, Await, Good}
-use Rattle.receiver_state.proofs.Truth.{IsGood, Tells}
+use Rattle.receiver_state.proofs.Truth.{IsGood, GoodIfSuccess}
 use Rattle.receiver_rules.specs.Decide.{receiverDecideOf}
 use Rattle.receiver_state.specs.declared.verdict.Verdict.{Verdict}
 use Rattle.receiver_rules.proofs.Owes.{decide-row}
@@ -46,8 +46,8 @@ abbrev pub Truthful : Phase → List ℕ → Type 0
 Truthful phase m = Succeeds (parsedResponseOf m) → IsGood phase
 
 module _ (r : Receiver) (phase : Phase) where
-  bytes-truthful : (answer : Answer) → Tells answer phase → Truthful phase (receiverBytesOf r answer)
-  unfolding replyBytes replyOf identified initiated receipt validated responseBytes identifiedBytes initiatedBytes receiptBytes validatedBytes parsedResponseOf headed responseOfType identifiedIn initiatedIn receiptIn validatedIn pick
+  bytes-truthful : (answer : Answer) → GoodIfSuccess answer phase → Truthful phase (receiverBytesOf r answer)
+  unfolding replyBytes replyOf getFwIdResponse initiateResponse dataResponse validateResponse responseBytes identifiedBytes initiatedBytes receiptBytes validatedBytes parsedResponseOf headed responseOfType identifiedIn initiatedIn receiptIn validatedIn pick
   bytes-truthful Identified h e = absurd e
   bytes-truthful (Offered wait) h e = absurd e
   bytes-truthful (Asking wait number) h e = absurd e
@@ -88,7 +88,7 @@ module _ (r : Receiver) (image request : List ℕ) (readiness : ℕ) (verdict : 
       (bytes-truthful r (r .phase) Malformed tt)
       (λ q _ _ _.
       let s = receiverDecideOf (r .phase) q (r .capacity) readiness verdict in
-      bytes-truthful r (s .phase) (s .answer) (decide-row (r .phase) q (r .capacity) readiness verdict .tells))
+      bytes-truthful r (s .phase) (s .answer) (decide-row (r .phase) q (r .capacity) readiness verdict .success))
 
   pub request-truthful : Truthful then (take (receiverRequestOf r image request readiness verdict out .outcome .written) (receiverRequestOf r image request readiness verdict out .out))
   request-truthful = rw (first-bytes r out _ _ (request-leads r image request readiness verdict out)) answer-truthful
@@ -107,7 +107,7 @@ module _ (r : Receiver) (elapsed : ℕ) (out : List ℕ) where
       (bytes-truthful r (r .phase) BufferShort tt)
       (λ _.
       let t = receiverTickOf (r .phase) (r .silence) elapsed (r .resends) (r .settings) in
-      bytes-truthful r (t .phase) (t .answer) (pass-ticks (r .phase) (r .silence) elapsed (r .resends) (r .settings) .tells))
+      bytes-truthful r (t .phase) (t .answer) (pass-ticks (r .phase) (r .silence) elapsed (r .resends) (r .settings) .success))
 
   pub time-truthful : Truthful passed (take (receiverTimeOf r elapsed out .answer .written) (receiverTimeOf r elapsed out .memory))
   time-truthful = rw (first-bytes r out _ _ (time-leads r elapsed out)) tick-truthful

@@ -19,7 +19,7 @@ use Rattle.receiver_rules.specs.Tick.{receiverTickOf}
 use Rattle.receiver_state.specs.declared.verdict.Verdict.{Verdict}
 use Rattle.receiver_rules.specs.Session.{receiverReturns}
 use Rattle.receiver_rules.specs.Request.{Effect, requestKept, requestDone, requestReadOf, receiverRequestOf}
-use Rattle.receiver_rules.specs.Time.{receiverTickedOf, receiverSpendOf, receiverTimeOf}
+use Rattle.receiver_rules.specs.Time.{receiverTickedOf, receiverElapsedOf, receiverTimeOf}
 use Rattle.receiver_state.specs.declared.session.Receiver.{Receiver}
 use Rattle.receiver_state.specs.declared.session.Outcome.{Outcome}
 
@@ -54,5 +54,5 @@ module _ (r : Receiver) (elapsed : ℕ) (out : List ℕ) where
       → P (left (receiverReturns r BufferShort 0) out)
       → (longest ≤ length out → P (receiverTickedOf r (receiverTickOf (r .phase) (r .silence) elapsed (r .resends) (r .settings)) out))
       → P (receiverTimeOf r elapsed out)
-  unfolding receiverTimeOf receiverSpendOf
+  unfolding receiverTimeOf receiverElapsedOf
   time-walk P short passed = pick-all P (ltb (length out) longest) _ _ (λ _. short) (λ t. passed (ltb-false (length out) longest t))

@@ -17,7 +17,7 @@ use Rattle.wire.specs.declared.request.Request.{Request}
 use Rattle.wire.specs.declared.request.Request.the-variants as Req
 use Rattle.wire.specs.declared.request.Parsed.the-variants.{Valid}
 use Rattle.wire.specs.declared.response.Response.{Response}
-use Rattle.wire.specs.declared.response.Parsed.the-variants as Told
+use Rattle.wire.specs.declared.response.Parsed.the-variants as ResPar
 use Rattle.receiver_state.specs.Answer.{replyOf}
 use Rattle.receiver_state.specs.declared.answer.Answer.{Answer}
 use Rattle.receiver_state.specs.declared.answer.Reply.{Reply}
@@ -62,7 +62,7 @@ module _ (r : Receiver) (out : List ℕ) (outcome : Outcome) (out′ : List ℕ)
 
   -- What was written is one message: a reader finds the answer's response in it.
   pub read-back : (sent : Response) → replyOf (r .identity) (r .capacity) (outcome .answer) ≡ Sends sent → BuiltResponse sent → Answerable sent
-      → response.parsedResponseOf (take (outcome .written) out′) ≡ Told.Valid (asRead sent)
+      → response.parsedResponseOf (take (outcome .written) out′) ≡ ResPar.Valid (asRead sent)
   unfolding replyBytes
   read-back sent e built can = rw (first-bytes, e) (response-back sent built can)
 

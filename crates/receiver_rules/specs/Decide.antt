@@ -6,7 +6,7 @@ use Rattle.basis.specs.Pick.{pick, differ}
 use Rattle.image.specs.Blocks.{blockSize, placeOf, blockPassesOf}
 use Rattle.wire.specs.declared.request.Request.{Request}
 use Rattle.wire.specs.declared.request.Request.the-variants as Req
-use Rattle.receiver_state.specs.Phase.{accepts, nothingAccepted}
+use Rattle.receiver_state.specs.Phase.{acceptedCounts, nothingAccepted}
 use Rattle.receiver_state.specs.declared.phase.Accepted.{Accepted}
 use Rattle.receiver_state.specs.declared.phase.Progress.{Progress}
 use Rattle.receiver_state.specs.declared.phase.Phase.{Phase}
@@ -55,7 +55,7 @@ closeTransferOf accepted = pick (eqb (accepted .blocks) 0) (goesTo Idle WrongFil
 -- A block that is taken: put at 256 × number, counted, answered with the readiness wait, asking for the next number.
 unfoldable pub takeBlockOf : ℕ → ℕ → ℕ → Step
 takeBlockOf number size readiness = record {
-  phase = Transfer (receiverProgress (accepts (number + 1) (placeOf number + size)) (ltb size blockSize));
+  phase = Transfer (receiverProgress (acceptedCounts (number + 1) (placeOf number + size)) (ltb size blockSize));
   answer = Asking readiness (number + 1);
   store = At number;
 }

@@ -16,13 +16,13 @@ abbrev pub tick : Phase → ℕ → ℕ → Answer → Tick
 tick phase silence resends answer = record { phase = phase; silence = silence; resends = resends; answer = answer }
 
 -- Below the limit nothing is sent; at it, while resends are left, the DATA response `again`; with none left: Idle.
-unfoldable pub receiverExpiryOf : Phase → Answer → Grown → Event → Tick
-receiverExpiryOf phase again grown Quiet = tick phase (grown .silence) (grown .resends) Passed
-receiverExpiryOf phase again grown Resend = tick phase (grown .silence) (grown .resends) again
-receiverExpiryOf phase again grown NoneLeft = tick Idle (grown .silence) (grown .resends) Passed
+unfoldable pub receiverOnEvent : Phase → Answer → Grown → Event → Tick
+receiverOnEvent phase again grown Quiet = tick phase (grown .silence) (grown .resends) Passed
+receiverOnEvent phase again grown Resend = tick phase (grown .silence) (grown .resends) again
+receiverOnEvent phase again grown NoneLeft = tick Idle (grown .silence) (grown .resends) Passed
 
 unfoldable pub receiverSilenceOf : Phase → Answer → Grown → Tick
-receiverSilenceOf phase again grown = receiverExpiryOf phase again grown (grown .event)
+receiverSilenceOf phase again grown = receiverOnEvent phase again grown (grown .event)
 
 -- Transfer asks for the next number with wait 0, Await repeats the closing answer; in Idle and Good nothing changes. `made` is how many
 -- resends were made.

@@ -20,9 +20,9 @@ receiverTickedOf r tick out =
     left (receiverReturns (receiverMoved r (tick .phase) (tick .silence) (tick .resends)) (tick .answer) (length (receiverBytesOf r (tick .answer))))
     (writtenInto (receiverBytesOf r (tick .answer)) out)
 
-unfoldable pub receiverSpendOf : Receiver → ℕ → List ℕ → Left Outcome
-receiverSpendOf r elapsed out = receiverTickedOf r (receiverTickOf (r .phase) (r .silence) elapsed (r .resends) (r .settings)) out
+unfoldable pub receiverElapsedOf : Receiver → ℕ → List ℕ → Left Outcome
+receiverElapsedOf r elapsed out = receiverTickedOf r (receiverTickOf (r .phase) (r .silence) elapsed (r .resends) (r .settings)) out
 
 -- 27, and then what time does
 unfoldable pub receiverTimeOf : Receiver → ℕ → List ℕ → Left Outcome
-receiverTimeOf r elapsed out = pick (ltb (length out) longest) (left (receiverReturns r BufferShort 0) out) (receiverSpendOf r elapsed out)
+receiverTimeOf r elapsed out = pick (ltb (length out) longest) (left (receiverReturns r BufferShort 0) out) (receiverElapsedOf r elapsed out)

@@ -5,11 +5,11 @@ use Rattle.receiver_state.specs.declared.phase.Accepted.{Accepted}
 use Rattle.receiver_state.specs.declared.phase.Phase.{Phase}
 use Rattle.receiver_state.specs.declared.phase.Phase.the-variants.{Idle, Transfer, Await, Good}
 
-abbrev pub accepts : ℕ → ℕ → Accepted
-accepts blocks bytes = record { blocks = blocks; bytes = bytes }
+abbrev pub acceptedCounts : ℕ → ℕ → Accepted
+acceptedCounts blocks bytes = record { blocks = blocks; bytes = bytes }
 
 abbrev pub nothingAccepted : Accepted
-nothingAccepted = accepts 0 0
+nothingAccepted = acceptedCounts 0 0
 
 -- Going to Idle sets accepted to zero.
 abbrev pub acceptedOf : Phase → Accepted

@@ -20,7 +20,7 @@ use Rattle.wire.specs.declared.request.Request.{Request}
 use Rattle.wire.specs.declared.request.Request.the-variants.{GetFwId, Validate, Abort, NotBuilt}
 use Rattle.wire.specs.declared.request.Parsed.{Parsed}
 use Rattle.wire.specs.declared.request.Parsed.the-variants.{Valid, Malformed}
-use Rattle.wire.proofs.Walk.{Headed, Reader, Told, refused, told, of-length, of-type, with-header}
+use Rattle.wire.proofs.Walk.{Headed, Reader, HoldsOf, refused, valid-holds, of-length, of-type, with-header}
 use Rattle.wire.proofs.Halves.{bytes-low, bytes-high, bytes-word}
 
 -- What the bytes of m and the request r that they are read as have to do with each other.
@@ -56,36 +56,36 @@ data-same m small v e n =
 
 module _ (m : List ℕ) (small : Bytes m) (h : Headed m) where
   bare-read : (q : Request) (t : ℕ) → byteAt m 1 ≡ t → requestBytes q ++ blockIn m q ≡ bareBytes t ++ [] → BuiltRequest q → Sendable q (blockIn m q)
-      → Told requests (Same m) (bareIn m q)
+      → HoldsOf requests (Same m) (bareIn m q)
   unfolding bareIn
   bare-read q t e w b f =
       of-length requests (Same m) m 2 q (λ n. record { there = λ _. w ∙ bare-same m t (h .version) e n; back = λ _. b; fields = f })
 
-  initiate-read : byteAt m 1 ≡ initiate → Told requests (Same m) (initiateIn m)
+  initiate-read : byteAt m 1 ≡ initiate → HoldsOf requests (Same m) (initiateIn m)
   unfolding initiateIn requestBytes
   initiate-read e =
       let word = bytes-word m small in
       of-length requests (Same m) m 10 _
       (λ n. record { there = λ _. initiate-same m small (h .version) e n; back = λ _. tt; fields = (refl, (word 2, word 4, word 6, word 8)) })
 
-  data-read : byteAt m 1 ≡ datum → Told requests (Same m) (dataIn m)
+  data-read : byteAt m 1 ≡ datum → HoldsOf requests (Same m) (dataIn m)
   unfolding dataIn requestBytes
   data-read e =
-      pick-all (Told requests (Same m)) (ltb (length m) 4) _ _ (λ _. refused requests (Same m))
+      pick-all (HoldsOf requests (Same m)) (ltb (length m) 4) _ _ (λ _. refused requests (Same m))
       (λ f.
       let four = ltb-false (length m) 4 f in
       let short = h .short in
-      told requests (Same m) _
+      valid-holds requests (Same m) _
       (record { there = λ _. data-same m small (h .version) e four; back = λ _. tt; fields = (bytes-word m small 2, length-drop 4 m, omega arith) }))
 
-  not-built : Told requests (Same m) (Valid NotBuilt)
+  not-built : HoldsOf requests (Same m) (Valid NotBuilt)
   unfolding requestBytes
   not-built =
       let long = h .long in
-      told requests (Same m) NotBuilt
+      valid-holds requests (Same m) NotBuilt
       (record { there = λ b. absurd b; back = λ e. let l : length m ≡ 0 = rw (← e) in omega arith; fields = refl })
 
-  typed-read : Told requests (Same m) (requestOfType m (byteAt m 1))
+  typed-read : HoldsOf requests (Same m) (requestOfType m (byteAt m 1))
   unfolding requestOfType requestBytes
   typed-read =
       let by = of-type requests (Same m) (byteAt m 1) in
@@ -99,5 +99,5 @@ module _ (m : List ℕ) (small : Bytes m) (h : Headed m) where
       (by vendorSpecific _ _ (λ _. not-built) (refused requests (Same m)))))))))
 
 pub request-same : (m : List ℕ) → Bytes m → (r : Request) → parsedRequestOf m ≡ Valid r → Same m r
-unfolding parsedRequestOf Told
+unfolding parsedRequestOf HoldsOf
 request-same m small = with-header requests (Same m) m (requestOfType m (byteAt m 1)) (typed-read m small)

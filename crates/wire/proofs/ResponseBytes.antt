@@ -19,7 +19,7 @@ use Rattle.wire.specs.declared.response.Response.{Response}
 use Rattle.wire.specs.declared.response.Response.the-variants.{GetFwId, Initiate, Data, Validate, NotBuilt}
 use Rattle.wire.specs.declared.response.Parsed.{Parsed}
 use Rattle.wire.specs.declared.response.Parsed.the-variants.{Valid, Malformed}
-use Rattle.wire.proofs.Walk.{Reader, Told, refused, told, of-length, of-type, with-header}
+use Rattle.wire.proofs.Walk.{Reader, HoldsOf, refused, valid-holds, of-length, of-type, with-header}
 use Rattle.wire.proofs.RoundTrip.{response-back}
 use Rattle.wire.proofs.Halves.{bytes-low, bytes-high, bytes-word, upper-twice, rest-twice, first-back, second-back, third-back}
 
@@ -124,13 +124,13 @@ module _ (m : List ℕ) (small : Bytes m) (v : byteAt m 0 ≡ 1) where
     cleared-already = refl;
   }
 
-  not-built : 2 ≤ length m → Told responses (Same m) (Valid NotBuilt)
+  not-built : 2 ≤ length m → HoldsOf responses (Same m) (Valid NotBuilt)
   unfolding responseBytes
   not-built long =
-      told responses (Same m) NotBuilt
+      valid-holds responses (Same m) NotBuilt
       (record { there = λ p. absurd p; back = λ e. let l : length m ≡ 0 = rw (← e) in omega arith; fields = tt; cleared-already = refl })
 
-  typed-read : 2 ≤ length m → Told responses (Same m) (responseOfType m (byteAt m 1))
+  typed-read : 2 ≤ length m → HoldsOf responses (Same m) (responseOfType m (byteAt m 1))
   unfolding responseOfType identifiedIn initiatedIn receiptIn validatedIn
   typed-read long =
       let by = of-type responses (Same m) (byteAt m 1) in
@@ -143,7 +143,7 @@ module _ (m : List ℕ) (small : Bytes m) (v : byteAt m 0 ≡ 1) where
       (by vendorSpecificResponse _ _ (λ _. not-built long) (refused responses (Same m)))))))
 
 pub response-same : (m : List ℕ) → Bytes m → (r : Response) → parsedResponseOf m ≡ Valid r → Same m r
-unfolding parsedResponseOf Told
+unfolding parsedResponseOf HoldsOf
 response-same m small = with-header responses (Same m) m (responseOfType m (byteAt m 1)) (λ h. typed-read m small (h .version) (h .long))
 
 -- Reserved bits are ignored: a response that is written anew, without them, is read as it was read with them.

@@ -20,7 +20,7 @@ use Rattle.wire.specs.declared.request.Parsed.the-variants as Asked
 use Rattle.wire.specs.declared.response.Identity.{Identity}
 use Rattle.wire.specs.declared.response.Response.{Response}
 use Rattle.wire.specs.declared.response.Response.the-variants as Res
-use Rattle.wire.specs.declared.response.Parsed.the-variants as Told
+use Rattle.wire.specs.declared.response.Parsed.the-variants as ResPar
 use Rattle.wire.proofs.Halves.{word-back, size-back, upper-twice, rest-twice}
 
 initiate-back : (v : Versions) → Words v → request.parsedRequestOf (initiateBytes v) ≡ Asked.Valid (Req.Initiate v)
@@ -45,7 +45,7 @@ request-back Req.Validate b _ e = rw e
 request-back Req.Abort b _ e = rw e
 request-back Req.NotBuilt b h _ = absurd h
 
-identity-back : (st : ℕ) (i : Identity) → Answerable (Res.GetFwId st i) → response.parsedResponseOf (identifiedBytes st i) ≡ Told.Valid (Res.GetFwId st (cleared i))
+identity-back : (st : ℕ) (i : Identity) → Answerable (Res.GetFwId st i) → response.parsedResponseOf (identifiedBytes st i) ≡ ResPar.Valid (Res.GetFwId st (cleared i))
 unfolding response.parsedResponseOf headed identifiedBytes response.responseOfType response.identifiedIn pick
 identity-back st i h =
     let v = i .versions in
@@ -63,7 +63,7 @@ identity-back st i h =
       rest-twice 32,
     )
 
-pub response-back : (r : Response) → BuiltResponse r → Answerable r → response.parsedResponseOf (responseBytes r) ≡ Told.Valid (asRead r)
+pub response-back : (r : Response) → BuiltResponse r → Answerable r → response.parsedResponseOf (responseBytes r) ≡ ResPar.Valid (asRead r)
 unfolding responseBytes initiatedBytes receiptBytes validatedBytes response.parsedResponseOf headed response.responseOfType response.initiatedIn response.receiptIn response.validatedIn pick
 response-back (Res.GetFwId st i) _ h = identity-back st i h
 response-back (Res.Initiate st w size) _ h = rw (size-back size h)

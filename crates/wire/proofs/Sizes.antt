@@ -14,25 +14,25 @@ use Rattle.wire.specs.Fields.{Sized}
 use Rattle.wire.specs.declared.request.Request.{Request}
 use Rattle.wire.specs.declared.request.Request.the-variants.{GetFwId, Validate, Abort, NotBuilt}
 use Rattle.wire.specs.declared.request.Parsed.the-variants.{Valid}
-use Rattle.wire.proofs.Walk.{Headed, Told, refused, told, of-length, of-type, with-header}
+use Rattle.wire.proofs.Walk.{Headed, HoldsOf, refused, valid-holds, of-length, of-type, with-header}
 use Rattle.wire.proofs.RequestBytes.{requests}
 
 module _ (m : List ℕ) where
-  data-sized : Headed m → Told requests (Sized m) (dataIn m)
+  data-sized : Headed m → HoldsOf requests (Sized m) (dataIn m)
   unfolding dataIn
   data-sized h =
-      pick-all (Told requests (Sized m)) (ltb (length m) 4) _ _ (λ _. refused requests (Sized m))
+      pick-all (HoldsOf requests (Sized m)) (ltb (length m) 4) _ _ (λ _. refused requests (Sized m))
       (λ f.
       let four = ltb-false (length m) 4 f in
       let short = h .short in
-      told requests (Sized m) _ (four, length-drop 4 m, omega arith))
+      valid-holds requests (Sized m) _ (four, length-drop 4 m, omega arith))
 
-  typed-sized : Headed m → Told requests (Sized m) (requestOfType m (byteAt m 1))
+  typed-sized : Headed m → HoldsOf requests (Sized m) (requestOfType m (byteAt m 1))
   unfolding requestOfType bareIn initiateIn
   typed-sized h =
       let by = of-type requests (Sized m) (byteAt m 1) in
       let bare = of-length requests (Sized m) m 2 in
-      let known = told requests (Sized m) NotBuilt tt in
+      let known = valid-holds requests (Sized m) NotBuilt tt in
       by getFwId _ _ (λ _. bare GetFwId (λ _. tt))
       (by initiate _ _ (λ _. of-length requests (Sized m) m 10 _ (λ _. tt))
       (by datum _ _ (λ _. data-sized h)
@@ -43,5 +43,5 @@ module _ (m : List ℕ) where
       (by vendorSpecific _ _ (λ _. known) (refused requests (Sized m)))))))))
 
 pub request-sized : (m : List ℕ) (r : Request) → parsedRequestOf m ≡ Valid r → Sized m r
-unfolding parsedRequestOf Told
+unfolding parsedRequestOf HoldsOf
 request-sized m = with-header requests (Sized m) m (requestOfType m (byteAt m 1)) (typed-sized m)

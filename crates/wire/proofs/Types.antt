@@ -10,7 +10,7 @@ use Rattle.wire.specs.Response as response
 use Rattle.wire.specs.declared.request.Request.the-variants as Req
 use Rattle.wire.specs.declared.request.Parsed.the-variants as Asked
 use Rattle.wire.specs.declared.response.Response.the-variants as Res
-use Rattle.wire.specs.declared.response.Parsed.the-variants as Told
+use Rattle.wire.specs.declared.response.Parsed.the-variants as ResPar
 
 -- n types from t on
 abbrev from : ℕ → ℕ → List ℕ
@@ -44,24 +44,24 @@ module _ (m : List ℕ) where
   -- 00h to 07h, 04h and 06h being reserved, and 7Fh
   pub response-types :
       map (response.responseOfType m) (0x00 ∷ 0x01 ∷ 0x02 ∷ 0x03 ∷ 0x04 ∷ 0x05 ∷ 0x06 ∷ 0x07 ∷ 0x7F ∷ [])
-      ≡ Told.Malformed
+      ≡ ResPar.Malformed
       ∷ response.identifiedIn m
       ∷ response.initiatedIn m
       ∷ response.receiptIn m
-      ∷ Told.Malformed
+      ∷ ResPar.Malformed
       ∷ response.validatedIn m
-      ∷ Told.Malformed
-      ∷ Told.Valid Res.NotBuilt
-      ∷ Told.Valid Res.NotBuilt
+      ∷ ResPar.Malformed
+      ∷ ResPar.Valid Res.NotBuilt
+      ∷ ResPar.Valid Res.NotBuilt
       ∷ []
   unfolding response.responseOfType pick
   response-types = refl
 
   -- 08h to 7Eh are reserved and 80h to FFh are requests'
-  pub response-types-low : map (response.responseOfType m) (from 0x08 119) ≡ replicate 119 Told.Malformed
+  pub response-types-low : map (response.responseOfType m) (from 0x08 119) ≡ replicate 119 ResPar.Malformed
   unfolding response.responseOfType pick
   response-types-low = refl
 
-  pub response-types-high : map (response.responseOfType m) (from 0x80 128) ≡ replicate 128 Told.Malformed
+  pub response-types-high : map (response.responseOfType m) (from 0x80 128) ≡ replicate 128 ResPar.Malformed
   unfolding response.responseOfType pick
   response-types-high = refl

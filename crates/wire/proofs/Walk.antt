@@ -34,23 +34,23 @@ pub record Reader (R P : Type 0) : Type 0 where
   pub apart : (r : R) → malformed ≡ valid r → ⊥
 
 -- Whatever message p holds, Q holds of it.
-unfoldable pub Told : {R P : Type 0} → Reader R P → (R → Type 0) → P → Type 0
-Told {R} k Q p = (r : R) → p ≡ k .valid r → Q r
+unfoldable pub HoldsOf : {R P : Type 0} → Reader R P → (R → Type 0) → P → Type 0
+HoldsOf {R} k Q p = (r : R) → p ≡ k .valid r → Q r
 
 module _ {R P : Type 0} (k : Reader R P) (Q : R → Type 0) where
-  pub refused : Told k Q (k .malformed)
-  unfolding Told
+  pub refused : HoldsOf k Q (k .malformed)
+  unfolding HoldsOf
   refused r e = absurd (k .apart r e)
 
-  pub told : (q : R) → Q q → Told k Q (k .valid q)
-  unfolding Told
-  told q h r e = rw (← (k .inner q r e)) h
+  pub valid-holds : (q : R) → Q q → HoldsOf k Q (k .valid q)
+  unfolding HoldsOf
+  valid-holds q h r e = rw (← (k .inner q r e)) h
 
-  pub of-length : (m : List ℕ) (n : ℕ) (q : R) → (length m ≡ n → Q q) → Told k Q (pick (eqb (length m) n) (k .valid q) (k .malformed))
-  of-length m n q f = pick-all (Told k Q) (eqb (length m) n) _ _ (λ t. told q (f (eqb-true (length m) n t))) (λ _. refused)
+  pub of-length : (m : List ℕ) (n : ℕ) (q : R) → (length m ≡ n → Q q) → HoldsOf k Q (pick (eqb (length m) n) (k .valid q) (k .malformed))
+  of-length m n q f = pick-all (HoldsOf k Q) (eqb (length m) n) _ _ (λ t. valid-holds q (f (eqb-true (length m) n t))) (λ _. refused)
 
-  pub of-type : (t c : ℕ) (p rest : P) → (t ≡ c → Told k Q p) → Told k Q rest → Told k Q (pick (eqb t c) p rest)
-  of-type t c p rest f g = pick-all (Told k Q) (eqb t c) p rest (λ e. f (eqb-true t c e)) (λ _. g)
+  pub of-type : (t c : ℕ) (p rest : P) → (t ≡ c → HoldsOf k Q p) → HoldsOf k Q rest → HoldsOf k Q (pick (eqb t c) p rest)
+  of-type t c p rest f g = pick-all (HoldsOf k Q) (eqb t c) p rest (λ e. f (eqb-true t c e)) (λ _. g)
 
-  pub with-header : (m : List ℕ) (p : P) → (Headed m → Told k Q p) → Told k Q (pick (headed m) p (k .malformed))
-  with-header m p f = pick-all (Told k Q) (headed m) _ _ (λ t. f (header-says m t)) (λ _. refused)
+  pub with-header : (m : List ℕ) (p : P) → (Headed m → HoldsOf k Q p) → HoldsOf k Q (pick (headed m) p (k .malformed))
+  with-header m p f = pick-all (HoldsOf k Q) (headed m) _ _ (λ t. f (header-says m t)) (λ _. refused)

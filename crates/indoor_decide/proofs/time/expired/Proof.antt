@@ -1,10 +1,10 @@
-use Rattle.indoor_rules.specs.Tick.{transferExpiredOf}
+use Rattle.indoor_rules.specs.Tick.{transferOnEvent}
 use borrow.Author.Needs.{needs}
 use Rattle.indoor_decide.proofs.time.expired.Statement.{statement}
 use Rattle.indoor_decide.proofs.time.expired.Tie as tie
 
 pub expired-spec : {M : Type 1} → statement M
-unfolding transferExpiredOf
+unfolding transferOnEvent
 expired-spec =
     tie.close
     (tie.spec

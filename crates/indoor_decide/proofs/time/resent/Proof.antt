@@ -1,10 +1,10 @@
-use Rattle.indoor_rules.specs.Tick.{resentOf}
+use Rattle.indoor_rules.specs.Tick.{resendOnEvent}
 use borrow.Author.Needs.{needs}
 use Rattle.indoor_decide.proofs.time.resent.Statement.{statement}
 use Rattle.indoor_decide.proofs.time.resent.Tie as tie
 
 pub resent-spec : {M : Type 1} → statement M
-unfolding resentOf
+unfolding resendOnEvent
 resent-spec =
     tie.close
     (tie.spec

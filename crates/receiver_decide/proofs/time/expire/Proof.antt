@@ -1,10 +1,10 @@
-use Rattle.receiver_rules.specs.Tick.{receiverExpiryOf}
+use Rattle.receiver_rules.specs.Tick.{receiverOnEvent}
 use borrow.Author.Needs.{needs}
 use Rattle.receiver_decide.proofs.time.expire.Statement.{statement}
 use Rattle.receiver_decide.proofs.time.expire.Tie as tie
 
 pub expire-spec : {M : Type 1} → statement M
-unfolding receiverExpiryOf
+unfolding receiverOnEvent
 expire-spec =
     tie.close
     (tie.spec
