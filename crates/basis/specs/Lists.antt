@@ -7,7 +7,7 @@ use native.Mathlib.Omega.{arith}
 use lib.ListN.{length, getD, take, drop, length-drop}
 use lib.Seq.{take-all, drop-cons, drop-length}
 
--- `&s[n..]` is seen by its callee as the left side.
+-- A callee sees `&s[n..]` as the left side.
 pub tail-all : {A : Type 0} (n : ℕ) (s : List A) → take (length s - n) (drop n s) ≡ drop n s
 tail-all n s = take-all (length s - n) (drop n s) (simp length-drop (le-refl (length s - n)))
 

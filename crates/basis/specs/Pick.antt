@@ -58,7 +58,7 @@ unfolding pick
 pick-both true a e = (refl, e)
 pick-both false a e = absurd (true≢false (sym e))
 
--- What is owed under a test alone.
+-- What has to hold only where a test does.
 abbrev pub When : Bool → Type 0 → Type 0
 When true A = A
 When false A = Unit

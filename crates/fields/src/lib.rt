@@ -5,7 +5,7 @@ ghost use mathlib.Core.Path.{_≡_};
 ghost use Rattle.wire.specs.Identity.{cleared};
 ghost use Rattle.wire.specs.Status.{codeOf};
 
-// The reserved bits of 001 T5-18 are zero on the way out, and nobody above sees them on the way in.
+// The reserved bits of 001 T5-18 are zero when written and cleared when read.
 pub fn cleared(identity: Identity) -> Identity
     ensures { λ r. ⌜ r ≡ cleared identity ⌝ }
 {

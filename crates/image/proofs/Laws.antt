@@ -1,4 +1,4 @@
--- The paper's sentences on blocks and on the sum, said back of the definitions (01, Sizes and numbers).
+-- The paper's sentences on blocks and on the sum, as laws of the definitions (01, Sizes and numbers).
 use Prim.Native.Nat.{ℕ, zero, suc, _+_, _*_, _-_, _%_, _<_, _≤_, min}
 use mathlib.Core.Bool.{true, false}
 use mathlib.Core.Path.{_≡_, refl, _∙_}
@@ -62,7 +62,7 @@ module _ (file : List ℕ) where
   pub blocks-are-file : joined (blocksOf (length file)) ≡ file
   blocks-are-file = joined-front (blocksOf (length file)) ∙ take-all _ file (enough (length file))
 
--- A block that does not pass the capacity is stored: after it, the image begins with what stood before its place and then the block.
+-- A block that does not pass the capacity is stored: after it, the image begins with what was before its place and then the block.
 module _ (image : List ℕ) (number : ℕ) (block : List ℕ) where
   pub block-stored : blockPassesOf number (length block) (length image) ≡ false → putBlockOf image number block ≡ left Stored (pasted image (256 * number) block)
   unfolding blockPassesOf

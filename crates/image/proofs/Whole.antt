@@ -1,4 +1,4 @@
--- A file's blocks, put in place one after the other, make the image begin with the file: the harbour's image did not.
+-- A file's blocks, put in place one after the other, make the image begin with the file.
 use Prim.Native.Nat.{ℕ, zero, suc, _+_, _*_, _≤_, min}
 use mathlib.Core.Path.{_≡_, refl, _∙_}
 use mathlib.Core.List.{List}

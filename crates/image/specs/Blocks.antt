@@ -18,7 +18,7 @@ blocksOf len = (len + 255) / blockSize
 abbrev pub placeOf : ℕ → ℕ
 placeOf number = blockSize * number
 
--- A block passes a capacity if it ends behind it.
+-- A block passes a capacity if it ends beyond it.
 unfoldable pub blockPassesOf : ℕ → ℕ → ℕ → Bool
 blockPassesOf number size capacity = ltb capacity (placeOf number + size)
 

@@ -1,4 +1,4 @@
-// What a call returns of the session.
+// What a call returns, and the session after it.
 use indoor_state::answer::Answer;
 use indoor_state::plan::Plan;
 use indoor_state::session::Indoor;

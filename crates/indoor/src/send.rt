@@ -37,7 +37,7 @@ fn deliver(out: &mut [u8], file: &[u8], versions: Versions, sends: Sends) -> usi
     }
 }
 
-// A request that has no block; of DATA its head.
+// A request without a block, or the head of a DATA request.
 pub(crate) fn message(out: &mut [u8], request: Request) -> usize
     requires { ⌜ longest ≤ length (now out) ⌝ }
     ensures { λ r. ⌜ left r (now (out .exit)) ≡ returnsWritten (requestBytes request) (now (out .entry)) ⌝ }

@@ -43,7 +43,7 @@ fn spend(session: Indoor, file: &[u8], elapsed: u16, out: &mut [u8]) -> Outcome
     finish(plan, step, written)
 }
 
-// Most time calls only count: nothing goes out then, and the file is not looked at.
+// Most time calls only count silence: nothing is sent then, and the file is not read.
 fn prompt(out: &mut [u8], file: &[u8], plan: Plan, answer: Answer) -> usize
     requires { ⌜ longest ≤ length (now out) ⌝ }
     ensures { λ r. ⌜ left r (now (out .exit)) ≡ returnsWritten (indoorBytesOf plan (now (file .entry)) answer) (now (out .entry)) ⌝ }

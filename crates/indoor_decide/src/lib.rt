@@ -1,4 +1,4 @@
-// What the indoor end decides on a response and when time passes: where it stands next and what it answers. Nothing here touches memory
+// What the indoor end decides on a response and when time passes: its next state and what it answers. Nothing here touches memory
 // (01, The indoor end's phases).
 mod answer;
 mod compare;

@@ -19,7 +19,7 @@ use wire::status::Status;
 ghost use mathlib.Core.Path.{_≡_};
 ghost use Rattle.indoor_rules.specs.Decide.{passedOver, sendsBlock, notOk, whereOk, comparedOf, readyOf, offeredOf, indoorCloseNumberOf, indoorCloseOf, blockAskedOf, indoorDataOf, indoorSuccessOf, indoorValidatedOf, indoorIdentifyOf, indoorInitiateOf, indoorTransferOf, indoorValidateOf, indoorDecideIn, indoorDecideOf};
 
-// A WaitTime counts so many milliseconds in an INITIATE response (001 T5-20).
+// WaitTime counts 10 ms in an INITIATE response (01, Sizes and numbers).
 const INITIATE_UNIT: u16 = 10;
 
 pub fn decide(plan: Plan, state: State, response: Response) -> Step

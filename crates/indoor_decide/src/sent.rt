@@ -1,4 +1,4 @@
-// Where the indoor end stands once a block has gone out (01, The indoor end's phases).
+// The phase once a block has gone out (01, The indoor end's phases).
 use indoor_state::phase::Phase;
 use indoor_state::phase::Progress;
 use indoor_state::plan::Plan;

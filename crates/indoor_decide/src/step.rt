@@ -1,4 +1,4 @@
-// Steps that leave nothing of what was before.
+// Steps after which silence and resends are zero (01, The indoor end's phases).
 use indoor_state::answer::Answer;
 use indoor_state::phase::Phase;
 use indoor_state::phase::Reason;
@@ -7,7 +7,7 @@ use indoor_state::step::Step;
 ghost use mathlib.Core.Path.{_≡_};
 ghost use Rattle.indoor_rules.specs.Step.{goes, fails};
 
-// An accepted response sets silence and resends to zero; so does whatever ends the session.
+// An accepted response sets silence and resends to zero; so does a failure.
 pub(crate) fn goes(phase: Phase, answer: Answer) -> Step
     ensures { λ r. ⌜ r ≡ goes phase answer ⌝ }
 {

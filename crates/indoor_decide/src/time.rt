@@ -93,7 +93,7 @@ fn expires(plan: Plan, state: State, elapsed: u16) -> Step
     expired(phase, grown, event)
 }
 
-// Nothing is resent in Transfer: its first expiry is its end.
+// Nothing is resent in Transfer: the first expiry is 40.
 fn expired(phase: Phase, grown: Grown, event: Event) -> Step
     ensures { λ r. ⌜ r ≡ transferOnEvent phase grown event ⌝ }
 {
@@ -118,7 +118,7 @@ fn wait_over(state: State, phase: Phase, answer: Answer) -> Step
     at(phase, 0, state.resends, answer)
 }
 
-// Outside a wait (0 ms left) silence grows; so in Transfer and Validate.
+// Outside a wait (0 ms left) silence grows; else the wait goes on or is over. So it is in Transfer and Validate too.
 fn initiate(plan: Plan, state: State, wait: u16, elapsed: u16) -> Step
     ensures { λ r. ⌜ r ≡ initiateTickOf plan state wait elapsed ⌝ }
 {

@@ -1,4 +1,4 @@
--- What a decision says, said back: what is accepted and what failed, n, and how the empty block is remembered (01, The indoor end's phases).
+-- An accepted response, a failure, n, and how it is kept that the empty block was sent (01, The indoor end's phases).
 use Prim.Native.Nat.{ℕ, _*_, _≤_}
 use mathlib.Core.Bool.{Bool, true}
 use mathlib.Core.Logic.{_⊎_, inl, inr}

@@ -1,4 +1,4 @@
--- Newer, said back: vendor and product agree and the file's FWVersion1 is greater; else not (01, The indoor end's phases).
+-- Newer means that vendor and product agree and the file's FWVersion1 is greater (01, The indoor end's phases).
 use Prim.Native.Nat.{_<_}
 use mathlib.Core.Bool.{Bool, true, false, true≢false}
 use mathlib.Core.Path.{_≡_, refl, sym}

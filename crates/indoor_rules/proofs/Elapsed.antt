@@ -1,4 +1,4 @@
--- What time does to the indoor end, said back in the paper's own numbers (01, The indoor end's phases; 01, Sizes and numbers).
+-- What time does to the indoor end, in the paper's own numbers (01, The indoor end's phases; 01, Sizes and numbers).
 use Prim.Native.Nat.{ℕ, _+_, _-_, _<_, _≤_}
 use mathlib.Core.Bool.{Bool}
 use mathlib.Core.Path.{_≡_, refl}

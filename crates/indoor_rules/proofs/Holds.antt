@@ -1,4 +1,4 @@
--- What a session has written, and what it knows of it: a call keeps it so.
+-- What a session has written is genuine, and its phase says truly whether the empty block was sent: every call keeps it so.
 use Prim.Native.Nat.{ℕ, _≤_}
 use mathlib.Core.Bool.{true}
 use mathlib.Core.Logic.{_⊎_, inl, inr}
@@ -40,7 +40,7 @@ use Rattle.indoor_rules.proofs.Walk.{response-walk, time-walk}
 use Rattle.indoor_rules.proofs.Entering.{failed-phase}
 use Rattle.indoor_rules.proofs.Genuine.{bytes-genuine}
 
--- From the first time that the empty block goes out it is among what was written; and there is no Validate and no Done without it.
+-- Where Transfer says that the empty block has been sent, and in Validate and Done, it is among the requests written.
 abbrev pub EmptySent : List ℕ → Phase → List (List ℕ) → Type 0
 EmptySent file Identify sent = Unit
 EmptySent file (Initiate left) sent = Unit
@@ -62,7 +62,7 @@ head-sent : (n : ℕ) (sent : List (List ℕ)) → List·Memᴰ (headBytes n) (p
 unfolding headBytes pick
 head-sent n sent = List·Memᴰ·head refl
 
--- What a step that was done adds to what was written.
+-- The requests written, after a step.
 module _ (plan : Plan) (x : Step) (file out : List ℕ) (sent : List (List ℕ)) where
   abbrev bytes : List ℕ
   bytes = indoorBytesOf plan file (x .answer)
@@ -73,7 +73,7 @@ module _ (plan : Plan) (x : Step) (file out : List ℕ) (sent : List (List ℕ))
   done-walk : (P : List (List ℕ) → Type 0) → P sent → ((length bytes ≡ 0 → ⊥) → P (bytes ∷ sent)) → P (sentAfter (indoorDone plan x file out) sent)
   done-walk P same more = rw sent-done (pick-all P (eqb (length bytes) 0) sent (bytes ∷ sent) (λ _. same) (λ f. more (eqb-false (length bytes) 0 f)))
 
-  -- What was written stays written.
+  -- A request stays among those written.
   kept-sent : (m : List ℕ) → List·Memᴰ m sent → List·Memᴰ m (sentAfter (indoorDone plan x file out) sent)
   kept-sent m h = done-walk (List·Memᴰ m) h (λ _. List·Memᴰ·tail h)
 
@@ -87,13 +87,13 @@ module _ (plan : Plan) (x : Step) (file out : List ℕ) (sent : List (List ℕ))
   unfolding sendsBytes blockBytes requestBytes
   empty-bytes lent e = rw (e, lent, block-behind file (blocksOf (length file)) (omega arith), append-nil (headBytes (blocksOf (length file))))
 
-  -- The call that sends the empty block has it among what was written.
+  -- After the call that sends the empty block, that block is among the requests written.
   empty-sent : plan .length ≡ length file → x .answer ≡ Sending (emptyNumber plan) → List·Memᴰ (emptyBlock file) (sentAfter (indoorDone plan x file out) sent)
   empty-sent lent e =
       let same : bytes ≡ emptyBlock file = empty-bytes lent e in
       rw (sent-done, same) (head-sent (blocksOf (length file)) sent)
 
--- What was known of the empty block is still known after a step that says what its phases owe.
+-- The empty block stays among the requests written, or is added, whatever the step.
 module _ (plan : Plan) (x : Step) (file out : List ℕ) (sent : List (List ℕ)) (lent : plan .length ≡ length file) where
   abbrev then : List (List ℕ)
   then = sentAfter (indoorDone plan x file out) sent
@@ -107,7 +107,7 @@ module _ (plan : Plan) (x : Step) (file out : List ℕ) (sent : List (List ℕ))
   still-emptied Done known e = empty-sent plan x file out sent lent e
   still-emptied (Failed reason) known e = empty-sent plan x file out sent lent e
 
-  -- From a phase that knows it: Validate, Done, or Transfer once it is sent.
+  -- The phases which say that the empty block was sent: Validate, Done, and Transfer once it was.
   abbrev Knows : Phase → Type 0
   Knows Identify = ⊥
   Knows (Initiate left) = ⊥
@@ -157,7 +157,7 @@ module _ (plan : Plan) (x : Step) (file out : List ℕ) (sent : List (List ℕ))
   late-knows Done low high = tt
   late-knows (Failed reason) low high = absurd (omega arith)
 
-  -- Time leaves the phase or fails.
+  -- Time keeps the phase or goes to Failed.
   lasting : (before next : Phase) → (order next ≡ order before) ⊎ (next ≡ Failed Silence) → order next ≤ 4 → order before ≡ order next
   lasting before next (inl e) high = sym e
   lasting before next (inr e) high = let five = ap order e in absurd (omega arith)

@@ -1,4 +1,4 @@
--- The paper's sentences on the indoor end's calls, said back of the definitions (01, The indoor end's phases; 01, Numbers we answer).
+-- The paper's sentences on the indoor end's calls, as laws of the definitions (01, The indoor end's phases; 01, Numbers we answer).
 use Prim.Native.Nat.{ℕ}
 use mathlib.Core.Bool.{Bool, true, true≢false, _||_}
 use mathlib.Core.Path.{_≡_, refl, sym}

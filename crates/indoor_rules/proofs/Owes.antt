@@ -1,4 +1,4 @@
--- What every step on a response owes, by its answer, where the indoor end stood and where it stands next.
+-- What holds of every step on a response, by its answer, the state before it and the state after it.
 use Prim.Native.Nat.{ℕ, _≤_}
 use mathlib.Core.Bool.{Bool, true, false, true≢false, not, _||_}
 use mathlib.Core.Logic.{_⊎_, inl, inr}

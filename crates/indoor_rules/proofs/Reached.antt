@@ -24,7 +24,7 @@ use Rattle.indoor_rules.proofs.Fresh.{Fresh, start-fresh}
 use Rattle.indoor_rules.proofs.Genuine.{bytes-genuine}
 use Rattle.indoor_rules.proofs.Holds.{EmptySent, Holds, heard-holds, ticked-holds}
 
--- A session that was made holds it from the start.
+-- It holds at the start, where GET_FW_ID is all that was written.
 fresh-holds : (file : List ℕ) (release : Release) (s : Indoor) (first : List ℕ) → Words (release .versions) → Fresh release file s first → Holds file release s (first ∷ [])
 unfolding sendsBytes requestBytes bareBytes
 fresh-holds file release s first words f = record {

@@ -1,4 +1,4 @@
--- What every time call owes, by where the indoor end stood and where it stands next (01, The indoor end's phases).
+-- What holds of every time call, by the state before it and the state after it (01, The indoor end's phases).
 use Prim.Native.Nat.{ℕ, _+_, _≤_, _<_}
 use mathlib.Core.Bool.{Bool, true, _||_}
 use mathlib.Core.Logic.{_⊎_, inl, inr}
@@ -75,7 +75,7 @@ pub record Ticks (plan : Plan) (state : State) (elapsed : ℕ) (s : Step) : Type
   pub still : Still (state .phase) (s .state .phase)
   pub marks : Marks plan (sendsOf (s .answer)) (s .state .phase)
 
--- The sums that every case needs.
+-- What every case below needs of the count of resends.
 record Sums (resends : ℕ) : Type 0 where
   counted : resends + 1 ≤ resends + 1
   kept : resends ≤ resends + 1

@@ -27,10 +27,11 @@ use Rattle.indoor_state.specs.declared.step.Step.{Step}
 abbrev pub passedOver : State → Step
 passedOver state = indoorStep state Ans.Unexpected
 
+-- Accepted, and this block goes out.
 abbrev pub sendsBlock : Plan → ℕ → Bool → Step
 sendsBlock plan number emptied = goes (blockSent plan number emptied) (Ans.Sending number)
 
--- 001 T5-29
+-- OK is 00 (001 T5-29).
 unfoldable pub notOk : ℕ → Bool
 notOk status = differ status (codeOf Ok)
 
@@ -53,7 +54,7 @@ offeredOf plan wait size =
     (pick (eqb wait 0) (readyOf plan size)
     (goes (Initiate (10 * wait)) Ans.Waiting))
 
--- WaitTime 255 is the close only if the empty block has been sent and the number is n, else 44.
+-- WaitTime 255 is the close only if the empty block has been sent and the number is n, else 44. The close brings VALIDATE.
 unfoldable pub indoorCloseNumberOf : Plan → ℕ → Step
 indoorCloseNumberOf plan number = pick (differ number (emptyNumber plan)) (fails WrongNumber) (goes (Validate 0) Ans.Validating)
 
@@ -67,21 +68,22 @@ blockAskedOf plan emptied wait number =
     (pick (eqb wait 0) (sendsBlock plan number emptied)
     (goes (Transfer (indoorProgress number wait emptied)) Ans.Waiting))
 
+-- A DATA response: WaitTime 255 is a close, any other asks for a block.
 unfoldable pub indoorDataOf : Plan → Bool → ℕ → ℕ → Step
 indoorDataOf plan emptied wait number = pick (eqb wait unable) (indoorCloseOf plan emptied number) (blockAskedOf plan emptied wait number)
 
--- 45 with the success bit clear
+-- Status OK and wait 0: 45 with the success bit clear, else Done.
 unfoldable pub indoorSuccessOf : Bool → Step
 indoorSuccessOf success = pick (not success) (fails NotValid) (goes Done Ans.Finished)
 
--- WaitTime counts 1 ms in a VALIDATE response (001 T5-24).
+-- WaitTime counts 1 ms in a VALIDATE response (001 T5-24). 255 is 41, any other but 0 means wait, then send again.
 unfoldable pub indoorValidatedOf : ℕ → Bool → Step
 indoorValidatedOf wait success =
     pick (eqb wait unable) (fails Refused)
     (pick (eqb wait 0) (indoorSuccessOf success)
     (goes (Validate wait) Ans.Waiting))
 
--- In each phase the response of one type is due.
+-- In each phase the response of one type is due; any other is 21.
 unfoldable pub indoorIdentifyOf : Plan → State → Response → Step
 indoorIdentifyOf plan state (Res.GetFwId status reported) = whereOk status (comparedOf plan reported)
 indoorIdentifyOf plan state (Res.Initiate status wait size) = passedOver state

@@ -1,4 +1,4 @@
--- A session of the indoor end, and what a call returns of it.
+-- A session of the indoor end, and what a call returns.
 use Prim.Native.Nat.{ℕ}
 use mathlib.Core.List.{List}
 use lib.ListN.{length}
@@ -15,6 +15,7 @@ use Rattle.indoor_state.specs.declared.session.Outcome.{Outcome}
 abbrev pub indoor : Plan → State → Indoor
 indoor plan state = record { plan = plan; state = state }
 
+-- The session after a call, its answer, and how many bytes it wrote.
 abbrev pub indoorReturns : Indoor → Answer → ℕ → Outcome
 indoorReturns s answer written = record { session = s; answer = answer; written = written }
 
@@ -22,11 +23,11 @@ indoorReturns s answer written = record { session = s; answer = answer; written 
 abbrev pub indoorKept : Indoor → Answer → List ℕ → Left Outcome
 indoorKept s answer out = left (indoorReturns s answer 0) out
 
--- The step that was decided, and how many bytes were written.
+-- What a call returns once its step is decided.
 abbrev pub indoorStepped : Plan → Step → ℕ → Outcome
 indoorStepped plan step written = indoorReturns (indoor plan (step .state)) (step .answer) written
 
--- With its request in the first bytes of the buffer.
+-- And what it leaves: the request, if any, in the first bytes of the buffer.
 abbrev pub indoorDone : Plan → Step → List ℕ → List ℕ → Left Outcome
 indoorDone plan step file out =
     left (indoorStepped plan step (length (indoorBytesOf plan file (step .answer))))

@@ -29,7 +29,7 @@ abbrev pub indoorBegun : Plan → List ℕ → Left Started
 indoorBegun plan out =
     left (Made (indoor plan (indoorState Identify 0 0)) (length (requestBytes Req.GetFwId))) (writtenInto (requestBytes Req.GetFwId) out)
 
--- 46, 27
+-- 46, 27, or a session
 unfoldable pub indoorBeginOf : silence.Settings → Release → List ℕ → List ℕ → Left Started
 indoorBeginOf settings release file out =
     pick (eqb (length file) 0) (left FileSize out)

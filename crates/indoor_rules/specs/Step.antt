@@ -1,5 +1,4 @@
--- Steps that many rows share: what is accepted, what failed, and where the indoor end stands once a block has gone out (01, The indoor
--- end's phases).
+-- Steps that several rules share: an accepted response, a failure, and a block that goes out (01, The indoor end's phases).
 use Prim.Native.Nat.{ℕ}
 use mathlib.Core.Bool.{Bool, true}
 use lib.Dec.{eqb}
@@ -15,7 +14,7 @@ use Rattle.indoor_state.specs.declared.answer.Answer.{Answer}
 use Rattle.indoor_state.specs.declared.answer.Answer.the-variants as Ans
 use Rattle.indoor_state.specs.declared.step.Step.{Step}
 
--- An accepted response sets silence and resends to zero; so does whatever ends the session.
+-- An accepted response sets silence and resends to zero; so does a failure.
 abbrev pub goes : Phase → Answer → Step
 goes phase answer = indoorStep (indoorState phase 0 0) answer
 
@@ -27,10 +26,10 @@ fails reason = goes (Failed reason) (Ans.Failed reason)
 abbrev pub emptyNumber : Plan → ℕ
 emptyNumber plan = blocksOf (plan .length)
 
--- The empty block has been sent from the first time that block n goes out.
+-- Whether the empty block has been sent, once this block has gone out; `emptied` says whether it had been sent before.
 unfoldable pub emptiedBy : Plan → ℕ → Bool → Bool
 emptiedBy plan number emptied = pick emptied true (eqb number (emptyNumber plan))
 
--- Where the indoor end stands once a block has gone out.
+-- The phase once this block has gone out: it is the one last asked for, and there is no wait.
 abbrev pub blockSent : Plan → ℕ → Bool → Phase
 blockSent plan number emptied = Transfer (indoorProgress number 0 (emptiedBy plan number emptied))

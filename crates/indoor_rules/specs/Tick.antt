@@ -31,6 +31,7 @@ transferOnEvent phase grown Quiet = indoorStep (indoorState phase (grown .silenc
 transferOnEvent phase grown Resend = fails Silence
 transferOnEvent phase grown NoneLeft = fails Silence
 
+-- Silence and resends after a call, and whether the limit was reached.
 abbrev pub indoorSilenceOf : Plan → State → ℕ → Grown
 indoorSilenceOf plan state elapsed = grownOf (state .silence) elapsed (state .resends) (plan .settings)
 
@@ -48,7 +49,7 @@ waitsOn state phase = indoorStep (indoorState phase (state .silence) (state .res
 abbrev pub waitOver : State → Phase → Answer → Step
 waitOver state phase answer = indoorStep (indoorState phase 0 (state .resends)) answer
 
--- Each in three cases: outside a wait (0 ms left) silence grows; a wait goes on; a wait is over.
+-- Time in Initiate, Transfer and Validate, each in three cases: outside a wait (0 ms left) silence grows; the wait goes on; the wait is over.
 unfoldable pub initiateTickOf : Plan → State → ℕ → ℕ → Step
 initiateTickOf plan state wait elapsed =
     pick (eqb wait 0) (resendsOf plan state Initiating elapsed)

@@ -12,7 +12,7 @@ use Rattle.indoor_rules.specs.Session.{indoorKept, indoorDone}
 use Rattle.indoor_state.specs.declared.session.Indoor.{Indoor}
 use Rattle.indoor_state.specs.declared.session.Outcome.{Outcome}
 
--- 28, 27, and then what time does
+-- 28, 27, or what time does
 unfoldable pub indoorTimeOf : Indoor → List ℕ → ℕ → List ℕ → Left Outcome
 indoorTimeOf s file elapsed out =
     pick (differ (length file) (s .plan .length)) (indoorKept s FileLength out)

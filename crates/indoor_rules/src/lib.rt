@@ -1,2 +1,2 @@
-// What the indoor end does, decisions, calls and histories: definitions and their laws alone. The code that meets them is in the crates above
-// (01, The indoor end's phases).
+// What the indoor end does, as definitions and laws, without code (01, The indoor end's phases). The code that meets them is in indoor_decide
+// and indoor.

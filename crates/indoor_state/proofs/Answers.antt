@@ -1,4 +1,4 @@
--- The paper's table of numbers and requests, said back in its own numbers (01, Numbers we answer; 01, The indoor end's phases).
+-- The table of numbers and requests, in the paper's own numbers (01, Numbers we answer; 01, The indoor end's phases).
 use Prim.Native.Nat.{ℕ}
 use mathlib.Core.Path.{_≡_, refl}
 use mathlib.Core.List.{[], _∷_, map}

@@ -1,4 +1,4 @@
--- What a decision says: where the indoor end stands next, and its answer.
+-- What is decided: the state after the call, and its answer.
 use Rattle.indoor_state.specs.declared.phase.State.{State}
 use Rattle.indoor_state.specs.declared.answer.Answer.{Answer}
 use Rattle.indoor_state.specs.declared.step.Step.{Step}

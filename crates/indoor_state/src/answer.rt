@@ -20,7 +20,7 @@ pub enum Answer {
     Failed(Reason),
 }
 
-// At most one request goes out with an answer; a block goes by its number.
+// At most one request goes out with an answer; a block is given by its number.
 pub enum Sends {
     Nothing,
     GetFwId,

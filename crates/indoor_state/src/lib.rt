@@ -1,4 +1,4 @@
-// The indoor end's types: where it stands, what it answers and what goes out with it (01, The indoor end's phases; 01, Numbers we answer).
+// The indoor end's types: its state, what it answers and what goes out with it (01, The indoor end's phases; 01, Numbers we answer).
 pub mod answer;
 pub mod phase;
 pub mod plan;

@@ -1,5 +1,6 @@
-// Where the indoor end stands (01, The indoor end's phases).
-// Why it failed: 40 to 45.
+// The indoor end's state (01, The indoor end's phases).
+
+// Why it failed: 40 to 45 (01, Numbers we answer).
 pub enum Reason {
     Silence,
     Refused,
@@ -26,7 +27,7 @@ pub enum Phase {
     Failed(Reason),
 }
 
-// What a call may change: `silence` is in milliseconds, and `resends` counts those made.
+// What a call may change: `silence` is in milliseconds, and `resends` counts the resends made since the last accepted response.
 pub struct State {
     pub phase: Phase,
     pub silence: u16,

@@ -2,7 +2,7 @@
 use silence::Settings;
 use wire::request::Versions;
 
-// What the file is offered as.
+// The file's vendor, product and four versions.
 #[repr(C)]
 pub struct Release {
     pub vendor: u16,
@@ -10,7 +10,7 @@ pub struct Release {
     pub versions: Versions,
 }
 
-// `length` is the file's.
+// `length` is the file's, in bytes.
 #[repr(C)]
 pub struct Plan {
     pub settings: Settings,

@@ -1,4 +1,4 @@
-// A session of the indoor end: what it was started with, where it stands, and what a call returns of it.
+// A session of the indoor end: what it was started with, its state, and what a call returns.
 use crate::answer::Answer;
 use crate::phase::State;
 use crate::plan::Plan;
@@ -16,7 +16,7 @@ pub enum Started {
     BufferShort,
 }
 
-// What a response and a time call answer: the session as it then stands, and how many bytes of the output buffer were written.
+// What a response and a time call return: the session after it, the answer, and how many bytes of the output buffer were written.
 pub struct Outcome {
     pub session: Indoor,
     pub answer: Answer,

@@ -23,7 +23,7 @@ pub put-passes : (d : List ℕ) (at : ℕ) (s : List ℕ) → length d < at + le
 unfolding putOf
 put-passes d at s h = simp tests
 
--- Put at the very start, a message leads the buffer.
+-- A message put at the start of a buffer is its first bytes, and the rest is kept.
 pub put-leads : (s d : List ℕ) → length s ≤ length d → putOf d 0 s ≡ left Stored (writtenInto s d)
 put-leads s d h = put-fits d 0 s (simp zero-add h) ∙ simp zero-add
 
@@ -50,7 +50,7 @@ put-length d at s =
     (λ t. pasted-length d at s (leb-true (at + length s) (length d) t))
     (λ _. refl)
 
--- A head and then a block behind it lead the buffer as one message.
+-- A head, and then a block put behind it, are one message in the first bytes of the buffer.
 pub led-two : (h b d : List ℕ) → length h + length b ≤ length d → putOf (writtenInto h d) (length h) b ≡ left Stored (writtenInto (h ++ b) d)
 led-two h b d k =
     let l : length (writtenInto h d) ≡ length d = simp (length-append, length-drop) (omega arith) in

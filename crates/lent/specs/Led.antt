@@ -7,6 +7,6 @@ use Rattle.basis.specs.Left.{Left, left}
 abbrev pub writtenInto : List ℕ → List ℕ → List ℕ
 writtenInto s d = s ++ drop (length s) d
 
--- How many bytes were written, and the buffer that they lead.
+-- How many bytes were written, and the buffer that begins with them.
 abbrev pub returnsWritten : List ℕ → List ℕ → Left ℕ
 returnsWritten bytes out = left (length bytes) (writtenInto bytes out)

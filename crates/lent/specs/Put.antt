@@ -8,7 +8,7 @@ use Rattle.basis.specs.Left.{Left, left}
 use Rattle.lent.specs.declared.Placed.{Placed}
 use Rattle.lent.specs.declared.Placed.the-variants.{Stored, NoRoom}
 
--- d with s from the place at on: what stood there is gone, and nothing else.
+-- d with s from the place `at` on: the bytes there are replaced, and all others are kept.
 abbrev pub pasted : List ℕ → ℕ → List ℕ → List ℕ
 pasted d at s = take at d ++ s ++ drop (at + length s) d
 

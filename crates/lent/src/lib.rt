@@ -13,7 +13,7 @@ pub enum Placed {
 // A block of a file, but for its last (01, Sizes and numbers).
 const BLOCK: usize = 256;
 
-// `n` is the part's length. Where it is a number of the code, the compiler copies without a loop.
+// `n` is the part's length. Where it is a constant, the compiler copies without a loop.
 fn paste(dst: &mut [u8], at: usize, src: &[u8], n: usize)
     requires { ⌜ n ≡ length (now src) ⌝ }
     requires { ⌜ at + n ≤ length (now dst) ⌝ }

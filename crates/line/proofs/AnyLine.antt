@@ -1,5 +1,5 @@
--- What holds in every world that is reached: the receiver has only the file's blocks, no success is told before it is true, and the indoor
--- end believes nothing else.
+-- What holds in every world that is reached: the receiver has only the file's blocks, success is answered in Good alone, and the indoor end is
+-- done only after such an answer.
 use Prim.Native.Nat.{ℕ}
 use mathlib.Core.Logic.{_⊎_, inl, inr}
 use mathlib.Core.Path.{_≡_, refl, sym, _∙_, ap, subst}
@@ -69,7 +69,7 @@ module _ (file memory : List ℕ) (release : Release) (identity : Identity) wher
   old-or-new before next responses written out stays new old m (inl e) = subst (Truthful next) (sym e) new
   old-or-new before next responses written out stays new old m (inr h) = λ t. stays (old m h t)
 
-  -- What was told stays true while Good is never left.
+  -- Responses that were true stay true, because Good is never left.
   truthful-on : (before next : ReceiverPhase) (responses : List (List ℕ)) (written : ℕ) (out : List ℕ) → (IsGood before → IsGood next) → Truthful next (take written out)
       → ((m : List ℕ) → List·Memᴰ m responses → Truthful before m)
       → (m : List ℕ) → List·Memᴰ m (withSent written out responses) → Truthful next m
@@ -129,7 +129,7 @@ module _ (file memory : List ℕ) (release : Release) (identity : Identity) wher
     lent-same lent (inl same) e = same
     lent-same lent (inr other) e = absurd (other e)
 
-    -- Done is believed only on a success that is true.
+    -- The indoor end goes to Done only on a success that a receiver in Good answered.
     believed : (response : List ℕ) → List·Memᴰ response (w .responses) → (w .indoor .state .phase ≡ Done) ⊎ entering.Succeeds (w .indoor .state .phase) response → IsGood (w .receiver .phase)
     believed response h (inl e) = s .done e
     believed response h (inr t) = s .truthful response h (subst Succeeds (sym (t .parsed)) refl)

@@ -53,7 +53,7 @@ use Rattle.line.proofs.AnyLine.{Safe}
 abbrev pub one : List ℕ → List (List ℕ)
 one bytes = pick (eqb (length bytes) 0) [] (bytes ∷ [])
 
--- What is written is what was led into the buffer.
+-- The message sent is the one that was written into the first bytes of the buffer.
 one-sent : (bytes out : List ℕ) → withSent (length bytes) (writtenInto bytes out) [] ≡ one bytes
 one-sent bytes out = rw (take-append-seam bytes (drop (length bytes) out))
 
@@ -66,7 +66,7 @@ later-same x y l m e = cc
 state-at : (state : State) (g : indoor.Phase) → state .phase ≡ g → state ≡ indoorState g (state .silence) (state .resends)
 state-at state g e = ap (λ (y : indoor.Phase). indoorState y (state .silence) (state .resends)) e
 
--- Where both ends stand, what is on its way up and down, and how many requests were sent.
+-- The phases of both ends, what is on its way up and down, and how many requests were sent.
 pub record At (x : Line) (p : receiver.Phase) (g : indoor.Phase) (up down : List (List ℕ)) (count : ℕ) : Type 0 where
   pub receiver : x .world .receiver .phase ≡ p
   pub indoor : x .world .indoor .state .phase ≡ g
@@ -74,7 +74,7 @@ pub record At (x : Line) (p : receiver.Phase) (g : indoor.Phase) (up down : List
   pub falling : x .down ≡ down
   pub sent : length (x .world .requests) ≡ count
 
--- The count under another name.
+-- The same with an equal count.
 pub counted : {x : Line} {p : receiver.Phase} {g : indoor.Phase} {up down : List (List ℕ)} {count count′ : ℕ} → At x p g up down count → count ≡ count′ → At x p g up down count′
 counted at e = record { receiver = at .receiver; indoor = at .indoor; rising = at .rising; falling = at .falling; sent = at .sent ∙ e }
 
@@ -118,7 +118,7 @@ module _ (file memory : List ℕ) (release : Release) (identity : Identity) wher
           sent = at .sent;
         }
 
-    -- A request that puts no block leaves the image as it lay.
+    -- A request that puts no block leaves the image as it was.
     pub heard-lies : (m : List ℕ) (p : receiver.Phase) (q : Request) (then : Step) → x .world .receiver .phase ≡ p → x .up ≡ m ∷ []
         → message.parsedRequestOf m ≡ Asked.Valid q → receiverDecideOf p q (length memory) 0 Ver.Good ≡ then → then .store ≡ Sto.Nowhere → x .world .image ≡ memory
         → (request : List ℕ) (later : List (List ℕ)) → x .up ≡ request ∷ later → call request .image ≡ memory

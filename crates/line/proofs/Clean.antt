@@ -1,4 +1,4 @@
--- A clean line is one of the lines that lose, repeat, delay and reorder; it only does none of it.
+-- A clean line is one of the lines that may lose, repeat, delay and reorder: one that does none of it.
 use Prim.Native.Nat.{ℕ}
 use mathlib.Core.Logic.{_⊎_, inl, inr}
 use mathlib.Core.Path.{_≡_, refl, sym, subst}

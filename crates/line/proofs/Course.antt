@@ -1,4 +1,4 @@
--- The course of a clean line: after each delivery it is known where both ends stand, what is on its way and how many requests were sent.
+-- The course of a clean line: after each delivery, the phases of both ends, what is on its way and how many requests were sent.
 use Prim.Native.Nat.{ℕ, suc, _+_, _*_, _≤_, _<_}
 use mathlib.Core.Bool.{Bool, true, false, true≢false}
 use mathlib.Core.Logic.{_⊎_, inl, inr}
@@ -71,7 +71,7 @@ low-or-last : (j n : ℕ) (t : Bool) → ltb j n ≡ t → j ≤ n → (j < n) �
 low-or-last j n true e h = inl (ltb-true j n e)
 low-or-last j n false e h = let no = ltb-false j n e in inr (omega arith)
 
--- What is reserved does not make a file newer.
+-- Reserved bits, which a reader clears, do not change whether a file is newer.
 newer-cleared : (release : Release) (identity : Identity) → Newer release identity → Newer release (cleared identity)
 newer-cleared release identity h = record { vendor = h .vendor; product = h .product; version = h .version }
 

@@ -16,7 +16,7 @@ use Rattle.indoor_rules.proofs.Reached.{length-within}
 use Rattle.line.specs.Line.{Line, AtRest, Wide, Clean}
 use Rattle.line.proofs.Course.{no-message, Course, asking, identified, notNewer, initiating, offered, tooLarge, aborted, block, receipt, closing, validating, succeeded, finished, safe, on-course}
 
--- At rest the indoor end stands there, and so many requests were sent.
+-- At rest the indoor end is in this phase, and so many requests were sent.
 pub record Rests (x : Line) (phase : Phase) (count : ℕ) : Type 0 where
   pub inPhase : x .world .indoor .state .phase ≡ phase
   pub requests : length (x .world .requests) ≡ count

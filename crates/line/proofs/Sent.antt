@@ -38,7 +38,7 @@ new-sent : (t : Bool) (x m : List ℕ) (sent : List (List ℕ)) → List·Memᴰ
 unfolding pick
 new-sent false x m sent (List·Memᴰ·head e) = List·Memᴰ·head e
 
--- What was sent stays sent.
+-- A message stays among those sent.
 still-sent : (written : ℕ) (out : List ℕ) (sent : List (List ℕ)) (m : List ℕ) → List·Memᴰ m sent → List·Memᴰ m (withSent written out sent)
 still-sent written out sent m h =
     pick-all (List·Memᴰ m) (eqb written 0) sent (take written out ∷ sent) (λ _. h) (λ _. List·Memᴰ·tail h)

@@ -1,4 +1,4 @@
--- A value of a type is as wide as the type.
+-- A value of the code's types has fields as wide as their types: what `Wide` asks of a session is so of every value.
 use mathlib.Core.List.{List}
 use mir.Val.{Val}
 use denote.Laws.{Is}

@@ -45,11 +45,11 @@ pub record World : Type 0 where
 abbrev pub Other : List ℕ → List ℕ → Type 0
 Other own lent = length lent ≡ length own → ⊥
 
--- What a call is lent: the memory itself, or such a one.
+-- What a call is lent: the memory itself, or one of another length.
 abbrev pub Lent : List ℕ → List ℕ → Type 0
 Lent own lent = (lent ≡ own) ⊎ Other own lent
 
--- The memory itself after a call that left `lent′` in what it was lent.
+-- The memory itself after a call that left `lent′` in what it was lent: a call that was lent another one does not touch it.
 abbrev pub ownAfter : (own lent lent′ : List ℕ) → Lent own lent → List ℕ
 ownAfter own lent lent′ (inl same) = lent′
 ownAfter own lent lent′ (inr other) = own
@@ -103,14 +103,14 @@ pub record AtRest (l : Line) : Type 0 where
   pub up : l .up ≡ []
   pub down : l .down ≡ []
 
--- The fields that go over the line are as wide as their types, two bytes: so of every value of the code.
+-- The fields that go over the line are as wide as their types, two bytes, as in every value of the code.
 pub record Wide (release : Release) (identity : Identity) : Type 0 where
   pub vendor : identity .vendor < 65536
   pub product : identity .product < 65536
   pub reported : Words (identity .versions)
   pub offered : Words (release .versions)
 
--- One session of one file: its bytes, the image memory as it lay before, what the file is offered as, and who the receiver is.
+-- One session of one file: its bytes, the image memory as it lay before, the file's vendor, product and versions, and the receiver's identity.
 module _ (file memory : List ℕ) (release : Release) (identity : Identity) where
   -- Both ends start fresh, the receiver with the first two settings and the indoor end with the others, and the line holds nothing but the
   -- request that the indoor end's start wrote.

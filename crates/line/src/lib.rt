@@ -1,2 +1,1 @@
-// Both ends over a line: what demand 3 says and why it holds, definitions and theorems alone. A clean line that runs is in the crate
-// `clean`.
+// Demand 3, both ends over a line: definitions and theorems, without code. The crate `clean` runs a clean line.

@@ -1,4 +1,4 @@
-// What a call returns of the session.
+// What a call returns, and the session after it.
 use receiver_state::answer::Answer;
 use receiver_state::phase::Phase;
 use receiver_state::session::Outcome;

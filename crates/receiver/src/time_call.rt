@@ -46,7 +46,7 @@ fn spend(session: Receiver, elapsed: u16, out: &mut [u8]) -> Outcome
     }
 }
 
-// Most time calls only count: nothing goes out then, and the identity is not looked at.
+// Most time calls only count silence: nothing is sent then, and the identity is not read.
 fn prompt(out: &mut [u8], identity: Identity, capacity: u32, answer: Answer) -> usize
     requires { ⌜ longest ≤ length (now out) ⌝ }
     ensures { λ r. ⌜ left r (now (out .exit)) ≡ returnsWritten (replyBytes (replyOf identity capacity answer)) (now (out .entry)) ⌝ }

@@ -118,7 +118,7 @@ fn close(accepted: Accepted) -> Step
     to(Phase::Await(accepted), Answer::Closed { number })
 }
 
-// A block that no image has passes every capacity, also one that no session has.
+// A number above the last one passes every capacity, also one that no session has: so what `take` adds up cannot wrap.
 fn passes_capacity(number: u16, size: usize, capacity: u32) -> bool
     ensures { λ r. ⌜ r ≡ passesCapacity number size capacity ⌝ }
 {

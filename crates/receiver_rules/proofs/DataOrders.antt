@@ -50,7 +50,7 @@ module _ (p : Progress) (number size capacity readiness : ℕ) (verdict : Verdic
         pub answers-23 : capacity < 256 * number + size → then ≡ goesTo Idle PassesCapacity
         answers-23 h = passing (end-passes number size capacity h)
 
-        -- A block that no image has, at a capacity that no session has.
+        -- A number above 4,095 is 23 at every capacity, also at one that no session has.
         pub answers-23-number : 4095 < number → then ≡ goesTo Idle PassesCapacity
         answers-23-number h = passing (number-passes number size capacity h)
 

@@ -1,4 +1,4 @@
--- What time does to the receiver, said back (01, The receiver's phases: Time; 01, Sizes and numbers).
+-- What time does to the receiver, case by case (01, The receiver's phases: Time; 01, Sizes and numbers).
 use Prim.Native.Nat.{ℕ, _+_, _<_, _≤_}
 use mathlib.Core.Path.{_≡_, refl}
 use native.Mathlib.Omega.{arith}

@@ -16,7 +16,7 @@ use Rattle.receiver_state.specs.declared.session.Receiver.{Receiver}
 use Rattle.receiver_state.specs.declared.session.Started.{Started}
 use Rattle.receiver_state.specs.declared.session.Started.the-variants.{Made, Refused}
 
--- A fresh session is in Idle, with the identity and the capacity that it was started with, this within the limit.
+-- A fresh session is in Idle, with the identity and the capacity that it was started with, at most 1,048,575.
 pub record Fresh (identity : Identity) (capacity : ℕ) (r : Receiver) : Type 0 where
   pub idle : r .phase ≡ Idle
   pub who : r .identity ≡ identity

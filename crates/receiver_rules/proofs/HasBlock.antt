@@ -1,4 +1,4 @@
--- A request whose block a step puts somewhere holds that block.
+-- A request whose block a step puts into the image is a DATA request: it has the four bytes before the block.
 use Prim.Native.Nat.{ℕ}
 use mathlib.Core.Path.{_≡_, _∙_, ap}
 use mathlib.Core.List.{List}

@@ -1,4 +1,4 @@
--- What every session that calls lead to holds: the accepted blocks, in order, are the first bytes of the image, and the counts are theirs.
+-- What holds in every session that calls lead to: the accepted blocks, in order, are the first bytes of the image, and the counts are theirs.
 use Prim.Native.Nat.{ℕ, _*_, _<_, _≤_}
 use mathlib.Core.Bool.{Bool, false}
 use mathlib.Core.Path.{_≡_, refl}
@@ -49,7 +49,7 @@ whole-bytes (block ∷ taken) h =
     let s = h .0 in
     omega arith
 
--- Not short means that the next block goes where the counts say.
+-- Where the newest is not short, all are 256 bytes.
 pub not-short : (taken : List (List ℕ)) → Sizes taken → shortOf taken ≡ false → Whole taken
 not-short [] h e = tt
 not-short (block ∷ taken) h e =

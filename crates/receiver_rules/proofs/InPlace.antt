@@ -52,7 +52,7 @@ module _ {r : Receiver} {image : List ℕ} {taken : List (List ℕ)} (h : Reache
   pub in-place : take (accepted .bytes) image ≡ inOrder taken
   in-place = counts .front
 
-  -- The counts are the blocks' own.
+  -- The counts are the number of the accepted blocks, and of their bytes.
   pub counted : (accepted .blocks ≡ length taken) × (accepted .bytes ≡ length (inOrder taken))
   counted = (counts .blocks, counts .bytes)
 
@@ -64,7 +64,7 @@ module _ {r : Receiver} {image : List ℕ} {taken : List (List ℕ)} (h : Reache
       let m = counts .bytes in
       omega arith
 
-  -- Whether the last block was short is whether it lacks anything.
+  -- `short` says whether the last block has fewer than 256 bytes.
   pub short-agrees : (p : Progress) → r .phase ≡ Transfer p → p .short ≡ shortOf taken
   short-agrees p e = held-short (r .capacity) image taken (r .phase) p e (reached-holds h)
 
@@ -75,6 +75,6 @@ module _ {r : Receiver} {image : List ℕ} {taken : List (List ℕ)} (h : Reache
   pub idle-nothing : r .phase ≡ Idle → (accepted ≡ nothingAccepted) × (taken ≡ [])
   idle-nothing e = (rw e refl, rw e at (reached-holds h))
 
-  -- The sum is the accepted blocks' own.
+  -- The image sum is the sum of the accepted blocks.
   pub sum-theirs : length image ≡ r .capacity → receiverSumOf r image ≡ Sum (sums.sumOf (inOrder taken))
   sum-theirs lent = sum-0 r image lent ∙ ap (λ x. Sum (sums.sumOf x)) in-place

@@ -1,4 +1,4 @@
--- The paper's sentences on the receiver's requests, said back of the definition (01, The receiver's phases; 01, Numbers we answer).
+-- The paper's sentences on the receiver's requests, as laws of the definition (01, The receiver's phases; 01, Numbers we answer).
 use Prim.Native.Nat.{ℕ}
 use mathlib.Core.Bool.{true, false, true≢false}
 use mathlib.Core.Path.{_≡_, refl, sym, _∙_}
@@ -19,7 +19,7 @@ use Rattle.receiver_rules.specs.Request.{Effect, imageAfter, receiverReq
 use Rattle.receiver_state.specs.declared.session.Receiver.{Receiver}
 use Rattle.receiver_rules.proofs.Walk.{request-walk}
 
--- What a step leaves alone is left alone.
+-- A step that puts no block keeps the image.
 nowhere-keeps : (s : Store) (image request : List ℕ) → s ≡ Nowhere → imageAfter s image request ≡ image
 unfolding imageAfter
 nowhere-keeps s image request e = rw e

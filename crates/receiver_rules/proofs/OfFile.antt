@@ -1,4 +1,4 @@
--- What one call owes demand 3: where every DATA request carries the file's block of its number, the accepted blocks are the file's first
+-- What demand 3 needs of one call: where every DATA request carries the file's block of its number, the accepted blocks are the file's first
 -- ones, in Await and Good all of them; and no byte behind the file's length is touched.
 use Prim.Native.Nat.{ℕ, _+_, _*_, _-_, _≤_}
 use mathlib.Core.Bool.{Bool, true, false}
@@ -120,7 +120,7 @@ module _ (file : List ℕ) where
   closed-at : (before phase : Phase) → before ≡ phase → Closed before → Closed phase
   closed-at before phase e h = rw e at h
 
-  -- The empty block is the file's only where no block is left.
+  -- An empty block is the file's block of its number only where the file ends before it.
   empty-closes : (request : List ℕ) (number : ℕ) → Carries request → message.parsedRequestOf request ≡ Valid (Req.Data number 0) → length file ≤ 256 * number
   empty-closes request number same e =
       let sized = request-sized request (Req.Data number 0) e .1 in

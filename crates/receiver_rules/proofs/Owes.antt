@@ -1,4 +1,4 @@
--- What every step of the receiver owes, by its answer, the phase that it comes from and the phase that it goes to.
+-- What holds of every step of the receiver, by its answer, the phase before it and the phase after it.
 use Prim.Native.Nat.{ℕ, _+_, _*_, _≤_, _<_}
 use mathlib.Core.Bool.{Bool, false, _||_}
 use mathlib.Core.Path.{_≡_, refl}

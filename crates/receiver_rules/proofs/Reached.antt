@@ -1,4 +1,4 @@
--- Every session that calls lead to holds what was accepted.
+-- In every session that calls lead to, the accepted blocks are the first bytes of the image, and the counts are theirs.
 use Prim.Native.Nat.{ℕ, _≤_}
 use mathlib.Core.Bool.{false}
 use mathlib.Core.Path.{_≡_, refl}
@@ -25,7 +25,7 @@ use Rattle.receiver_rules.proofs.Held.{Held, forgets-held}
 use Rattle.receiver_rules.proofs.Keeps.{decide-keeps}
 use Rattle.receiver_rules.proofs.Fresh.{start-fresh}
 
--- What is refused accepts no block.
+-- A request that is refused accepts no block.
 refused-block : (m : Parsed) (answered : ℕ) → eqb answered 0 ≡ false → blockAnswered m answered ≡ false
 refused-block Par.Malformed answered h = refl
 refused-block (Par.Valid Req.GetFwId) answered h = refl

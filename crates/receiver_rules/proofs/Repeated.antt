@@ -1,4 +1,4 @@
--- A block that was taken and comes again, because its receipt was lost, is 22 and stored nowhere.
+-- A block that was taken and comes again, because the response to it was lost, is 22 and stored nowhere.
 use Prim.Native.Nat.{ℕ, _+_, _≤_}
 use mathlib.Core.Bool.{Bool, false}
 use mathlib.Core.Path.{_≡_, _∙_, ap}

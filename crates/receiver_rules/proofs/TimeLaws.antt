@@ -1,4 +1,4 @@
--- The paper's sentences on the receiver's time calls, said back of the definition (01, The receiver's phases: Time).
+-- The paper's sentences on the receiver's time calls, as laws of the definition (01, The receiver's phases: Time).
 use Prim.Native.Nat.{ℕ, _+_, _<_, _≤_}
 use mathlib.Core.Path.{_≡_, refl, _∙_, ap}
 use mathlib.Core.List.{List}

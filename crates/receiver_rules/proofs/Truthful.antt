@@ -1,4 +1,4 @@
--- What one call owes whoever reads its response: success is told by a receiver that has marked the image good, and by no other.
+-- A response with the success bit comes from a receiver in Good, and from no other (01, The receiver's phases: VALIDATE).
 use Prim.Native.Nat.{ℕ}
 use mathlib.Core.Bool.{true, true≢false}
 use mathlib.Core.Path.{_≡_, refl, sym, ap, _∙_}
@@ -41,7 +41,7 @@ Succeeds (Par.Valid (Res.Validate status wait success)) = success ≡ true
 Succeeds (Par.Valid Res.NotBuilt) = ⊥
 Succeeds Par.Malformed = ⊥
 
--- What a reader may believe of a message from a receiver in this phase.
+-- A message from a receiver in this phase has the success bit only where the phase is Good.
 abbrev pub Truthful : Phase → List ℕ → Type 0
 Truthful phase m = Succeeds (parsedResponseOf m) → IsGood phase
 
@@ -93,7 +93,7 @@ module _ (r : Receiver) (image request : List ℕ) (readiness : ℕ) (verdict : 
   pub request-truthful : Truthful then (take (receiverRequestOf r image request readiness verdict out .outcome .written) (receiverRequestOf r image request readiness verdict out .out))
   request-truthful = rw (first-bytes r out _ _ (request-leads r image request readiness verdict out)) answer-truthful
 
-  -- What was told once stays true: Good is never left.
+  -- Success that was answered stays true: Good is never left.
   pub request-stays-good : IsGood (r .phase) → IsGood then
   request-stays-good = good-carried (r .phase) then (good-stays r image request readiness verdict out)
 

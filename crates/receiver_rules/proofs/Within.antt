@@ -1,4 +1,4 @@
--- Which blocks pass a capacity, and what one that does not has room for.
+-- Which blocks pass a capacity; one that does not ends within it, and its number is at most 4,095.
 use Prim.Native.Nat.{ℕ, _+_, _*_, _<_, _≤_}
 use mathlib.Core.Bool.{Bool, true, false, true≢false}
 use mathlib.Core.Path.{_≡_, refl}

@@ -18,22 +18,24 @@ use Rattle.receiver_state.specs.declared.answer.Answer.the-variants.{Identified
 use Rattle.receiver_state.specs.declared.step.Store.the-variants.{Nowhere, At}
 use Rattle.receiver_state.specs.declared.step.Step.{Step}
 
+-- The phase after the request, and the answer; no block is put.
 abbrev pub goesTo : Phase → Answer → Step
 goesTo phase answer = record { phase = phase; answer = answer; store = Nowhere }
 
 abbrev pub receiverProgress : Accepted → Bool → Progress
 receiverProgress accepted short = record { accepted = accepted; short = short }
 
--- INITIATE. Readiness 0: ready, phase Transfer with nothing accepted. Above 0: that wait, phase kept.
+-- INITIATE where it is taken. Readiness 0: ready, phase Transfer with nothing accepted. Above 0: that wait, phase kept.
 unfoldable pub offerOf : Phase → ℕ → Step
 offerOf phase readiness =
     pick (eqb readiness 0) (goesTo (Transfer (receiverProgress nothingAccepted false)) (Offered 0))
     (goesTo phase (Offered readiness))
 
--- .. in Transfer only with nothing accepted
+-- INITIATE in Transfer: 21 with a block accepted.
 unfoldable pub initiateAgainOf : Progress → ℕ → Step
 initiateAgainOf p readiness = pick (differ (p .accepted .blocks) 0) (goesTo (Transfer p) UnexpectedInitiate) (offerOf (Transfer p) readiness)
 
+-- INITIATE: in Idle, or Transfer with nothing accepted. Elsewhere 21.
 unfoldable pub receiverInitiateOf : Phase → ℕ → Step
 receiverInitiateOf Idle readiness = offerOf Idle readiness
 receiverInitiateOf (Transfer p) readiness = initiateAgainOf p readiness
@@ -44,7 +46,7 @@ receiverInitiateOf (Good a) readiness = goesTo (Good a) UnexpectedInitiate
 abbrev pub lastNumber : ℕ
 lastNumber = 4095
 
--- 23. A block that no image has passes every capacity.
+-- 23. A number above the last one passes every capacity.
 unfoldable pub passesCapacity : ℕ → ℕ → ℕ → Bool
 passesCapacity number size capacity = pick (ltb lastNumber number) true (blockPassesOf number size capacity)
 
@@ -69,31 +71,35 @@ receiverTransferOf p number size capacity readiness =
     (pick (passesCapacity number size capacity) (goesTo Idle PassesCapacity)
     (takeBlockOf number size readiness))))
 
+-- DATA. Await: the closing answer again. Idle or Good: 21.
 unfoldable pub receiverDataOf : Phase → ℕ → ℕ → ℕ → ℕ → Step
 receiverDataOf Idle number size capacity readiness = goesTo Idle UnexpectedData
 receiverDataOf (Transfer p) number size capacity readiness = receiverTransferOf p number size capacity readiness
 receiverDataOf (Await a) number size capacity readiness = goesTo (Await a) (Closed (a .blocks))
 receiverDataOf (Good a) number size capacity readiness = goesTo (Good a) UnexpectedData
 
--- VALIDATE in Await
+-- VALIDATE in Await. Good: phase Good, success. Bad: 25, Idle. Later: its wait, phase kept.
 unfoldable pub receiverVerdictOf : Accepted → Verdict → Step
 receiverVerdictOf accepted Ver.Good = goesTo (Good accepted) Success
 receiverVerdictOf accepted Ver.Bad = goesTo Idle VerdictBad
 receiverVerdictOf accepted (Ver.Later wait) = goesTo (Await accepted) (Later wait)
 
+-- VALIDATE. Good: success again whatever verdict is given. Idle or Transfer: 21.
 unfoldable pub receiverValidateOf : Phase → Verdict → Step
 receiverValidateOf Idle verdict = goesTo Idle UnexpectedValidate
 receiverValidateOf (Transfer p) verdict = goesTo (Transfer p) UnexpectedValidate
 receiverValidateOf (Await a) verdict = receiverVerdictOf a verdict
 receiverValidateOf (Good a) verdict = goesTo (Good a) Success
 
+-- ABORT: Transfer or Await go to Idle. Else 21.
 unfoldable pub receiverAbortOf : Phase → Step
 receiverAbortOf Idle = goesTo Idle Unexpected
 receiverAbortOf (Transfer p) = goesTo Idle Aborted
 receiverAbortOf (Await a) = goesTo Idle Aborted
 receiverAbortOf (Good a) = goesTo (Good a) Unexpected
 
--- DATA_NR, DATA_PAUSE and VENDOR_SPECIFIC: 21 in every phase (01, The parts of the cable job).
+-- GET_FW_ID: answered in every phase, phase kept. DATA_NR, DATA_PAUSE and VENDOR_SPECIFIC, which are not built: 21 in every phase
+-- (01, The parts of the cable job).
 unfoldable pub receiverDecideOf : Phase → Request → ℕ → ℕ → Verdict → Step
 receiverDecideOf phase Req.GetFwId capacity readiness verdict = goesTo phase Identified
 receiverDecideOf phase (Req.Initiate versions) capacity readiness verdict = receiverInitiateOf phase readiness

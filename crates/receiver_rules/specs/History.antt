@@ -1,5 +1,5 @@
--- Any calls from a fresh session, the same memory lent at each, and the blocks that were accepted: told from the requests, the answers'
--- numbers and which phase it is, never from the counts (01, Programs that should not pass: accepted is tied to bytes in place).
+-- Any calls from a fresh session, the same memory lent at each, and the blocks that were accepted: found by the requests, the numbers answered
+-- and the phases alone, never by the receiver's own counts (01, Programs that should not pass: accepted is tied to bytes in place).
 use Prim.Native.Nat.{ℕ}
 use mathlib.Core.Bool.{Bool, false, _&&_}
 use mathlib.Core.Path.{_≡_}
@@ -75,6 +75,7 @@ abbrev pub inOrder : List (List ℕ) → List ℕ
 inOrder [] = []
 inOrder (block ∷ taken) = inOrder taken ++ block
 
+-- A session, the image, and the accepted blocks, the newest first, after any calls.
 pub data Reached : Receiver → List ℕ → List (List ℕ) → Type 0 where
   starts : (limit resends : ℕ) (identity : Identity) (capacity : ℕ) (r : Receiver) (image : List ℕ) → receiverStartOf limit resends identity capacity ≡ Made r → Reached r image []
   asks : {r : Receiver} {image : List ℕ} {taken : List (List ℕ)} → Reached r image taken → (request : List ℕ) (readiness : ℕ) (verdict : Verdict) (out : List ℕ)

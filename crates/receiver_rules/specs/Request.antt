@@ -23,7 +23,7 @@ use Rattle.receiver_rules.specs.Respond.{receiverBytesOf}
 use Rattle.receiver_state.specs.declared.session.Receiver.{Receiver}
 use Rattle.receiver_state.specs.declared.session.Outcome.{Outcome}
 
--- The outcome, the image and the output buffer.
+-- What a request call returns, and the image and the output buffer that it leaves.
 pub record Effect : Type 0 where
   pub outcome : Outcome
   pub image : List ℕ
@@ -41,12 +41,12 @@ unfoldable pub imageAfter : Store → List ℕ → List ℕ → List ℕ
 imageAfter Nowhere image request = image
 imageAfter (At number) image request = putBlockOf image number (drop dataHead request) .memory
 
--- A request whose block is put somewhere has one.
+-- A request whose block is put into the image has the four bytes before the block.
 abbrev pub HasBlock : Store → List ℕ → Type 0
 HasBlock Nowhere request = Unit
 HasBlock (At number) request = dataHead ≤ length request
 
--- A well-formed request sets silence and resends to zero.
+-- A well-formed request sets silence and resends to zero, also one that is answered 21 to 25.
 abbrev pub requestDone : Receiver → Step → List ℕ → List ℕ → List ℕ → Effect
 requestDone r step image request out =
     effect (receiverReturns (receiverMoved r (step .phase) 0 0) (step .answer) (length (receiverBytesOf r (step .answer))))

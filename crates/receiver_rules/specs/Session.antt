@@ -1,4 +1,4 @@
--- A session of the receiver: how it starts, and what a call returns of it.
+-- A session of the receiver: how it starts, and what a call returns.
 use Prim.Native.Nat.{ℕ}
 use lib.Dec.{ltb}
 use Rattle.basis.specs.Pick.{pick}
@@ -15,6 +15,7 @@ use Rattle.receiver_state.specs.declared.session.Outcome.{Outcome}
 use Rattle.receiver_state.specs.declared.session.Started.{Started}
 use Rattle.receiver_state.specs.declared.session.Started.the-variants.{Made, Refused}
 
+-- Settings outside their limits: 29, no session. A fresh session is in Idle.
 unfoldable pub receiverFreshOf : Checked → Identity → ℕ → Started
 receiverFreshOf Che.Refused identity capacity = Refused
 receiverFreshOf (Che.Made settings) identity capacity =
@@ -25,6 +26,7 @@ unfoldable pub receiverStartOf : ℕ → ℕ → Identity → ℕ → Started
 receiverStartOf limit resends identity capacity =
     pick (ltb imageSizeMost capacity) Refused (receiverFreshOf (settingsOf limit resends) identity capacity)
 
+-- The session after a call, its answer, and how many bytes it wrote.
 abbrev pub receiverReturns : Receiver → Answer → ℕ → Outcome
 receiverReturns r answer written = record { session = r; answer = answer; written = written }
 

@@ -1,4 +1,4 @@
--- The sum of the accepted bytes, which are the first of the image (01, Sizes and numbers).
+-- The image sum: 28, or the sum of the accepted bytes, which are the first bytes of the image (01, Sizes and numbers).
 use Prim.Native.Nat.{ℕ}
 use mathlib.Core.List.{List}
 use lib.ListN.{length, take}

@@ -15,14 +15,16 @@ use Rattle.receiver_rules.specs.Respond.{receiverBytesOf}
 use Rattle.receiver_state.specs.declared.session.Receiver.{Receiver}
 use Rattle.receiver_state.specs.declared.session.Outcome.{Outcome}
 
+-- What the call returns and leaves once its tick is decided.
 abbrev pub receiverTickedOf : Receiver → Tick → List ℕ → Left Outcome
 receiverTickedOf r tick out =
     left (receiverReturns (receiverMoved r (tick .phase) (tick .silence) (tick .resends)) (tick .answer) (length (receiverBytesOf r (tick .answer))))
     (writtenInto (receiverBytesOf r (tick .answer)) out)
 
+-- What time does, by the session's phase
 unfoldable pub receiverElapsedOf : Receiver → ℕ → List ℕ → Left Outcome
 receiverElapsedOf r elapsed out = receiverTickedOf r (receiverTickOf (r .phase) (r .silence) elapsed (r .resends) (r .settings)) out
 
--- 27, and then what time does
+-- 27, or what time does
 unfoldable pub receiverTimeOf : Receiver → ℕ → List ℕ → Left Outcome
 receiverTimeOf r elapsed out = pick (ltb (length out) longest) (left (receiverReturns r BufferShort 0) out) (receiverElapsedOf r elapsed out)

@@ -1,2 +1,2 @@
-// What the receiver does, decisions, calls and histories: definitions and their laws alone. The code that meets them is in the crates above
-// (01, The receiver's phases).
+// What the receiver does, as definitions and laws, without code (01, The receiver's phases). The code that meets them is in receiver_decide
+// and receiver.

@@ -1,4 +1,4 @@
--- The paper's table of numbers and responses, said back in its own numbers (01, Numbers we answer; 01, The receiver's phases).
+-- The table of numbers and responses, in the paper's own numbers (01, Numbers we answer; 01, The receiver's phases).
 use Prim.Native.Nat.{ℕ}
 use mathlib.Core.Bool.{true, false}
 use mathlib.Core.Path.{_≡_, refl}
@@ -90,7 +90,7 @@ module _ (identity : Identity) (capacity : ℕ) where
   not-ok-unable BufferShort = tt
   not-ok-unable ImageLength = tt
 
--- Going to Idle sets accepted to zero, and with nothing accepted INITIATE starts (01, The receiver's phases).
+-- Going to Idle sets accepted to zero; so does a ready INITIATE answer (01, The receiver's phases).
 pub nothing-zero : (nothingAccepted .blocks ≡ 0) × (nothingAccepted .bytes ≡ 0)
 nothing-zero = (refl, refl)
 
@@ -98,7 +98,7 @@ nothing-zero = (refl, refl)
 pub accepted-rows : (p : Progress) (a : Accepted) → map acceptedOf (Idle ∷ Transfer p ∷ Await a ∷ Good a ∷ []) ≡ nothingAccepted ∷ p .accepted ∷ a ∷ a ∷ []
 accepted-rows p a = refl
 
--- 29, and 28 of a sum
+-- 29 of a start, and 28 of a sum
 pub started-rows : (r : Receiver) → map start.receiverStartNumberOf (Made r ∷ Refused ∷ []) ≡ 0 ∷ 29 ∷ []
 started-rows r = refl
 

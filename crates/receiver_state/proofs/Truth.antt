@@ -1,4 +1,4 @@
--- Success is told in Good alone: what an answer owes whoever believes it.
+-- Success is answered in Good alone (01, The receiver's phases: VALIDATE).
 use Rattle.receiver_state.specs.declared.answer.Answer.{Answer}
 use Rattle.receiver_state.specs.declared.answer.Answer.the-variants.{Identified, Offered, Asking, Closed, Success, Later, Aborted, Passed, Malformed, UnexpectedInitiate, UnexpectedData, UnexpectedValidate, Unexpected, NotDue, PassesCapacity, WrongFile, VerdictBad, OutOfRange, BufferShort, ImageLength}
 use Rattle.receiver_state.specs.declared.phase.Phase.{Phase}

@@ -34,7 +34,7 @@ receiverNumberOf OutOfRange = 26
 receiverNumberOf BufferShort = 27
 receiverNumberOf ImageLength = 28
 
--- 001 T5-18, T5-20, T5-22, T5-24
+-- The response of each type (001 T5-18, T5-20, T5-22, T5-24)
 unfoldable pub getFwIdResponse : Identity → Reply
 getFwIdResponse identity = Sends (Res.GetFwId (codeOf Ok) identity)
 

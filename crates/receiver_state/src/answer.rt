@@ -2,7 +2,7 @@
 use wire::response::Response;
 
 pub enum Answer {
-    // 0, by what was asked; `Passed` is time's.
+    // 0. A time call answers `Passed`, or `Asking` or `Closed` where it sends its DATA response again.
     Identified,
     Offered { wait: u8 },
     Asking { wait: u8, number: u16 },
@@ -13,7 +13,7 @@ pub enum Answer {
     Passed,
     // 20
     Malformed,
-    // 21, by the response that it needs; ABORT and what is not built get none.
+    // 21, by the type of the response; ABORT and the types that are not built get none.
     UnexpectedInitiate,
     UnexpectedData,
     UnexpectedValidate,

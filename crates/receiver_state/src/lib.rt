@@ -1,5 +1,5 @@
-// The receiver's types: where it stands, what comes with a request, what it answers and what is decided (01, The receiver's phases; 01,
-// Numbers we answer).
+// The receiver's types: its state, what comes with a request, what it answers and what is decided (01, The receiver's phases; 01, Numbers we
+// answer).
 pub mod answer;
 pub mod phase;
 pub mod session;

@@ -1,11 +1,11 @@
-// Where a receiver stands (01, The receiver's phases).
+// The receiver's phases, and the counts of what it has accepted (01, The receiver's phases).
 #[repr(C)]
 pub struct Accepted {
     pub blocks: u16,
     pub bytes: u32,
 }
 
-// `short` says whether the last block was.
+// `short`: the last accepted block had fewer than 256 bytes.
 pub struct Progress {
     pub accepted: Accepted,
     pub short: bool,

@@ -1,10 +1,10 @@
-// A session of the receiver: what it was started with, where it stands, and what a call returns of it.
+// A session of the receiver: what it was started with, its state, and what a call returns.
 use crate::answer::Answer;
 use crate::phase::Phase;
 use silence::Settings;
 use wire::response::Identity;
 
-// `silence` is in milliseconds, and `resends` counts those made.
+// `silence` is in milliseconds, and `resends` counts the resends made since the last well-formed request.
 pub struct Receiver {
     pub settings: Settings,
     pub identity: Identity,
@@ -19,7 +19,7 @@ pub enum Started {
     Refused,
 }
 
-// What a request and a time call answer: the session as it then stands, and how many bytes of the output buffer were written.
+// What a request and a time call return: the session after it, the answer, and how many bytes of the output buffer were written.
 pub struct Outcome {
     pub session: Receiver,
     pub answer: Answer,

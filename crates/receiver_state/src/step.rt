@@ -2,7 +2,7 @@
 use crate::answer::Answer;
 use crate::phase::Phase;
 
-// Whether the request's block is put into the image, and at which number's place.
+// Where in the image the request's block is put: nowhere, or at 256 × this number.
 pub enum Store {
     Nowhere,
     At(u16),

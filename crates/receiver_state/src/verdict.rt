@@ -1,4 +1,4 @@
-// The verdict that comes with each request: of the image's signature, worked out elsewhere (01, The receiver's phases).
+// The verdict on the image that comes with each request (01, The receiver's phases). Checking the signature is not built here.
 pub enum Verdict {
     Good,
     Bad,

@@ -1,4 +1,4 @@
--- The paper's sentences on settings and silence, said back of the definitions.
+-- The paper's sentences on settings and silence, as laws of the definitions (01, Sizes and numbers).
 use Prim.Native.Nat.{ℕ, _+_, _<_, _≤_}
 use mathlib.Core.Path.{_≡_, refl}
 use native.Mathlib.Omega.{arith}
@@ -39,7 +39,7 @@ outside-29 limit resends h =
 refused-made : (s : Settings) → Refused ≡ Made s → ⊥
 refused-made s e = let z : _≡_ {A = ℕ} 0 1 = cc in omega arith
 
--- What is made was within the limits.
+-- Settings that were made are within the limits.
 pub made-within : (limit resends : ℕ) (s : Settings) → settingsOf limit resends ≡ Made s → Within limit resends
 unfolding settingsOf
 made-within limit resends s =
@@ -57,7 +57,7 @@ module _ (silence elapsed made : ℕ) (settings : Settings) where
   abbrev after : Grown
   after = grownOf silence elapsed made settings
 
-  -- What holds below the limit, of a resend and of the end of resends holds of every call.
+  -- What holds in each of three cases, below the limit, with a resend left and with none left, holds of every call.
   pub grown-all : (P : Grown → Type 0) → (silence + elapsed < settings .limit → P (grown (silence + elapsed) made Quiet))
       → (settings .limit ≤ silence + elapsed → made < settings .resends → P (grown 0 (made + 1) Resend))
       → (settings .limit ≤ silence + elapsed → settings .resends ≤ made → P (grown 0 made NoneLeft)) → P after

@@ -23,7 +23,7 @@ use Rattle.wire.specs.declared.request.Parsed.the-variants.{Valid, Malfo
 use Rattle.wire.proofs.Walk.{Headed, Reader, HoldsOf, refused, valid-holds, of-length, of-type, with-header}
 use Rattle.wire.proofs.Halves.{bytes-low, bytes-high, bytes-word}
 
--- What the bytes of m and the request r that they are read as have to do with each other.
+-- How the bytes of m agree with the request r that they are read as.
 pub record Same (m : List ℕ) (r : Request) : Type 0 where
   pub there : BuiltRequest r → requestBytes r ++ blockIn m r ≡ m
   pub back : requestBytes r ++ blockIn m r ≡ m → BuiltRequest r

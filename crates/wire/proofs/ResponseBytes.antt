@@ -23,7 +23,7 @@ use Rattle.wire.proofs.Walk.{Reader, HoldsOf, refused, valid-holds, of-
 use Rattle.wire.proofs.RoundTrip.{response-back}
 use Rattle.wire.proofs.Halves.{bytes-low, bytes-high, bytes-word, upper-twice, rest-twice, first-back, second-back, third-back}
 
--- What the bytes of m and the response r that they are read as have to do with each other.
+-- How the bytes of m agree with the response r that they are read as.
 pub record Same (m : List ℕ) (r : Response) : Type 0 where
   pub there : Plain m r → responseBytes r ≡ m
   pub back : responseBytes r ≡ m → Plain m r

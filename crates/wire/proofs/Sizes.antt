@@ -1,4 +1,4 @@
--- Whatever is read as a DATA request holds its block: nobody who hands on the part from the fifth byte has to look.
+-- Whatever is read as a DATA request holds its block: the part from the fifth byte can be handed on untested.
 use borrow.Author.Tests.{ltb-false}
 use Prim.Native.Nat.{ℕ}
 use mathlib.Core.Path.{_≡_}

@@ -1,4 +1,4 @@
--- 001 T5-3 and T5-16 said back row by row, whatever else the message holds: what each type is read as, and that every other type is refused.
+-- 001 T5-3 and T5-16 row by row, whatever else the message holds: what each type is read as, and that every other type is refused.
 use Prim.Native.Nat.{ℕ}
 use mathlib.Core.Path.{_≡_, refl}
 use mathlib.Core.List.{List, [], _∷_, map}

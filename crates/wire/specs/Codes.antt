@@ -64,7 +64,7 @@ header = 2
 abbrev pub initiateLength : ℕ
 initiateLength = 10
 
--- 001 T5-8: what stands before the block
+-- 001 T5-8: what comes before the block
 abbrev pub dataHead : ℕ
 dataHead = 4
 

@@ -1,4 +1,4 @@
--- The fields of 001 T5-18, where they stand, and which of their bits are reserved.
+-- The fields of 001 T5-18, where they lie, and which of their bits are reserved.
 use Prim.Native.Nat.{ℕ, _+_, _*_, _/_, _%_}
 use mathlib.Core.List.{List}
 use Rattle.basis.specs.Bytes.{byteAt}

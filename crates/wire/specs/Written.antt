@@ -24,7 +24,7 @@ versionBytes v rest = low (v .first) ∷ high (v .first) ∷ low (v .second) ∷
 unfoldable pub initiateBytes : Versions → List ℕ
 initiateBytes v = version ∷ initiate ∷ versionBytes v []
 
--- 001 T5-8: what stands before the block
+-- 001 T5-8: what comes before the block
 unfoldable pub headBytes : ℕ → List ℕ
 headBytes n = version ∷ datum ∷ low n ∷ high n ∷ []
 

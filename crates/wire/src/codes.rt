@@ -44,7 +44,7 @@ pub const HEADER: usize = 2;
 // 001 T5-6.
 pub const INITIATE_LENGTH: usize = 10;
 
-// 001 T5-8: what stands before the block.
+// 001 T5-8: what comes before the block.
 pub const DATA_HEAD: usize = 4;
 
 // 001 T5-18.
