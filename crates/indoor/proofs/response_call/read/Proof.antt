@@ -18,5 +18,9 @@ read-spec =
     (λ c κs. search needs)
     (λ c κs. search needs)
     (λ c. search needs)
-    (λ c. let s = c .before .before .before .send in
-    rw (← (c .before .before .before .before .before .before .before .before .before .before .before .read-response .ensures), c .before .before .before .before .before .before .before .before .before .parsed .given .1, ← (c .before .before .before .before .before .decide .ensures), c .finish .ensures, answers (s .ensures), leaves (s .ensures))))
+    (λ c.
+    let sent = c .before .before .before in
+    let decided = sent .before .before in
+    let matched = decided .before .before .before .before in
+    let read = matched .before .before in
+    rw (← (read .read-response .ensures), matched .parsed .given .1, ← (decided .decide .ensures), c .finish .ensures, answers (sent .send .ensures), leaves (sent .send .ensures))))

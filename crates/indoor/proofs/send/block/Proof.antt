@@ -16,7 +16,15 @@ block-spec =
     (λ c κs. search needs)
     (λ c κs. search needs)
     (λ c.
-    let small = together-most _ _ _ _ _ (c .before .before .before .before .before .before .before .before .block-at .ensures) (answers (c .before .before .before .before .before .before .message .ensures)) in
+    let put = c .before .before .before .before in
+    let headed = put .before .before in
+    let found = headed .before .before in
+    let small = together-most _ _ _ _ _ (found .block-at .ensures) (answers (headed .message .ensures)) in
     search needs)
     (λ c. search needs)
-    (λ c. let a = c .before .before .before .before .before .before .before .before .before .before .before .args in rw (leaves (c .before .before .put .ensures), leaves (c .before .before .before .before .before .before .message .ensures), answers (c .before .before .before .before .before .before .message .ensures), c .before .before .before .before .before .before .before .before .block-at .ensures, block-written (now (a .file)) (a .number) (now (a .out)) (search needs), length-append)))
+    (λ c.
+    let put = c .before .before in
+    let headed = put .before .before .before .before in
+    let found = headed .before .before in
+    let a = found .before .before .before .args in
+    rw (leaves (put .put .ensures), leaves (headed .message .ensures), answers (headed .message .ensures), found .block-at .ensures, block-written (now (a .file)) (a .number) (now (a .out)) (search needs), length-append)))

@@ -17,4 +17,9 @@ message-spec =
     (λ c κs. search needs)
     (λ c κs. search needs)
     (λ c. search needs)
-    (λ c. let a = c .before .before .before .before .before .before .args in let fits = request-fits (a .request) in rw (leaves (c .before .before .send .ensures), c .before .before .before .before .write-request .ensures, sends-whole (requestBytes (a .request)) (now (a .out)) fits (omega arith))))
+    (λ c.
+    let sent = c .before .before in
+    let written = sent .before .before in
+    let a = written .before .before .args in
+    let fits = request-fits (a .request) in
+    rw (leaves (sent .send .ensures), written .write-request .ensures, sends-whole (requestBytes (a .request)) (now (a .out)) fits (omega arith))))

@@ -9,4 +9,7 @@ send-spec =
     (λ c κs. search needs)
     (λ c κs. search needs)
     (λ c. search needs)
-    (λ c. rw (← (c .before .before .before .before .before .answer-sends .ensures)) (c .before .before .deliver .ensures)))
+    (λ c.
+    let called = c .before .before in
+    let decided = called .before .before .before in
+    rw (← (decided .answer-sends .ensures)) (called .deliver .ensures)))

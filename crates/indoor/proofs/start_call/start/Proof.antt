@@ -14,4 +14,8 @@ start-spec =
     (λ c. rw (← (c .before .before .new .ensures), c .enum-told .given .1))
     (λ c κs. search needs)
     (λ c. search needs)
-    (λ c. rw (← (c .before .before .before .before .before .before .before .new .ensures), c .before .before .before .before .before .checked .given .1) (c .before .before .begin .ensures)))
+    (λ c.
+    let called = c .before .before in
+    let matched = called .before .before .before in
+    let checked = matched .before .before in
+    rw (← (checked .new .ensures), matched .checked .given .1) (called .begin .ensures)))

@@ -11,4 +11,8 @@ spend-spec =
     (λ c κs. search needs)
     (λ c κs. search needs)
     (λ c. search needs)
-    (λ c. let p = c .before .before .before .prompt in rw (← (c .before .before .before .before .before .pass .ensures), c .finish .ensures, answers (p .ensures), leaves (p .ensures))))
+    (λ c.
+    let responded = c .before .before .before in
+    let decided = responded .before .before in
+    let p = responded .prompt in
+    rw (← (decided .pass .ensures), c .finish .ensures, answers (p .ensures), leaves (p .ensures))))

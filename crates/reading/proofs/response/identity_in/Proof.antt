@@ -16,4 +16,9 @@ identity-in-spec =
     (λ c. search needs)
     (λ c. search needs)
     (λ c. search needs)
-    (λ c. simp (c .before .before .before .before .before .before .before .versions-at .ensures, c .before .before .before .before .before .before .before .before .word-at2 .ensures, c .before .before .before .before .before .before .before .before .before .word-at .ensures)))
+    (λ c.
+    let bytes = c .before .before .before .before in
+    let versions = bytes .before .before .before in
+    let product = versions .before in
+    let vendor = product .before in
+    simp (versions .versions-at .ensures, product .word-at2 .ensures, vendor .word-at .ensures)))

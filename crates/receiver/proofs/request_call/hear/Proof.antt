@@ -10,9 +10,18 @@ hear-spec =
     tie.close
     (tie.spec
     (λ c κs. search needs)
-    (λ c κs. let a = c .before .before .before .before .before .before .args in rw (c .before .decide .ensures) (decide-has (now (a .request)) (a .valid) (a .session .capacity) (c .before .before .before .before .before .before .pre .1) (a .session .phase) (a .readiness) (a .verdict)))
+    (λ c κs.
+    let decided = c .before in
+    let copied = decided .before .before in
+    let entered = copied .before .before .before in
+    let a = entered .args in
+    rw (decided .decide .ensures) (decide-has (now (a .request)) (a .valid) (a .session .capacity) (entered .pre .1) (a .session .phase) (a .readiness) (a .verdict)))
     (λ c κs. search needs)
     (λ c κs. search needs)
     (λ c. search needs)
     (λ c. search needs)
-    (λ c. rw (← (c .before .before .before .before .before .before .before .before .before .decide .ensures), c .moved .ensures, answers (c .before .before .before .respond .ensures), leaves (c .before .before .before .respond .ensures), c .before .before .before .before .before .before .before .apply .ensures)))
+    (λ c.
+    let responded = c .before .before .before in
+    let applied = responded .before .before .before .before in
+    let decided = applied .before .before in
+    rw (← (decided .decide .ensures), c .moved .ensures, answers (responded .respond .ensures), leaves (responded .respond .ensures), applied .apply .ensures)))

@@ -14,7 +14,14 @@ read-spec =
     (λ c. search needs)
     (λ c κs. search needs)
     (λ c. rw (← (c .before .before .before .read-request .ensures), c .before .enum-told .given .1, c .refused .ensures))
-    (λ c κs. (search needs, sym (c .before .before .before .before .before .read-request .ensures) ∙ c .before .before .before .parsed .given .1))
+    (λ c κs.
+    let matched = c .before .before .before in
+    let read = matched .before .before in
+    (search needs, sym (read .read-request .ensures) ∙ matched .parsed .given .1))
     (λ c. search needs)
     (λ c. search needs)
-    (λ c. rw (← (c .before .before .before .before .before .before .before .before .before .before .read-request .ensures), c .before .before .before .before .before .before .before .before .parsed .given .1) (c .before .before .before .before .hear .ensures)))
+    (λ c.
+    let called = c .before .before .before .before in
+    let matched = called .before .before .before .before in
+    let read = matched .before .before in
+    rw (← (read .read-request .ensures), matched .parsed .given .1) (called .hear .ensures)))

@@ -20,4 +20,7 @@ request-spec =
     (λ c κs. search needs)
     (λ c. search needs)
     (λ c. search needs)
-    (λ c. search (← (c .before .before .before .before .before .before .before .before .out-of-range .ensures), tests)))
+    (λ c.
+    let called = c .before .before .before .before in
+    let tested = called .before .before .before .before in
+    search (← (tested .out-of-range .ensures), tests)))

@@ -13,4 +13,7 @@ deliver-spec =
     (λ c κs. search needs)
     (λ c. rw (c .enum-told .given .1))
     (λ c. search needs)
-    (λ c. rw (c .before .before .before .before .before .reply .given .1) (c .before .before .send .ensures)))
+    (λ c.
+    let called = c .before .before in
+    let matched = called .before .before .before in
+    rw (matched .reply .given .1) (called .send .ensures)))

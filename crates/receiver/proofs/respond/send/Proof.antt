@@ -17,12 +17,24 @@ send-spec =
     (λ c. search needs)
     (λ c κs. search needs)
     (λ c. search needs)
-    (λ c. rw (c .before .before .before .before .before .response .given .1) (c .before .before .write .ensures))
+    (λ c.
+    let called = c .before .before in
+    let matched = called .before .before .before in
+    rw (matched .response .given .1) (called .write .ensures))
     (λ c. search needs)
-    (λ c. rw (c .before .before .before .before .before .response2 .given .1) (c .before .before .write2 .ensures))
+    (λ c.
+    let called = c .before .before in
+    let matched = called .before .before .before in
+    rw (matched .response2 .given .1) (called .write2 .ensures))
     (λ c. search needs)
-    (λ c. rw (c .before .before .before .before .before .response3 .given .1) (c .before .before .data-response .ensures))
+    (λ c.
+    let called = c .before .before in
+    let matched = called .before .before .before in
+    rw (matched .response3 .given .1) (called .data-response .ensures))
     (λ c. search needs)
-    (λ c. rw (c .before .before .before .before .before .response4 .given .1) (c .before .before .validate-response .ensures))
+    (λ c.
+    let called = c .before .before in
+    let matched = called .before .before .before in
+    rw (matched .response4 .given .1) (called .validate-response .ensures))
     (λ c. search needs)
     (λ c. rw (c .before .before .before .before .enum-told .given .1) (c .before .before .write3 .ensures)))

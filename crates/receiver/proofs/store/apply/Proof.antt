@@ -10,7 +10,13 @@ apply-spec =
     (tie.spec
     (λ c. search needs)
     (λ c. search needs)
-    (λ c κs. rw (c .before .before .store .given .1) at (c .before .before .before .before .before .before .pre))
+    (λ c κs.
+    let matched = c .before .before in
+    let entered = matched .before .before .before .before in
+    rw (matched .store .given .1) at (entered .pre))
     (λ c. rw (c .enum-told .given .1))
     (λ c. search needs)
-    (λ c. rw (c .before .before .before .before .before .store .given .1) (c .before .before .put .ensures)))
+    (λ c.
+    let called = c .before .before in
+    let matched = called .before .before .before in
+    rw (matched .store .given .1) (called .put .ensures)))

@@ -13,4 +13,7 @@ spend-spec =
     (λ c κs. search needs)
     (λ c κs. search needs)
     (λ c. search needs)
-    (λ c. rw (← (c .before .before .before .before .before .pass .ensures), c .moved .ensures, answers (c .before .before .before .prompt .ensures), leaves (c .before .before .before .prompt .ensures))))
+    (λ c.
+    let responded = c .before .before .before in
+    let decided = responded .before .before in
+    rw (← (decided .pass .ensures), c .moved .ensures, answers (responded .prompt .ensures), leaves (responded .prompt .ensures))))

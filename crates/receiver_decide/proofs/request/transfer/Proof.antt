@@ -21,5 +21,9 @@ transfer-spec =
     (λ c κs. search needs)
     (λ c κs. search needs)
     (λ c. search (← (c .before .before .passes-capacity .ensures), tests))
-    (λ c κs. let a = c .before .before .before .before .before .args in let w = within (a .number) (a .size) (a .capacity) (sym (c .before .passes-capacity .ensures) ∙ c .if4 .left) in (omega arith, omega arith))
+    (λ c κs.
+    let tested = c .before .before .before in
+    let a = tested .before .before .args in
+    let w = within (a .number) (a .size) (a .capacity) (sym (c .before .passes-capacity .ensures) ∙ c .if4 .left) in
+    (omega arith, omega arith))
     (λ c. search (← (c .before .before .passes-capacity .ensures), tests)))

@@ -23,7 +23,8 @@ lead-spec =
     (λ c κs. search needs)
     (λ c. search needs)
     (λ c.
-    let a = c .before .before .before .before .before .before .before .before .args in
+    let put = c .before .before .before .before in
+    let a = put .before .before .before .before .args in
     let room : length (a .t2) ≡ 22 = search needs in
     let whole : length (take (a .len) (a .t2)) ≡ a .len = length-take-le (a .len) (a .t2) (omega arith) in
     rw (leaves (c .before .before .put .ensures ∙ put-leads (take (a .len) (a .t2)) (now (a .out)) (omega arith))) (search tests)))

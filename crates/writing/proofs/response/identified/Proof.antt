@@ -23,4 +23,9 @@ identified-spec =
     (λ c. search needs)
     (λ c. search needs)
     (λ c κs. search needs)
-    (λ c. simp (c .made .ensures, c .before .before .before .before .before .before .before .before .before .before .before .before .before .before .before .cleared .ensures)))
+    (λ c.
+    let late = c .before .before .before .before in
+    let middle = late .before .before .before .before in
+    let early = middle .before .before .before .before in
+    let clear = early .before .before .before in
+    simp (c .made .ensures, clear .cleared .ensures)))
