@@ -17,7 +17,7 @@ use wire::response::Identity;
 use wire::response::Response;
 use wire::status::Status;
 ghost use mathlib.Core.Path.{_≡_};
-ghost use Rattle.indoor_rules.specs.Decide.{passedOver, sendsBlock, notOk, whereOk, comparedOf, readyOf, offeredOf, indoorCloseNumberOf, indoorCloseOf, blockAskedOf, indoorDataOf, indoorSuccessOf, indoorValidatedOf, indoorIdentifyOf, indoorInitiateOf, indoorTransferOf, indoorValidateOf, indoorDecideIn, indoorDecideOf};
+ghost use Rattle.indoor_rules.specs.Decide.{passedOver, sendsBlock, notOk, whereOk, comparedOf, readyOf, indoorOfferedOf, indoorCloseNumberOf, indoorCloseOf, blockAskedOf, indoorDataOf, indoorSuccessOf, indoorValidatedOf, indoorIdentifyOf, indoorInitiateOf, indoorTransferOf, indoorValidateOf, indoorDecideIn, indoorDecideOf};
 
 // WaitTime counts 10 ms in an INITIATE response (01, Sizes and numbers).
 const INITIATE_UNIT: u16 = 10;
@@ -97,7 +97,7 @@ fn initiate(plan: Plan, state: State, response: Response) -> Step
 }
 
 fn offered(plan: Plan, wait: u8, size: u32) -> Step
-    ensures { λ r. ⌜ r ≡ offeredOf plan wait size ⌝ }
+    ensures { λ r. ⌜ r ≡ indoorOfferedOf plan wait size ⌝ }
 {
     if wait == codes::UNABLE {
         return fails(Reason::Refused);

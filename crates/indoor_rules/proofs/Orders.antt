@@ -13,7 +13,7 @@ use Rattle.wire.specs.declared.response.Response.the-variants as Res
 use Rattle.indoor_state.specs.Phase.{indoorProgress, indoorState}
 use Rattle.indoor_state.specs.Step.{indoorStep}
 use Rattle.indoor_rules.specs.Step.{emptiedBy}
-use Rattle.indoor_rules.specs.Decide.{notOk, whereOk, comparedOf, readyOf, offeredOf, indoorCloseNumberOf, indoorCloseOf, blockAskedOf, indoorDataOf, indoorSuccessOf, indoorValidatedOf, indoorIdentifyOf, indoorInitiateOf, indoorTransferOf, indoorValidateOf, indoorDecideIn, indoorDecideOf}
+use Rattle.indoor_rules.specs.Decide.{notOk, whereOk, comparedOf, readyOf, indoorOfferedOf, indoorCloseNumberOf, indoorCloseOf, blockAskedOf, indoorDataOf, indoorSuccessOf, indoorValidatedOf, indoorIdentifyOf, indoorInitiateOf, indoorTransferOf, indoorValidateOf, indoorDecideIn, indoorDecideOf}
 use Rattle.indoor_state.specs.declared.plan.Plan.{Plan}
 use Rattle.indoor_state.specs.declared.phase.Reason.{Reason}
 use Rattle.indoor_state.specs.declared.phase.Reason.the-variants.{Refused, NotNewer, TooLarge, WrongNumber, NotValid}
@@ -61,21 +61,21 @@ module _ (plan : Plan) (silence resends : ℕ) where
     initiate-41-status status wait h = rw (ne-differ status 0 h)
 
     pub initiate-41-wait : then (Initiate left) (Res.Initiate 0 255 size) ≡ failed Refused
-    unfolding indoorDecideIn indoorInitiateOf offeredOf whereOk notOk differ pick
+    unfolding indoorDecideIn indoorInitiateOf indoorOfferedOf whereOk notOk differ pick
     initiate-41-wait = refl
 
     -- The size of a waiting answer is not looked at. WaitTime counts 10 ms.
     pub initiate-waits : (wait : ℕ) → 0 < wait → wait ≤ 254 → then (Initiate left) (Res.Initiate 0 wait size) ≡ accepted (Initiate (10 * wait)) Ans.Waiting
-    unfolding indoorDecideIn indoorInitiateOf offeredOf whereOk notOk differ pick
+    unfolding indoorDecideIn indoorInitiateOf indoorOfferedOf whereOk notOk differ pick
     initiate-waits wait some most = rw (ne-eqb wait 255 (λ e. omega arith), ne-eqb wait 0 (λ e. omega arith))
 
     pub initiate-43 : size < plan .length → then (Initiate left) (Res.Initiate 0 0 size) ≡ failed TooLarge
-    unfolding indoorDecideIn indoorInitiateOf offeredOf readyOf whereOk notOk differ pick
+    unfolding indoorDecideIn indoorInitiateOf indoorOfferedOf readyOf whereOk notOk differ pick
     initiate-43 h = rw (lt-ltb size (plan .length) h)
 
     -- A ready INITIATE answer brings block 0.
     pub initiated : plan .length ≤ size → 0 < n → then (Initiate left) (Res.Initiate 0 0 size) ≡ accepted (Transfer (indoorProgress 0 0 false)) (Ans.Sending 0)
-    unfolding indoorDecideIn indoorInitiateOf offeredOf readyOf whereOk notOk differ emptiedBy pick
+    unfolding indoorDecideIn indoorInitiateOf indoorOfferedOf readyOf whereOk notOk differ emptiedBy pick
     initiated h some = rw (le-ltb size (plan .length) h, ne-eqb 0 n (λ e. omega arith))
 
   -- DATA in Transfer, in a wait or not

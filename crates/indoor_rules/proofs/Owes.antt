@@ -16,7 +16,7 @@ use Rattle.indoor_state.specs.Step.{indoorStep}
 use Rattle.indoor_rules.specs.Step.{emptyNumber, emptiedBy}
 use Rattle.indoor_rules.proofs.Accepted.{emptied-only, emptied-stays, emptied-last}
 use Rattle.indoor_rules.specs.Newer.{newerOf}
-use Rattle.indoor_rules.specs.Decide.{sendsBlock, notOk, whereOk, comparedOf, readyOf, offeredOf, indoorCloseNumberOf, indoorCloseOf, blockAskedOf, indoorDataOf, indoorSuccessOf, indoorValidatedOf, indoorIdentifyOf, indoorInitiateOf, indoorTransferOf, indoorValidateOf, indoorDecideIn, indoorDecideOf}
+use Rattle.indoor_rules.specs.Decide.{sendsBlock, notOk, whereOk, comparedOf, readyOf, indoorOfferedOf, indoorCloseNumberOf, indoorCloseOf, blockAskedOf, indoorDataOf, indoorSuccessOf, indoorValidatedOf, indoorIdentifyOf, indoorInitiateOf, indoorTransferOf, indoorValidateOf, indoorDecideIn, indoorDecideOf}
 use Rattle.indoor_state.specs.declared.plan.Plan.{Plan}
 use Rattle.indoor_state.specs.declared.phase.Progress.{Progress}
 use Rattle.indoor_state.specs.declared.phase.Phase.{Phase}
@@ -219,8 +219,8 @@ module _ (plan : Plan) (silence resends : ℕ) where
       pick-all (P (Initiate left) (Res.Initiate status wait size)) (ltb size (plan .length)) _ _ (λ _. search)
       (λ t. let fits = ltb-false size (plan .length) t in search)
 
-  initiated-row : (left status wait size : ℕ) → P (Initiate left) (Res.Initiate status wait size) (whereOk status (offeredOf plan wait size))
-  unfolding whereOk notOk offeredOf
+  initiated-row : (left status wait size : ℕ) → P (Initiate left) (Res.Initiate status wait size) (whereOk status (indoorOfferedOf plan wait size))
+  unfolding whereOk notOk indoorOfferedOf
   initiated-row left status wait size =
       search (pick-all (P (Initiate left) (Res.Initiate status wait size)), ready-row, eqb-true, differ-false) depth 8
 

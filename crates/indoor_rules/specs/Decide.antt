@@ -48,8 +48,8 @@ unfoldable pub readyOf : Plan → ℕ → Step
 readyOf plan size = pick (ltb size (plan .length)) (fails TooLarge) (sendsBlock plan 0 false)
 
 -- WaitTime counts 10 ms in an INITIATE response. 255 is 41, any other but 0 means wait, then send again.
-unfoldable pub offeredOf : Plan → ℕ → ℕ → Step
-offeredOf plan wait size =
+unfoldable pub indoorOfferedOf : Plan → ℕ → ℕ → Step
+indoorOfferedOf plan wait size =
     pick (eqb wait unable) (fails Refused)
     (pick (eqb wait 0) (readyOf plan size)
     (goes (Initiate (10 * wait)) Ans.Waiting))
@@ -93,7 +93,7 @@ indoorIdentifyOf plan state Res.NotBuilt = passedOver state
 
 unfoldable pub indoorInitiateOf : Plan → State → Response → Step
 indoorInitiateOf plan state (Res.GetFwId status reported) = passedOver state
-indoorInitiateOf plan state (Res.Initiate status wait size) = whereOk status (offeredOf plan wait size)
+indoorInitiateOf plan state (Res.Initiate status wait size) = whereOk status (indoorOfferedOf plan wait size)
 indoorInitiateOf plan state (Res.Data status wait number) = passedOver state
 indoorInitiateOf plan state (Res.Validate status wait success) = passedOver state
 indoorInitiateOf plan state Res.NotBuilt = passedOver state

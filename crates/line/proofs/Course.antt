@@ -145,7 +145,7 @@ module _ (file memory : List ℕ) (release : Release) (identity : Identity) wher
       block-taken : (j : ℕ) (p : Progress) (q : sending.Progress) → k ≡ 4 + 2 * j → Fits
           → j < n → p .accepted .blocks ≡ j → p .short ≡ false
           → At x (Transfer p) (In.Transfer q) (asks (Ans.Sending j) ∷ []) [] (3 + j) → Course (suc k) next
-      unfolding blocksOf sendsBytes replyBytes replyOf replies.dataResponse responseBytes receiptBytes pick
+      unfolding blocksOf sendsBytes replyBytes replyOf replies.dataReply responseBytes receiptBytes pick
       block-taken j p q c fit low due whole at =
           let fits = fit .room in
           let size : ℕ = length (blockAt file j) in
@@ -161,7 +161,7 @@ module _ (file memory : List ℕ) (release : Release) (identity : Identity) wher
       block-closed : (j : ℕ) (p : Progress) (q : sending.Progress) → k ≡ 4 + 2 * j → Fits
           → j ≡ n → p .accepted .blocks ≡ j → q .emptied ≡ true
           → At x (Transfer p) (In.Transfer q) (asks (Ans.Sending j) ∷ []) [] (3 + j) → Course (suc k) next
-      unfolding sendsBytes replyBytes replyOf replies.dataResponse responseBytes receiptBytes pick
+      unfolding sendsBytes replyBytes replyOf replies.dataReply responseBytes receiptBytes pick
       block-closed j p q c fit last due emptied at =
           let few = few in
           let some = some in
@@ -181,7 +181,7 @@ module _ (file memory : List ℕ) (release : Release) (identity : Identity) wher
       block-either j p q c fit (inr last) due whole emptied at = block-closed j p q c fit last due (emptied last) at
 
       moves-up : Course k x → Course (suc k) next
-      unfolding sendsBytes requestBytes replyBytes replyOf replies.getFwIdResponse replies.initiateResponse replies.validateResponse responseBytes identifiedBytes initiatedBytes validatedBytes pick
+      unfolding sendsBytes requestBytes replyBytes replyOf replies.getFwIdReply replies.initiateReply replies.validateReply responseBytes identifiedBytes initiatedBytes validatedBytes pick
       moves-up (asking c lies at) =
           identified (omega arith) (heard-lies file memory release identity x s out room (asks Ans.Identifying) Idle Req.GetFwId (goesTo Idle Identified) (at .receiver) (at .rising) (whole-read Req.GetFwId tt refl)
           (rows.identified-everywhere (length memory) Idle 0 Ver.Good) refl lies request later e)
@@ -229,11 +229,11 @@ module _ (file memory : List ℕ) (release : Release) (identity : Identity) wher
       i = x .world .indoor
 
       identity-read : answer.parsedResponseOf (says Identified) ≡ ResPar.Valid (Res.GetFwId 0 (cleared identity))
-      unfolding replyBytes replyOf replies.getFwIdResponse
+      unfolding replyBytes replyOf replies.getFwIdReply
       identity-read = response-back (Res.GetFwId 0 identity) tt (wide .vendor, wide .product, wide .reported)
 
       offer-read : answer.parsedResponseOf (says (Offered 0)) ≡ ResPar.Valid (Res.Initiate 0 0 (length memory))
-      unfolding replyBytes replyOf replies.initiateResponse
+      unfolding replyBytes replyOf replies.initiateReply
       offer-read =
           let most = reached-capacity (s .accepted .reached) in
           let capacity = s .capacity in
@@ -279,7 +279,7 @@ module _ (file memory : List ℕ) (release : Release) (identity : Identity) wher
       next-block : (j : ℕ) (p : Progress) (q : sending.Progress) → k ≡ 5 + 2 * j → Fits
           → j < n → p .accepted .blocks ≡ j + 1 → (j + 1 < n → p .short ≡ false)
           → At x (Transfer p) (In.Transfer q) [] (says (Asking 0 (j + 1)) ∷ []) (3 + j) → Course (suc k) then
-      unfolding replyBytes replyOf replies.dataResponse
+      unfolding replyBytes replyOf replies.dataReply
       next-block j p q c fit low due whole at =
           let few = few in
           let last = last-same in
@@ -294,7 +294,7 @@ module _ (file memory : List ℕ) (release : Release) (identity : Identity) wher
 
       close : (a : Accepted) (q : sending.Progress) → k ≡ 5 + 2 * n → Fits → q .emptied ≡ true
           → At x (Await a) (In.Transfer q) [] (says (Closed n) ∷ []) (3 + n) → Course (suc k) then
-      unfolding sendsBytes requestBytes bareBytes replyBytes replyOf replies.dataResponse pick
+      unfolding sendsBytes requestBytes bareBytes replyBytes replyOf replies.dataReply pick
       close a q c fit emptied at =
           let few = few in
           validating a (omega arith) fit
@@ -305,7 +305,7 @@ module _ (file memory : List ℕ) (release : Release) (identity : Identity) wher
           (omega arith))
 
       moves-down : Course k x → Course (suc k) then
-      unfolding sendsBytes replyBytes replyOf replies.validateResponse pick
+      unfolding sendsBytes replyBytes replyOf replies.validateReply pick
       moves-down (asking c lies at) = absurd (no-message (x .down) later response (at .falling) e)
       moves-down (identified c lies at) = compared (newerOf release identity) refl c lies at
       moves-down (notNewer c new lies at) = absurd (no-message (x .down) later response (at .falling) e)

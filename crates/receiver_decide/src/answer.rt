@@ -7,7 +7,7 @@ use wire::response::Identity;
 use wire::response::Response;
 use wire::status::Status;
 ghost use mathlib.Core.Path.{_≡_};
-ghost use Rattle.receiver_state.specs.Answer.{getFwIdResponse, initiateResponse, dataResponse, validateResponse, receiverNumberOf, replyOf};
+ghost use Rattle.receiver_state.specs.Answer.{getFwIdReply, initiateReply, dataReply, validateReply, receiverNumberOf, replyOf};
 
 // 01, Numbers we answer.
 pub fn answer_number(answer: Answer) -> u8
@@ -42,53 +42,49 @@ pub fn reply(answer: Answer, identity: Identity, capacity: u32) -> Reply
     ensures { λ r. ⌜ r ≡ replyOf identity capacity answer ⌝ }
 {
     match answer {
-        Answer::Identified => get_fw_id_response(identity),
-        Answer::Offered { wait } => initiate_response(Status::Ok, wait, capacity),
-        Answer::Asking { wait, number } => data_response(Status::Ok, wait, number),
-        Answer::Closed { number } => data_response(Status::Ok, codes::UNABLE, number),
-        Answer::Success => validate_response(Status::Ok, 0, true),
-        Answer::Later { wait } => validate_response(Status::Ok, wait, false),
+        Answer::Identified => get_fw_id_reply(identity),
+        Answer::Offered { wait } => initiate_reply(Status::Ok, wait, capacity),
+        Answer::Asking { wait, number } => data_reply(Status::Ok, wait, number),
+        Answer::Closed { number } => data_reply(Status::Ok, codes::UNABLE, number),
+        Answer::Success => validate_reply(Status::Ok, 0, true),
+        Answer::Later { wait } => validate_reply(Status::Ok, wait, false),
         Answer::Aborted => Reply::Nothing,
         Answer::Passed => Reply::Nothing,
         Answer::Malformed => Reply::Nothing,
-        Answer::UnexpectedInitiate => initiate_response(
-            Status::UnexpectedRequest,
-            codes::UNABLE,
-            0,
-        ),
-        Answer::UnexpectedData => data_response(Status::UnexpectedRequest, codes::UNABLE, 0),
-        Answer::UnexpectedValidate => validate_response(
+        Answer::UnexpectedInitiate => initiate_reply(Status::UnexpectedRequest, codes::UNABLE, 0),
+        Answer::UnexpectedData => data_reply(Status::UnexpectedRequest, codes::UNABLE, 0),
+        Answer::UnexpectedValidate => validate_reply(
             Status::UnexpectedRequest,
             codes::UNABLE,
             false,
         ),
         Answer::Unexpected => Reply::Nothing,
-        Answer::NotDue { due } => data_response(Status::Ok, 0, due),
-        Answer::PassesCapacity => data_response(Status::Address, codes::UNABLE, 0),
-        Answer::WrongFile => data_response(Status::File, codes::UNABLE, 0),
-        Answer::VerdictBad => validate_response(Status::Ok, 0, false),
+        Answer::NotDue { due } => data_reply(Status::Ok, 0, due),
+        Answer::PassesCapacity => data_reply(Status::Address, codes::UNABLE, 0),
+        Answer::WrongFile => data_reply(Status::File, codes::UNABLE, 0),
+        Answer::VerdictBad => validate_reply(Status::Ok, 0, false),
         Answer::OutOfRange => Reply::Nothing,
         Answer::BufferShort => Reply::Nothing,
         Answer::ImageLength => Reply::Nothing,
     }
 }
 
-fn get_fw_id_response(identity: Identity) -> Reply
-    ensures { λ r. ⌜ r ≡ getFwIdResponse identity ⌝ }
+fn get_fw_id_reply(identity: Identity) -> Reply
+    ensures { λ r. ⌜ r ≡ getFwIdReply identity ⌝ }
 {
     let status = status_code(Status::Ok);
     Reply::Sends(Response::GetFwId { status, identity })
 }
 
-fn initiate_response(status: Status, wait: u8, size: u32) -> Reply
-    ensures { λ r. ⌜ r ≡ initiateResponse status wait size ⌝ }
+fn initiate_reply(status: Status, wait: u8, size: u32) -> Reply
+    ensures { λ r. ⌜ r ≡ initiateReply status wait size ⌝ }
 {
     let status = status_code(status);
     Reply::Sends(Response::Initiate { status, wait, size })
 }
 
-fn data_response(status: Status, wait: u8, number: u16) -> Reply
-    ensures { λ r. ⌜ r ≡ dataResponse status wait number ⌝ }
+fn data_reply(status: Status, wait: u8, number: u16) -> Reply
+    ensures { λ r. ⌜ r ≡ dataReply status wait number ⌝ }
 {
     let status = status_code(status);
     Reply::Sends(Response::Data {
@@ -98,8 +94,8 @@ fn data_response(status: Status, wait: u8, number: u16) -> Reply
     })
 }
 
-fn validate_response(status: Status, wait: u8, success: bool) -> Reply
-    ensures { λ r. ⌜ r ≡ validateResponse status wait success ⌝ }
+fn validate_reply(status: Status, wait: u8, success: bool) -> Reply
+    ensures { λ r. ⌜ r ≡ validateReply status wait success ⌝ }
 {
     let status = status_code(status);
     Reply::Sends(Response::Validate {

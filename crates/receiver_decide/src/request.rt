@@ -10,7 +10,7 @@ use receiver_state::verdict::Verdict;
 use wire::request::Request;
 ghost use mathlib.Core.Path.{_≡_};
 ghost use Prim.Native.Nat.{_+_, _*_, _≤_, _<_};
-ghost use Rattle.receiver_rules.specs.Decide.{lastNumber, goesTo, offerOf, initiateAgainOf, receiverInitiateOf, passesCapacity, closeTransferOf, takeBlockOf, receiverTransferOf, receiverDataOf, receiverVerdictOf, receiverValidateOf, receiverAbortOf, receiverDecideOf};
+ghost use Rattle.receiver_rules.specs.Decide.{lastNumber, goesTo, receiverOfferOf, initiateInTransferOf, receiverInitiateOf, passesCapacity, closeTransferOf, takeBlockOf, receiverTransferOf, receiverDataOf, receiverVerdictOf, receiverValidateOf, receiverAbortOf, receiverDecideOf};
 
 // An image of 1,048,575 bytes has no block above this number (01, Sizes and numbers).
 const LAST_NUMBER: u16 = 4095;
@@ -56,7 +56,7 @@ fn initiate(phase: Phase, readiness: u8) -> Step
 }
 
 fn again(p: Progress, readiness: u8) -> Step
-    ensures { λ r. ⌜ r ≡ initiateAgainOf p readiness ⌝ }
+    ensures { λ r. ⌜ r ≡ initiateInTransferOf p readiness ⌝ }
 {
     if p.accepted.blocks != 0 {
         return to(Phase::Transfer(p), Answer::UnexpectedInitiate);
@@ -65,7 +65,7 @@ fn again(p: Progress, readiness: u8) -> Step
 }
 
 fn offer(phase: Phase, readiness: u8) -> Step
-    ensures { λ r. ⌜ r ≡ offerOf phase readiness ⌝ }
+    ensures { λ r. ⌜ r ≡ receiverOfferOf phase readiness ⌝ }
 {
     if readiness == 0 {
         let fresh = Progress {

@@ -13,7 +13,7 @@ use Rattle.receiver_state.specs.declared.phase.Accepted.{Accepted}
 use Rattle.receiver_state.specs.declared.phase.Progress.{Progress}
 use Rattle.receiver_state.specs.declared.phase.Phase.{Phase}
 use Rattle.receiver_state.specs.declared.phase.Phase.the-variants.{Idle, Transfer, Await, Good}
-use Rattle.receiver_rules.specs.Decide.{goesTo, receiverProgress, offerOf, initiateAgainOf, receiverInitiateOf, receiverDataOf, receiverVerdictOf, receiverValidateOf, receiverAbortOf, receiverDecideOf}
+use Rattle.receiver_rules.specs.Decide.{goesTo, receiverProgress, receiverOfferOf, initiateInTransferOf, receiverInitiateOf, receiverDataOf, receiverVerdictOf, receiverValidateOf, receiverAbortOf, receiverDecideOf}
 use Rattle.receiver_state.specs.declared.verdict.Verdict.{Verdict}
 use Rattle.receiver_state.specs.declared.verdict.Verdict.the-variants as Ver
 
@@ -31,28 +31,28 @@ module _ (capacity : ℕ) where
   module _ (v : Versions) (verdict : Verdict) where
     -- INITIATE in Idle, or Transfer with nothing accepted. Readiness 0: ready, phase Transfer with nothing accepted.
     pub idle-ready : receiverDecideOf Idle (Req.Initiate v) capacity 0 verdict ≡ goesTo (Transfer (receiverProgress nothingAccepted false)) (Offered 0)
-    unfolding receiverDecideOf receiverInitiateOf offerOf pick
+    unfolding receiverDecideOf receiverInitiateOf receiverOfferOf pick
     idle-ready = refl
 
     pub transfer-ready : (p : Progress) → p .accepted .blocks ≡ 0
         → receiverDecideOf (Transfer p) (Req.Initiate v) capacity 0 verdict ≡ goesTo (Transfer (receiverProgress nothingAccepted false)) (Offered 0)
-    unfolding receiverDecideOf receiverInitiateOf initiateAgainOf offerOf pick
+    unfolding receiverDecideOf receiverInitiateOf initiateInTransferOf receiverOfferOf pick
     transfer-ready p none = rw (eq-differ (p .accepted .blocks) 0 none)
 
     -- Above 0: that wait, phase kept.
     pub idle-waits : (readiness : ℕ) → 0 < readiness → receiverDecideOf Idle (Req.Initiate v) capacity readiness verdict ≡ goesTo Idle (Offered readiness)
-    unfolding receiverDecideOf receiverInitiateOf offerOf pick
+    unfolding receiverDecideOf receiverInitiateOf receiverOfferOf pick
     idle-waits readiness h = rw (ne-eqb readiness 0 (λ e. omega arith))
 
     pub transfer-waits : (p : Progress) (readiness : ℕ) → p .accepted .blocks ≡ 0 → 0 < readiness
         → receiverDecideOf (Transfer p) (Req.Initiate v) capacity readiness verdict ≡ goesTo (Transfer p) (Offered readiness)
-    unfolding receiverDecideOf receiverInitiateOf initiateAgainOf offerOf pick
+    unfolding receiverDecideOf receiverInitiateOf initiateInTransferOf receiverOfferOf pick
     transfer-waits p readiness none h = rw (eq-differ (p .accepted .blocks) 0 none, ne-eqb readiness 0 (λ e. omega arith))
 
     -- Elsewhere 21.
     pub initiate-21-transfer : (p : Progress) (readiness : ℕ) → 0 < p .accepted .blocks
         → receiverDecideOf (Transfer p) (Req.Initiate v) capacity readiness verdict ≡ goesTo (Transfer p) UnexpectedInitiate
-    unfolding receiverDecideOf receiverInitiateOf initiateAgainOf pick
+    unfolding receiverDecideOf receiverInitiateOf initiateInTransferOf pick
     initiate-21-transfer p readiness some = rw (ne-differ (p .accepted .blocks) 0 (λ e. omega arith))
 
     pub initiate-21-await : (a : Accepted) (readiness : ℕ) → receiverDecideOf (Await a) (Req.Initiate v) capacity readiness verdict ≡ goesTo (Await a) UnexpectedInitiate

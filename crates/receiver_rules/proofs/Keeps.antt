@@ -16,7 +16,7 @@ use Rattle.wire.specs.declared.request.Request.{Request}
 use Rattle.wire.specs.declared.request.Request.the-variants as Req
 use Rattle.wire.specs.declared.request.Parsed.the-variants as Par
 use Rattle.receiver_state.specs.Answer.{receiverNumberOf}
-use Rattle.receiver_rules.specs.Decide.{offerOf, initiateAgainOf, receiverInitiateOf, passesCapacity, closeTransferOf, takeBlockOf, receiverTransferOf, receiverDataOf, receiverVerdictOf, receiverValidateOf, receiverAbortOf, receiverDecideOf}
+use Rattle.receiver_rules.specs.Decide.{receiverOfferOf, initiateInTransferOf, receiverInitiateOf, passesCapacity, closeTransferOf, takeBlockOf, receiverTransferOf, receiverDataOf, receiverVerdictOf, receiverValidateOf, receiverAbortOf, receiverDecideOf}
 use Rattle.receiver_rules.proofs.Within.{within}
 use Rattle.receiver_state.specs.declared.phase.Accepted.{Accepted}
 use Rattle.receiver_state.specs.declared.phase.Progress.{Progress}
@@ -45,7 +45,7 @@ module _ (capacity : ℕ) (image request : List ℕ) (taken : List (List ℕ)) (
       }) taken) (s .phase)
 
   initiate-keeps : (before : Phase) (v : Versions) → Has before → Then before (Req.Initiate v) (receiverInitiateOf before readiness)
-  unfolding receiverInitiateOf initiateAgainOf offerOf imageAfter pick
+  unfolding receiverInitiateOf initiateInTransferOf receiverOfferOf imageAfter pick
   initiate-keeps Idle v h =
       pick-all (Then Idle (Req.Initiate v)) (eqb readiness 0) _ _ (λ _. nothing-held capacity image taken h) (λ _. refl)
   initiate-keeps (Transfer p) v h =

@@ -11,7 +11,7 @@ use Rattle.wire.specs.declared.request.Request.the-variants as Req
 use Rattle.receiver_state.specs.Answer.{receiverNumberOf}
 use Rattle.receiver_state.specs.Phase.{acceptedCounts}
 use Rattle.receiver_state.proofs.Truth.{GoodIfSuccess}
-use Rattle.receiver_rules.specs.Decide.{receiverProgress, offerOf, initiateAgainOf, receiverInitiateOf, passesCapacity, closeTransferOf, takeBlockOf, receiverTransferOf, receiverDataOf, receiverVerdictOf, receiverValidateOf, receiverAbortOf, receiverDecideOf}
+use Rattle.receiver_rules.specs.Decide.{receiverProgress, receiverOfferOf, initiateInTransferOf, receiverInitiateOf, passesCapacity, closeTransferOf, takeBlockOf, receiverTransferOf, receiverDataOf, receiverVerdictOf, receiverValidateOf, receiverAbortOf, receiverDecideOf}
 use Rattle.receiver_state.specs.declared.phase.Accepted.{Accepted}
 use Rattle.receiver_state.specs.declared.phase.Progress.{Progress}
 use Rattle.receiver_state.specs.declared.phase.Phase.{Phase}
@@ -89,7 +89,7 @@ pub record Row (before : Phase) (q : Request) (capacity : ℕ) (verdict : Verdic
 
 module _ (capacity : ℕ) (verdict : Verdict) where
   initiate-row : (before : Phase) (q : Request) (readiness : ℕ) → Row before q capacity verdict (receiverInitiateOf before readiness)
-  unfolding receiverInitiateOf initiateAgainOf offerOf
+  unfolding receiverInitiateOf initiateInTransferOf receiverOfferOf
   initiate-row Idle q readiness = search (pick-all (Row Idle q capacity verdict))
   initiate-row (Transfer p) q readiness = search (pick-all (Row (Transfer p) q capacity verdict)) depth 8
   initiate-row (Await a) q readiness = search

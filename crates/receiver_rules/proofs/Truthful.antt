@@ -11,7 +11,7 @@ use Rattle.wire.specs.Written.{responseBytes, identifiedBytes, initiatedBytes, 
 use Rattle.wire.specs.declared.response.Response.the-variants as Res
 use Rattle.wire.specs.declared.response.Parsed.{Parsed}
 use Rattle.wire.specs.declared.response.Parsed.the-variants as Par
-use Rattle.receiver_state.specs.Answer.{getFwIdResponse, initiateResponse, dataResponse, validateResponse, replyOf}
+use Rattle.receiver_state.specs.Answer.{getFwIdReply, initiateReply, dataReply, validateReply, replyOf}
 use Rattle.receiver_state.specs.declared.answer.Answer.{Answer}
 use Rattle.receiver_state.specs.declared.answer.Answer.the-variants.{Identified, Offered, Asking, Closed, Success, Later, Aborted, Passed, Malformed, UnexpectedInitiate, UnexpectedData, UnexpectedValidate, Unexpected, NotDue, PassesCapacity, WrongFile, VerdictBad, OutOfRange, BufferShort, ImageLength}
 use Rattle.receiver_state.specs.declared.phase.Accepted.{Accepted}
@@ -47,7 +47,7 @@ Truthful phase m = Succeeds (parsedResponseOf m) → IsGood phase
 
 module _ (r : Receiver) (phase : Phase) where
   bytes-truthful : (answer : Answer) → GoodIfSuccess answer phase → Truthful phase (receiverBytesOf r answer)
-  unfolding replyBytes replyOf getFwIdResponse initiateResponse dataResponse validateResponse responseBytes identifiedBytes initiatedBytes receiptBytes validatedBytes parsedResponseOf headed responseOfType identifiedIn initiatedIn receiptIn validatedIn pick
+  unfolding replyBytes replyOf getFwIdReply initiateReply dataReply validateReply responseBytes identifiedBytes initiatedBytes receiptBytes validatedBytes parsedResponseOf headed responseOfType identifiedIn initiatedIn receiptIn validatedIn pick
   bytes-truthful Identified h e = absurd e
   bytes-truthful (Offered wait) h e = absurd e
   bytes-truthful (Asking wait number) h e = absurd e

@@ -26,19 +26,19 @@ abbrev pub receiverProgress : Accepted → Bool → Progress
 receiverProgress accepted short = record { accepted = accepted; short = short }
 
 -- INITIATE where it is taken. Readiness 0: ready, phase Transfer with nothing accepted. Above 0: that wait, phase kept.
-unfoldable pub offerOf : Phase → ℕ → Step
-offerOf phase readiness =
+unfoldable pub receiverOfferOf : Phase → ℕ → Step
+receiverOfferOf phase readiness =
     pick (eqb readiness 0) (goesTo (Transfer (receiverProgress nothingAccepted false)) (Offered 0))
     (goesTo phase (Offered readiness))
 
 -- INITIATE in Transfer: 21 with a block accepted.
-unfoldable pub initiateAgainOf : Progress → ℕ → Step
-initiateAgainOf p readiness = pick (differ (p .accepted .blocks) 0) (goesTo (Transfer p) UnexpectedInitiate) (offerOf (Transfer p) readiness)
+unfoldable pub initiateInTransferOf : Progress → ℕ → Step
+initiateInTransferOf p readiness = pick (differ (p .accepted .blocks) 0) (goesTo (Transfer p) UnexpectedInitiate) (receiverOfferOf (Transfer p) readiness)
 
 -- INITIATE: in Idle, or Transfer with nothing accepted. Elsewhere 21.
 unfoldable pub receiverInitiateOf : Phase → ℕ → Step
-receiverInitiateOf Idle readiness = offerOf Idle readiness
-receiverInitiateOf (Transfer p) readiness = initiateAgainOf p readiness
+receiverInitiateOf Idle readiness = receiverOfferOf Idle readiness
+receiverInitiateOf (Transfer p) readiness = initiateInTransferOf p readiness
 receiverInitiateOf (Await a) readiness = goesTo (Await a) UnexpectedInitiate
 receiverInitiateOf (Good a) readiness = goesTo (Good a) UnexpectedInitiate
 

@@ -6,7 +6,7 @@ use mathlib.Core.List.{[], _∷_, map}
 use Rattle.wire.specs.declared.response.Identity.{Identity}
 use Rattle.wire.specs.declared.response.Response.the-variants as Res
 use Rattle.receiver_state.specs.Phase.{nothingAccepted, acceptedOf}
-use Rattle.receiver_state.specs.Answer.{receiverNumberOf, replyOf, getFwIdResponse, initiateResponse, dataResponse, validateResponse}
+use Rattle.receiver_state.specs.Answer.{receiverNumberOf, replyOf, getFwIdReply, initiateReply, dataReply, validateReply}
 use Rattle.receiver_state.specs.declared.answer.Answer.{Answer}
 use Rattle.receiver_state.specs.declared.answer.Answer.the-variants.{Identified, Offered, Asking, Closed, Success, Later, Aborted, Passed, Malformed, UnexpectedInitiate, UnexpectedData, UnexpectedValidate, Unexpected, NotDue, PassesCapacity, WrongFile, VerdictBad, OutOfRange, BufferShort, ImageLength}
 use Rattle.receiver_state.specs.declared.answer.Reply.{Reply}
@@ -36,7 +36,7 @@ module _ (identity : Identity) (capacity : ℕ) where
       ∷ (0, Nothing)
       ∷ (0, Nothing)
       ∷ []
-  unfolding replyOf getFwIdResponse initiateResponse dataResponse validateResponse
+  unfolding replyOf getFwIdReply initiateReply dataReply validateReply
   taken-rows wait number = refl
 
   -- 20 to 28
@@ -55,7 +55,7 @@ module _ (identity : Identity) (capacity : ℕ) where
       ∷ (27, Nothing)
       ∷ (28, Nothing)
       ∷ []
-  unfolding replyOf getFwIdResponse initiateResponse dataResponse validateResponse
+  unfolding replyOf getFwIdReply initiateReply dataReply validateReply
   refused-rows due = refl
 
   -- Any answer with a status other than OK has WaitTime 255 and its later fields zero. (GET_FW_ID has no wait, and is never refused.)
@@ -68,7 +68,7 @@ module _ (identity : Identity) (capacity : ℕ) where
   Unable (Sends Res.NotBuilt) = ⊥
 
   pub not-ok-unable : (a : Answer) → Unable (replyOf identity capacity a)
-  unfolding replyOf getFwIdResponse initiateResponse dataResponse validateResponse
+  unfolding replyOf getFwIdReply initiateReply dataReply validateReply
   not-ok-unable Identified = refl
   not-ok-unable (Offered wait) = λ h. absurd (h refl)
   not-ok-unable (Asking wait number) = λ h. absurd (h refl)

@@ -35,38 +35,38 @@ receiverNumberOf BufferShort = 27
 receiverNumberOf ImageLength = 28
 
 -- The response of each type (001 T5-18, T5-20, T5-22, T5-24)
-unfoldable pub getFwIdResponse : Identity → Reply
-getFwIdResponse identity = Sends (Res.GetFwId (codeOf Ok) identity)
+unfoldable pub getFwIdReply : Identity → Reply
+getFwIdReply identity = Sends (Res.GetFwId (codeOf Ok) identity)
 
-unfoldable pub initiateResponse : Status → ℕ → ℕ → Reply
-initiateResponse status wait size = Sends (Res.Initiate (codeOf status) wait size)
+unfoldable pub initiateReply : Status → ℕ → ℕ → Reply
+initiateReply status wait size = Sends (Res.Initiate (codeOf status) wait size)
 
-unfoldable pub dataResponse : Status → ℕ → ℕ → Reply
-dataResponse status wait number = Sends (Res.Data (codeOf status) wait number)
+unfoldable pub dataReply : Status → ℕ → ℕ → Reply
+dataReply status wait number = Sends (Res.Data (codeOf status) wait number)
 
-unfoldable pub validateResponse : Status → ℕ → Bool → Reply
-validateResponse status wait success = Sends (Res.Validate (codeOf status) wait success)
+unfoldable pub validateReply : Status → ℕ → Bool → Reply
+validateReply status wait success = Sends (Res.Validate (codeOf status) wait success)
 
 -- An INITIATE answer carries the capacity, the closing answer WaitTime 255 and the accepted count. Any answer with a status other than OK
 -- has WaitTime 255 and its later fields zero.
 unfoldable pub replyOf : Identity → ℕ → Answer → Reply
-replyOf identity capacity Identified = getFwIdResponse identity
-replyOf identity capacity (Offered wait) = initiateResponse Ok wait capacity
-replyOf identity capacity (Asking wait number) = dataResponse Ok wait number
-replyOf identity capacity (Closed number) = dataResponse Ok unable number
-replyOf identity capacity Success = validateResponse Ok 0 true
-replyOf identity capacity (Later wait) = validateResponse Ok wait false
+replyOf identity capacity Identified = getFwIdReply identity
+replyOf identity capacity (Offered wait) = initiateReply Ok wait capacity
+replyOf identity capacity (Asking wait number) = dataReply Ok wait number
+replyOf identity capacity (Closed number) = dataReply Ok unable number
+replyOf identity capacity Success = validateReply Ok 0 true
+replyOf identity capacity (Later wait) = validateReply Ok wait false
 replyOf identity capacity Aborted = Nothing
 replyOf identity capacity Passed = Nothing
 replyOf identity capacity Malformed = Nothing
-replyOf identity capacity UnexpectedInitiate = initiateResponse UnexpectedRequest unable 0
-replyOf identity capacity UnexpectedData = dataResponse UnexpectedRequest unable 0
-replyOf identity capacity UnexpectedValidate = validateResponse UnexpectedRequest unable false
+replyOf identity capacity UnexpectedInitiate = initiateReply UnexpectedRequest unable 0
+replyOf identity capacity UnexpectedData = dataReply UnexpectedRequest unable 0
+replyOf identity capacity UnexpectedValidate = validateReply UnexpectedRequest unable false
 replyOf identity capacity Unexpected = Nothing
-replyOf identity capacity (NotDue due) = dataResponse Ok 0 due
-replyOf identity capacity PassesCapacity = dataResponse Address unable 0
-replyOf identity capacity WrongFile = dataResponse File unable 0
-replyOf identity capacity VerdictBad = validateResponse Ok 0 false
+replyOf identity capacity (NotDue due) = dataReply Ok 0 due
+replyOf identity capacity PassesCapacity = dataReply Address unable 0
+replyOf identity capacity WrongFile = dataReply File unable 0
+replyOf identity capacity VerdictBad = validateReply Ok 0 false
 replyOf identity capacity OutOfRange = Nothing
 replyOf identity capacity BufferShort = Nothing
 replyOf identity capacity ImageLength = Nothing

@@ -1,11 +1,11 @@
 use Rattle.basis.specs.Pick.{tests}
-use Rattle.indoor_rules.specs.Decide.{offeredOf}
+use Rattle.indoor_rules.specs.Decide.{indoorOfferedOf}
 use borrow.Author.Needs.{needs}
 use Rattle.indoor_decide.proofs.response.offered.Statement.{statement}
 use Rattle.indoor_decide.proofs.response.offered.Tie as tie
 
 pub offered-spec : {M : Type 1} → statement M
-unfolding offeredOf
+unfolding indoorOfferedOf
 offered-spec =
     tie.close
     (tie.spec

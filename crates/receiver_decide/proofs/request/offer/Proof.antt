@@ -1,11 +1,11 @@
 use Rattle.basis.specs.Pick.{tests}
-use Rattle.receiver_rules.specs.Decide.{offerOf}
+use Rattle.receiver_rules.specs.Decide.{receiverOfferOf}
 use borrow.Author.Needs.{needs}
 use Rattle.receiver_decide.proofs.request.offer.Statement.{statement}
 use Rattle.receiver_decide.proofs.request.offer.Tie as tie
 
 pub offer-spec : {M : Type 1} → statement M
-unfolding offerOf
+unfolding receiverOfferOf
 offer-spec =
     tie.close
     (tie.spec
