@@ -147,8 +147,8 @@ module _ (file memory : List ℕ) (release : Release) (identity : Identity) (e :
     done new fits =
         let r = rests-done file memory release identity (on .wide) (on .clean) rest new fits in
         let d = demand3 file memory release identity (on .wide) in
-        let g = d .doneIsGood (l .world) (d .cleanReached (on .deliveries) l (on .clean)) (r .stands) .holds in
-        same Done (blocksOf (length file) + 4) (writtenInto file memory) (r .stands) (r .requests)
+        let g = d .doneIsGood (l .world) (d .cleanReached (on .deliveries) l (on .clean)) (r .inPhase) .holds in
+        same Done (blocksOf (length file) + 4) (writtenInto file memory) (r .inPhase) (r .requests)
         (sym (take-append-drop (length file) image) ∙ ap (λ (m : List ℕ). m ++ drop (length file) image) (g .bytes) ∙ ap (λ (m : List ℕ). file ++ m) (g .behind))
 
     transferred : newerOf release identity ≡ true → Is (transferredOf file memory)
@@ -157,7 +157,7 @@ module _ (file memory : List ℕ) (release : Release) (identity : Identity) (e :
         pick-all Is (ltb (length memory) (length file)) _ _
         (λ t.
         let r = rests-43 file memory release identity (on .wide) (on .clean) rest new (ltb-true (length memory) (length file) t) in
-        same (Failed TooLarge) 3 memory (r .1 .stands) (r .1 .requests) (r .0))
+        same (Failed TooLarge) 3 memory (r .1 .inPhase) (r .1 .requests) (r .0))
         (λ f. done new (ltb-false (length memory) (length file) f))
 
     pub ran : Is (cleanCarriedOf release identity file memory)
@@ -166,7 +166,7 @@ module _ (file memory : List ℕ) (release : Release) (identity : Identity) (e :
         pick-all Is (newerOf release identity) _ _ transferred
         (λ f.
         let r = rests-42 file memory release identity (on .wide) (on .clean) rest f in
-        same (Failed NotNewer) 1 memory (r .1 .stands) (r .1 .requests) (r .0))
+        same (Failed NotNewer) 1 memory (r .1 .inPhase) (r .1 .requests) (r .0))
 
 -- What holds at each test of the loop, with `remaining` turns left.
 pub record Mid (file memory : List ℕ) (release : Release) (identity : Identity) (e : Ends) (image upper lower : List ℕ) (remaining : ℕ) : Type 0 where

@@ -8,7 +8,7 @@ use Rattle.basis.specs.Left.{left}
 use Rattle.lent.specs.Led.{writtenInto}
 use Rattle.lent.specs.Put.{putOf}
 use Rattle.lent.specs.declared.Placed.the-variants.{Stored}
-use Rattle.lent.proofs.Laws.{led-two}
+use Rattle.lent.proofs.Laws.{two-written}
 use Rattle.image.specs.Blocks.{blockAt}
 use Rattle.image.proofs.Laws.{block-length}
 use Rattle.wire.specs.Codes.{longest}
@@ -33,7 +33,7 @@ module _ (file : List ℕ) (number : ℕ) where
   block-written out room =
       let four = head-four (length (blockAt file number)) in
       let most = block-most in
-      led-two (requestBytes (Req.Data number (length (blockAt file number)))) (blockAt file number) out (omega arith)
+      two-written (requestBytes (Req.Data number (length (blockAt file number)))) (blockAt file number) out (omega arith)
 
 -- Head and block together are a message's length at most, whichever block it is.
 pub together-most : (file part : List ℕ) (place number head : ℕ) → part ≡ blockAt file place → head ≡ length (requestBytes (Req.Data number (length part)))

@@ -48,8 +48,8 @@ module _ (versions : Versions) (file : List ℕ) where
 pub bytes-most : (plan : Plan) (file : List ℕ) (answer : Answer) → length (indoorBytesOf plan file answer) ≤ 260
 bytes-most plan file answer = sends-fit (plan .release .versions) file (sendsOf answer)
 
-led-length : (plan : Plan) (file : List ℕ) (answer : Answer) (out : List ℕ) → longest ≤ length out → length (writtenInto (indoorBytesOf plan file answer) out) ≡ length out
-led-length plan file answer out room =
+written-length : (plan : Plan) (file : List ℕ) (answer : Answer) (out : List ℕ) → longest ≤ length out → length (writtenInto (indoorBytesOf plan file answer) out) ≡ length out
+written-length plan file answer out room =
     let fits = bytes-most plan file answer in
     simp (length-append, length-drop) (omega arith)
 
@@ -85,7 +85,7 @@ module _ (s : Indoor) (file response out : List ℕ) where
   pub response-length : length (indoorResponseOf s file response out .memory) ≡ length out
   response-length =
       response-walk s file response out (λ x. length (x .memory) ≡ length out) refl refl refl
-      (λ r _ room _. led-length (s .plan) file (indoorDecideOf (s .plan) (s .state) r .answer) out room)
+      (λ r _ room _. written-length (s .plan) file (indoorDecideOf (s .plan) (s .state) r .answer) out room)
 
 module _ (s : Indoor) (file : List ℕ) (elapsed : ℕ) (out : List ℕ) where
   pub time-leads : Leads (s .plan) file out (indoorTimeOf s file elapsed out)
@@ -99,4 +99,4 @@ module _ (s : Indoor) (file : List ℕ) (elapsed : ℕ) (out : List ℕ) where
   pub time-length : length (indoorTimeOf s file elapsed out .memory) ≡ length out
   time-length =
       time-walk s file elapsed out (λ x. length (x .memory) ≡ length out) refl refl
-      (λ _ room. led-length (s .plan) file (indoorTickOf (s .plan) (s .state) elapsed .answer) out room)
+      (λ _ room. written-length (s .plan) file (indoorTickOf (s .plan) (s .state) elapsed .answer) out room)

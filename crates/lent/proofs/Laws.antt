@@ -51,8 +51,8 @@ put-length d at s =
     (λ _. refl)
 
 -- A head, and then a block put behind it, are one message in the first bytes of the buffer.
-pub led-two : (h b d : List ℕ) → length h + length b ≤ length d → putOf (writtenInto h d) (length h) b ≡ left Stored (writtenInto (h ++ b) d)
-led-two h b d k =
+pub two-written : (h b d : List ℕ) → length h + length b ≤ length d → putOf (writtenInto h d) (length h) b ≡ left Stored (writtenInto (h ++ b) d)
+two-written h b d k =
     let l : length (writtenInto h d) ≡ length d = simp (length-append, length-drop) (omega arith) in
     let front : take (length h) (writtenInto h d) ≡ h = take-append-seam h (drop (length h) d) in
     let rest : drop (length h + length b) (writtenInto h d) ≡ drop (length (h ++ b)) d =

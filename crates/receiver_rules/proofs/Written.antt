@@ -39,8 +39,8 @@ unfolding replyBytes
 reply-fits Nothing = omega arith
 reply-fits (Sends sent) = response-fits sent
 
-led-length : (r : Receiver) (answer : Answer) (out : List ℕ) → longest ≤ length out → length (writtenInto (receiverBytesOf r answer) out) ≡ length out
-led-length r answer out room =
+written-length : (r : Receiver) (answer : Answer) (out : List ℕ) → longest ≤ length out → length (writtenInto (receiverBytesOf r answer) out) ≡ length out
+written-length r answer out room =
     let fits = reply-fits (replyOf (r .identity) (r .capacity) answer) in
     simp (length-append, length-drop) (omega arith)
 
@@ -85,7 +85,7 @@ module _ (r : Receiver) (image request : List ℕ) (readiness : ℕ) (verdict : 
   request-length =
       request-walk r image request readiness verdict out (λ x. length (x .out) ≡ length out)
       refl refl refl refl
-      (λ q _ room _. led-length r (receiverDecideOf (r .phase) q (r .capacity) readiness verdict .answer) out room)
+      (λ q _ room _. written-length r (receiverDecideOf (r .phase) q (r .capacity) readiness verdict .answer) out room)
 
   -- What is written lies in the buffer, however long that is.
   pub request-within : receiverRequestOf r image request readiness verdict out .outcome .written ≤ length (receiverRequestOf r image request readiness verdict out .out)
@@ -95,13 +95,13 @@ module _ (r : Receiver) (image request : List ℕ) (readiness : ℕ) (verdict : 
       (λ q _ room _.
       let answer = receiverDecideOf (r .phase) q (r .capacity) readiness verdict .answer in
       let fits = reply-fits (replyOf (r .identity) (r .capacity) answer) in
-      let long = led-length r answer out room in
+      let long = written-length r answer out room in
       omega arith)
 
 pub time-length : (r : Receiver) (elapsed : ℕ) (out : List ℕ) → length (receiverTimeOf r elapsed out .memory) ≡ length out
 time-length r elapsed out =
     time-walk r elapsed out (λ x. length (x .memory) ≡ length out) refl
-    (λ room. led-length r (receiverTickOf (r .phase) (r .silence) elapsed (r .resends) (r .settings) .answer) out room)
+    (λ room. written-length r (receiverTickOf (r .phase) (r .silence) elapsed (r .resends) (r .settings) .answer) out room)
 
 pub time-leads : (r : Receiver) (elapsed : ℕ) (out : List ℕ) → Leads r out (receiverTimeOf r elapsed out .answer) (receiverTimeOf r elapsed out .memory)
 unfolding replyBytes replyOf
