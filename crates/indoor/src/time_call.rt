@@ -28,10 +28,10 @@ pub fn time(session: Indoor, file: &[u8], elapsed: u16, out: &mut [u8]) -> Outco
     if out.len() < codes::LONGEST {
         return refused(session, Answer::BufferShort);
     }
-    spend(session, file, elapsed, out)
+    elapse(session, file, elapsed, out)
 }
 
-fn spend(session: Indoor, file: &[u8], elapsed: u16, out: &mut [u8]) -> Outcome
+fn elapse(session: Indoor, file: &[u8], elapsed: u16, out: &mut [u8]) -> Outcome
     requires { ⌜ longest ≤ length (now out) ⌝ }
     ensures { λ r. ⌜ left r (now (out .exit)) ≡ indoorDone (session .plan) (indoorTickOf (session .plan) (session .state) elapsed) (now (file .entry)) (now (out .entry)) ⌝ }
 {

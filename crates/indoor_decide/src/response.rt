@@ -136,28 +136,28 @@ fn transfer(plan: Plan, state: State, p: Progress, response: Response) -> Step
     else {
         return passes_over(state);
     };
-    where_ok(status, numbered(plan, p.emptied, wait, number))
+    where_ok(status, data_response(plan, p.emptied, wait, number))
 }
 
-fn numbered(plan: Plan, emptied: bool, wait: u8, number: u16) -> Step
+fn data_response(plan: Plan, emptied: bool, wait: u8, number: u16) -> Step
     ensures { λ r. ⌜ r ≡ indoorDataOf plan emptied wait number ⌝ }
 {
     if wait == codes::UNABLE {
-        return closed(plan, emptied, number);
+        return close(plan, emptied, number);
     }
     block_asked(plan, emptied, wait, number)
 }
 
-fn closed(plan: Plan, emptied: bool, number: u16) -> Step
+fn close(plan: Plan, emptied: bool, number: u16) -> Step
     ensures { λ r. ⌜ r ≡ indoorCloseOf plan emptied number ⌝ }
 {
     if !emptied {
         return fails(Reason::WrongNumber);
     }
-    ended(plan, number)
+    close_number(plan, number)
 }
 
-fn ended(plan: Plan, number: u16) -> Step
+fn close_number(plan: Plan, number: u16) -> Step
     ensures { λ r. ⌜ r ≡ indoorCloseNumberOf plan number ⌝ }
 {
     let last = last(plan);
@@ -196,22 +196,22 @@ fn validate(state: State, response: Response) -> Step
     else {
         return passes_over(state);
     };
-    where_ok(status, verdict(wait, success))
+    where_ok(status, validated(wait, success))
 }
 
-fn verdict(wait: u8, success: bool) -> Step
+fn validated(wait: u8, success: bool) -> Step
     ensures { λ r. ⌜ r ≡ indoorValidatedOf wait success ⌝ }
 {
     if wait == codes::UNABLE {
         return fails(Reason::Refused);
     }
     if wait == 0 {
-        return judged(success);
+        return successful(success);
     }
     goes(Phase::Validate { wait: wait as u16 }, Answer::Waiting)
 }
 
-fn judged(success: bool) -> Step
+fn successful(success: bool) -> Step
     ensures { λ r. ⌜ r ≡ indoorSuccessOf success ⌝ }
 {
     if !success {

@@ -31,12 +31,12 @@ fn passed(plan: Plan, state: State, phase: Phase, elapsed: u16) -> Step
         Phase::Initiate { wait } => initiate(plan, state, wait, elapsed),
         Phase::Transfer(p) => transfer(plan, state, p, elapsed),
         Phase::Validate { wait } => validate(plan, state, wait, elapsed),
-        Phase::Done => still(state),
-        Phase::Failed(_) => still(state),
+        Phase::Done => nothing_changes(state),
+        Phase::Failed(_) => nothing_changes(state),
     }
 }
 
-fn still(state: State) -> Step
+fn nothing_changes(state: State) -> Step
     ensures { λ r. ⌜ r ≡ indoorStep state Passed ⌝ }
 {
     Step {
@@ -71,10 +71,10 @@ fn resends(plan: Plan, state: State, again: Answer, elapsed: u16) -> Step
     let phase = state.phase;
     let grown = grows(plan, state, elapsed);
     let event = grown.event;
-    resent(phase, again, grown, event)
+    resend_on_event(phase, again, grown, event)
 }
 
-fn resent(phase: Phase, again: Answer, grown: Grown, event: Event) -> Step
+fn resend_on_event(phase: Phase, again: Answer, grown: Grown, event: Event) -> Step
     ensures { λ r. ⌜ r ≡ resendOnEvent phase again grown event ⌝ }
 {
     match event {
@@ -84,17 +84,17 @@ fn resent(phase: Phase, again: Answer, grown: Grown, event: Event) -> Step
     }
 }
 
-fn expires(plan: Plan, state: State, elapsed: u16) -> Step
+fn transfer_expires(plan: Plan, state: State, elapsed: u16) -> Step
     ensures { λ r. ⌜ r ≡ transferExpiresOf plan state elapsed ⌝ }
 {
     let phase = state.phase;
     let grown = grows(plan, state, elapsed);
     let event = grown.event;
-    expired(phase, grown, event)
+    transfer_on_event(phase, grown, event)
 }
 
 // Nothing is resent in Transfer: the first expiry is 40.
-fn expired(phase: Phase, grown: Grown, event: Event) -> Step
+fn transfer_on_event(phase: Phase, grown: Grown, event: Event) -> Step
     ensures { λ r. ⌜ r ≡ transferOnEvent phase grown event ⌝ }
 {
     match event {
@@ -137,7 +137,7 @@ fn transfer(plan: Plan, state: State, p: Progress, elapsed: u16) -> Step
 {
     let number = p.asked;
     if p.wait == 0 {
-        return expires(plan, state, elapsed);
+        return transfer_expires(plan, state, elapsed);
     }
     if elapsed < p.wait {
         let left = Progress {

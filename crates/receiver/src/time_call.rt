@@ -24,10 +24,10 @@ pub fn time(session: Receiver, elapsed: u16, out: &mut [u8]) -> Outcome
     if out.len() < codes::LONGEST {
         return refused(session, Answer::BufferShort);
     }
-    spend(session, elapsed, out)
+    elapse(session, elapsed, out)
 }
 
-fn spend(session: Receiver, elapsed: u16, out: &mut [u8]) -> Outcome
+fn elapse(session: Receiver, elapsed: u16, out: &mut [u8]) -> Outcome
     requires { ⌜ longest ≤ length (now out) ⌝ }
     ensures { λ r. ⌜ left r (now (out .exit)) ≡ receiverElapsedOf session elapsed (now (out .entry)) ⌝ }
 {

@@ -27,7 +27,7 @@ pub fn decide(
     match request {
         Request::GetFwId => to(phase, Answer::Identified),
         Request::Initiate(_) => initiate(phase, readiness),
-        Request::Data { number, size } => block(phase, number, size, capacity, readiness),
+        Request::Data { number, size } => data(phase, number, size, capacity, readiness),
         Request::Validate => validate(phase, verdict),
         Request::Abort => abort(phase),
         Request::NotBuilt => to(phase, Answer::Unexpected),
@@ -49,13 +49,13 @@ fn initiate(phase: Phase, readiness: u8) -> Step
 {
     match phase {
         Phase::Idle => offer(Phase::Idle, readiness),
-        Phase::Transfer(p) => again(p, readiness),
+        Phase::Transfer(p) => initiate_in_transfer(p, readiness),
         Phase::Await(a) => to(Phase::Await(a), Answer::UnexpectedInitiate),
         Phase::Good(a) => to(Phase::Good(a), Answer::UnexpectedInitiate),
     }
 }
 
-fn again(p: Progress, readiness: u8) -> Step
+fn initiate_in_transfer(p: Progress, readiness: u8) -> Step
     ensures { λ r. ⌜ r ≡ initiateInTransferOf p readiness ⌝ }
 {
     if p.accepted.blocks != 0 {
@@ -77,7 +77,7 @@ fn offer(phase: Phase, readiness: u8) -> Step
     to(phase, Answer::Offered { wait: readiness })
 }
 
-fn block(phase: Phase, number: u16, size: usize, capacity: u32, readiness: u8) -> Step
+fn data(phase: Phase, number: u16, size: usize, capacity: u32, readiness: u8) -> Step
     ensures { λ r. ⌜ r ≡ receiverDataOf phase number size capacity readiness ⌝ }
 {
     match phase {

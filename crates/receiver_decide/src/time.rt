@@ -16,7 +16,7 @@ pub fn pass(phase: Phase, silence: u16, elapsed: u16, resends: u8, settings: Set
     match phase {
         Phase::Idle => after(Phase::Idle, silence, resends, Answer::Passed),
         Phase::Transfer(p) => {
-            wait(
+            grow_silence(
                 Phase::Transfer(p),
                 Answer::Asking {
                     wait: 0,
@@ -29,7 +29,7 @@ pub fn pass(phase: Phase, silence: u16, elapsed: u16, resends: u8, settings: Set
             )
         }
         Phase::Await(a) => {
-            wait(
+            grow_silence(
                 Phase::Await(a),
                 Answer::Closed { number: a.blocks },
                 silence,
@@ -53,7 +53,7 @@ fn after(phase: Phase, silence: u16, resends: u8, answer: Answer) -> Tick
     }
 }
 
-fn wait(
+fn grow_silence(
     phase: Phase,
     again: Answer,
     silence: u16,
@@ -65,10 +65,10 @@ fn wait(
 {
     let grown = silence::grow(silence, elapsed, resends, settings);
     let event = grown.event;
-    expire(phase, again, grown, event)
+    on_event(phase, again, grown, event)
 }
 
-fn expire(phase: Phase, again: Answer, grown: Grown, event: Event) -> Tick
+fn on_event(phase: Phase, again: Answer, grown: Grown, event: Event) -> Tick
     ensures { λ r. ⌜ r ≡ receiverOnEvent phase again grown event ⌝ }
 {
     match event {

@@ -16,4 +16,4 @@ time-spec =
     (λ c. search (c .refused2 .ensures, tests))
     (λ c κs. search needs)
     (λ c. search needs)
-    (λ c. search (c .before .before .spend .ensures, tests)))
+    (λ c. search (c .before .before .elapse .ensures, tests)))

@@ -15,4 +15,4 @@ transfer-spec =
     (λ c. let a = c .before .before .args in c .passes-over .ensures ∙ no-receipt (a .plan) (a .state) (a .p) (a .response) (c .before .match .keys2))
     (λ c κs. search needs)
     (λ c κs. search needs)
-    (λ c. rw (c .before .before .before .response .given .1, ← (c .before .numbered .ensures)) (c .where-ok .ensures)))
+    (λ c. rw (c .before .before .before .response .given .1, ← (c .before .data-response .ensures)) (c .where-ok .ensures)))

@@ -15,4 +15,4 @@ validate-spec =
     (λ c. let a = c .before .before .args in c .passes-over .ensures ∙ no-verdict (a .state) (a .response) (c .before .match .keys2))
     (λ c κs. search needs)
     (λ c κs. search needs)
-    (λ c. rw (c .before .before .before .response .given .1, ← (c .before .verdict .ensures)) (c .where-ok .ensures)))
+    (λ c. rw (c .before .before .before .response .given .1, ← (c .before .validated .ensures)) (c .where-ok .ensures)))

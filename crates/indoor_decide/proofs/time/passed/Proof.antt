@@ -24,5 +24,5 @@ passed-spec =
     (λ c. rw (c .before .before .phase .given .1) (c .initiate .ensures))
     (λ c. rw (c .before .before .phase2 .given .1) (c .transfer .ensures))
     (λ c. rw (c .before .before .phase3 .given .1) (c .validate .ensures))
-    (λ c. rw (c .before .enum-told2 .given .1) (c .still .ensures))
-    (λ c. rw (c .before .enum-told3 .given .1) (c .still2 .ensures)))
+    (λ c. rw (c .before .enum-told2 .given .1) (c .nothing-changes .ensures))
+    (λ c. rw (c .before .enum-told3 .given .1) (c .nothing-changes2 .ensures)))

@@ -10,4 +10,4 @@ resends-spec =
     (tie.spec
     (λ c κs. search needs)
     (λ c κs. search needs)
-    (λ c. rw (← (c .before .grows .ensures)) (c .resent .ensures)))
+    (λ c. rw (← (c .before .grows .ensures)) (c .resend-on-event .ensures)))

@@ -22,7 +22,7 @@ decide-spec =
     (λ c κs. search needs)
     (λ c. rw (c .before .enum-told .given .1) (c .to .ensures))
     (λ c. rw (c .before .enum-told2 .given .1) (c .initiate .ensures))
-    (λ c. rw (c .before .before .request .given .1) (c .block .ensures))
+    (λ c. rw (c .before .before .request .given .1) (c .data .ensures))
     (λ c. rw (c .before .enum-told3 .given .1) (c .validate .ensures))
     (λ c. rw (c .before .enum-told4 .given .1) (c .abort .ensures))
     (λ c. rw (c .before .enum-told5 .given .1) (c .to2 .ensures)))

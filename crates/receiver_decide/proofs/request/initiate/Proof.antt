@@ -17,6 +17,6 @@ initiate-spec =
     (λ c. search needs)
     (λ c κs. search needs)
     (λ c. rw (c .before .enum-told .given .1) (c .offer .ensures))
-    (λ c. rw (c .before .before .phase .given .1) (c .again .ensures))
+    (λ c. rw (c .before .before .phase .given .1) (c .initiate-in-transfer .ensures))
     (λ c. rw (c .before .before .phase2 .given .1) (c .to .ensures))
     (λ c. rw (c .before .before .phase3 .given .1) (c .to2 .ensures)))

@@ -17,6 +17,6 @@ pass-spec =
     (λ c. search needs)
     (λ c κs. search needs)
     (λ c. rw (c .before .enum-told .given .1) (c .after .ensures))
-    (λ c. rw (c .before .before .phase .given .1) (c .wait .ensures))
-    (λ c. rw (c .before .before .phase2 .given .1) (c .wait2 .ensures))
+    (λ c. rw (c .before .before .phase .given .1) (c .grow-silence .ensures))
+    (λ c. rw (c .before .before .phase2 .given .1) (c .grow-silence2 .ensures))
     (λ c. rw (c .before .before .phase3 .given .1) (c .after2 .ensures)))

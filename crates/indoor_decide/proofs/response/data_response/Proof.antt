@@ -1,12 +1,12 @@
 use Rattle.basis.specs.Pick.{tests}
 use Rattle.indoor_rules.specs.Decide.{indoorDataOf}
 use borrow.Author.Needs.{needs}
-use Rattle.indoor_decide.proofs.response.numbered.Statement.{statement}
-use Rattle.indoor_decide.proofs.response.numbered.Tie as tie
+use Rattle.indoor_decide.proofs.response.data_response.Statement.{statement}
+use Rattle.indoor_decide.proofs.response.data_response.Tie as tie
 
-pub numbered-spec : {M : Type 1} → statement M
+pub data-response-spec : {M : Type 1} → statement M
 unfolding indoorDataOf
-numbered-spec =
+data-response-spec =
     tie.close
     (tie.spec
     (λ c κs. search needs)

@@ -1,11 +1,11 @@
 use Rattle.receiver_rules.specs.Tick.{receiverOnEvent}
 use borrow.Author.Needs.{needs}
-use Rattle.receiver_decide.proofs.time.expire.Statement.{statement}
-use Rattle.receiver_decide.proofs.time.expire.Tie as tie
+use Rattle.receiver_decide.proofs.time.on_event.Statement.{statement}
+use Rattle.receiver_decide.proofs.time.on_event.Tie as tie
 
-pub expire-spec : {M : Type 1} → statement M
+pub on-event-spec : {M : Type 1} → statement M
 unfolding receiverOnEvent
-expire-spec =
+on-event-spec =
     tie.close
     (tie.spec
     (λ c. search needs)

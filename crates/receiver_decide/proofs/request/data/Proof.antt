@@ -1,11 +1,11 @@
 use Rattle.receiver_rules.specs.Decide.{receiverDataOf}
 use borrow.Author.Needs.{needs}
-use Rattle.receiver_decide.proofs.request.block.Statement.{statement}
-use Rattle.receiver_decide.proofs.request.block.Tie as tie
+use Rattle.receiver_decide.proofs.request.data.Statement.{statement}
+use Rattle.receiver_decide.proofs.request.data.Tie as tie
 
-pub block-spec : {M : Type 1} → statement M
+pub data-spec : {M : Type 1} → statement M
 unfolding receiverDataOf
-block-spec =
+data-spec =
     tie.close
     (tie.spec
     (λ c. search needs)

@@ -1,11 +1,11 @@
 use Rattle.indoor_rules.specs.Tick.{resendOnEvent}
 use borrow.Author.Needs.{needs}
-use Rattle.indoor_decide.proofs.time.resent.Statement.{statement}
-use Rattle.indoor_decide.proofs.time.resent.Tie as tie
+use Rattle.indoor_decide.proofs.time.resend_on_event.Statement.{statement}
+use Rattle.indoor_decide.proofs.time.resend_on_event.Tie as tie
 
-pub resent-spec : {M : Type 1} → statement M
+pub resend-on-event-spec : {M : Type 1} → statement M
 unfolding resendOnEvent
-resent-spec =
+resend-on-event-spec =
     tie.close
     (tie.spec
     (λ c. search needs)

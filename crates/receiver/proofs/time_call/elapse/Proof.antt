@@ -1,12 +1,12 @@
 use Rattle.receiver_rules.specs.Time.{receiverElapsedOf}
 use Rattle.basis.specs.Left.{answers, leaves}
 use borrow.Author.Needs.{needs}
-use Rattle.receiver.proofs.time_call.spend.Statement.{statement}
-use Rattle.receiver.proofs.time_call.spend.Tie as tie
+use Rattle.receiver.proofs.time_call.elapse.Statement.{statement}
+use Rattle.receiver.proofs.time_call.elapse.Tie as tie
 
-pub spend-spec : {M : Type 1} → statement M
+pub elapse-spec : {M : Type 1} → statement M
 unfolding receiverElapsedOf
-spend-spec =
+elapse-spec =
     tie.close
     (tie.spec
     (λ c κs. search needs)

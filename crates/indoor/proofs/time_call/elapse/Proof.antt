@@ -1,10 +1,10 @@
 use Rattle.basis.specs.Left.{answers, leaves}
 use borrow.Author.Needs.{needs}
-use Rattle.indoor.proofs.time_call.spend.Statement.{statement}
-use Rattle.indoor.proofs.time_call.spend.Tie as tie
+use Rattle.indoor.proofs.time_call.elapse.Statement.{statement}
+use Rattle.indoor.proofs.time_call.elapse.Tie as tie
 
-pub spend-spec : {M : Type 1} → statement M
-spend-spec =
+pub elapse-spec : {M : Type 1} → statement M
+elapse-spec =
     tie.close
     (tie.spec
     (λ c κs. search needs)

@@ -1,11 +1,11 @@
 use Rattle.indoor_rules.specs.Tick.{transferOnEvent}
 use borrow.Author.Needs.{needs}
-use Rattle.indoor_decide.proofs.time.expired.Statement.{statement}
-use Rattle.indoor_decide.proofs.time.expired.Tie as tie
+use Rattle.indoor_decide.proofs.time.transfer_on_event.Statement.{statement}
+use Rattle.indoor_decide.proofs.time.transfer_on_event.Tie as tie
 
-pub expired-spec : {M : Type 1} → statement M
+pub transfer-on-event-spec : {M : Type 1} → statement M
 unfolding transferOnEvent
-expired-spec =
+transfer-on-event-spec =
     tie.close
     (tie.spec
     (λ c. search needs)

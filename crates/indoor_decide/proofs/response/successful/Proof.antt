@@ -1,12 +1,12 @@
 use Rattle.basis.specs.Pick.{tests}
 use Rattle.indoor_rules.specs.Decide.{indoorSuccessOf}
 use borrow.Author.Needs.{needs}
-use Rattle.indoor_decide.proofs.response.judged.Statement.{statement}
-use Rattle.indoor_decide.proofs.response.judged.Tie as tie
+use Rattle.indoor_decide.proofs.response.successful.Statement.{statement}
+use Rattle.indoor_decide.proofs.response.successful.Tie as tie
 
-pub judged-spec : {M : Type 1} → statement M
+pub successful-spec : {M : Type 1} → statement M
 unfolding indoorSuccessOf
-judged-spec =
+successful-spec =
     tie.close
     (tie.spec
     (λ c κs. search needs)

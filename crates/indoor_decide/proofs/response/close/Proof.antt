@@ -1,12 +1,12 @@
 use Rattle.basis.specs.Pick.{tests}
 use Rattle.indoor_rules.specs.Decide.{indoorCloseOf}
 use borrow.Author.Needs.{needs}
-use Rattle.indoor_decide.proofs.response.closed.Statement.{statement}
-use Rattle.indoor_decide.proofs.response.closed.Tie as tie
+use Rattle.indoor_decide.proofs.response.close.Statement.{statement}
+use Rattle.indoor_decide.proofs.response.close.Tie as tie
 
-pub closed-spec : {M : Type 1} → statement M
+pub close-spec : {M : Type 1} → statement M
 unfolding indoorCloseOf
-closed-spec =
+close-spec =
     tie.close
     (tie.spec
     (λ c κs. search needs)

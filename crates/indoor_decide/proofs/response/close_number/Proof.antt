@@ -1,12 +1,12 @@
 use Rattle.basis.specs.Pick.{tests}
 use Rattle.indoor_rules.specs.Decide.{indoorCloseNumberOf}
 use borrow.Author.Needs.{needs}
-use Rattle.indoor_decide.proofs.response.ended.Statement.{statement}
-use Rattle.indoor_decide.proofs.response.ended.Tie as tie
+use Rattle.indoor_decide.proofs.response.close_number.Statement.{statement}
+use Rattle.indoor_decide.proofs.response.close_number.Tie as tie
 
-pub ended-spec : {M : Type 1} → statement M
+pub close-number-spec : {M : Type 1} → statement M
 unfolding indoorCloseNumberOf
-ended-spec =
+close-number-spec =
     tie.close
     (tie.spec
     (λ c κs. search needs)

@@ -1,12 +1,12 @@
 use Rattle.basis.specs.Pick.{tests}
 use Rattle.indoor_rules.specs.Decide.{indoorValidatedOf}
 use borrow.Author.Needs.{needs}
-use Rattle.indoor_decide.proofs.response.verdict.Statement.{statement}
-use Rattle.indoor_decide.proofs.response.verdict.Tie as tie
+use Rattle.indoor_decide.proofs.response.validated.Statement.{statement}
+use Rattle.indoor_decide.proofs.response.validated.Tie as tie
 
-pub verdict-spec : {M : Type 1} → statement M
+pub validated-spec : {M : Type 1} → statement M
 unfolding indoorValidatedOf
-verdict-spec =
+validated-spec =
     tie.close
     (tie.spec
     (λ c κs. search needs)
