@@ -1,4 +1,5 @@
-// The mailbox's calls for C: each is the mailbox's own, on the state that the numbers say.
+// The mailbox's calls for C: each is the mailbox's own, on the state that the numbers say. A refused write or report returns the state as
+// it came.
 use crate::NO_SUCH_STATE;
 use mailbox_flat::FlatMailbox;
 use mailbox_state::mailbox::Mailbox;
@@ -94,6 +95,11 @@ pub extern "C" fn harsolvek_mailbox_write(state: FlatMailbox, control: &[u8]) ->
     if state.is_mailbox() {
         let mailbox = state.unpack();
         let step = mailbox::write_step(mailbox.state, control);
+        let answer = step.answer;
+        let number = mailbox_decide::answer_number(answer);
+        if number != 0 {
+            return MailboxOutcome { state, number };
+        }
         let effect = step.effect;
         if mailbox::keeps(effect) {
             return kept(state, step);
@@ -110,6 +116,11 @@ pub extern "C" fn harsolvek_mailbox_success(state: FlatMailbox, bytes: &[u8]) ->
     if state.is_mailbox() {
         let mailbox = state.unpack();
         let step = mailbox_decide::succeed(mailbox.state, bytes.len());
+        let answer = step.answer;
+        let number = mailbox_decide::answer_number(answer);
+        if number != 0 {
+            return MailboxOutcome { state, number };
+        }
         let effect = step.effect;
         if mailbox::keeps(effect) {
             return kept(state, step);
@@ -126,6 +137,11 @@ pub extern "C" fn harsolvek_mailbox_failure(state: FlatMailbox) -> MailboxOutcom
     if state.is_mailbox() {
         let mailbox = state.unpack();
         let step = mailbox_decide::fail(mailbox.state);
+        let answer = step.answer;
+        let number = mailbox_decide::answer_number(answer);
+        if number != 0 {
+            return MailboxOutcome { state, number };
+        }
         let effect = step.effect;
         if mailbox::keeps(effect) {
             return kept(state, step);
