@@ -5,8 +5,10 @@ use mathlib.Core.List.{List, [], _∷_, _++_}
 use mathlib.Core.Logic.{_⊎_, inl, inr}
 use mathlib.Core.Path.{_≡_, refl, sym, _∙_, ap, subst}
 use native.Mathlib.Omega.{arith}
-use lib.ListN.{length, getD, replicate, length-set}
-use Rattle.basis.specs.Pick.{pick-all}
+use borrow.Author.Tests.{eqb-false}
+use lib.ListN.{length, getD, replicate, length-set, length-replicate}
+use lib.Seq.{getD-set-other}
+use Rattle.basis.specs.Pick.{pick-all, differ-false}
 use Rattle.commands.specs.Control.{fieldsOf, controlOf}
 use Rattle.commands.specs.Table.{entry, entryOf}
 use Rattle.commands.proofs.Fields.{eight-read}
@@ -16,6 +18,7 @@ use Rattle.commands.specs.declared.control.Parsed.{Parsed}
 use Rattle.commands.specs.declared.control.Parsed.the-variants.{Fields, WrongLength}
 use Rattle.commands.specs.declared.table.Class.{Class}
 use Rattle.commands.specs.declared.table.Class.the-variants as class
+use Rattle.lent.proofs.Laws.{put-length}
 use Rattle.mailbox_state.specs.Answer.{mailboxNumberOf}
 use Rattle.mailbox_state.specs.State.{mailboxState, offOf}
 use Rattle.mailbox_state.specs.Status.{runsOf, dueOf}
@@ -32,7 +35,7 @@ use Rattle.mailbox_state.specs.declared.state.State.{State}
 use Rattle.mailbox_state.specs.declared.status.Command as port
 use Rattle.mailbox_state.specs.declared.status.CommandStatus.the-variants.{Busy, Failed, Acknowledged}
 use Rattle.mailbox_state.specs.declared.step.MessageEffect.{MessageEffect}
-use Rattle.mailbox_state.specs.declared.step.MessageEffect.the-variants.{Kept, ZeroedAtCompletion, Filled}
+use Rattle.mailbox_state.specs.declared.step.MessageEffect.the-variants.{Kept, ZeroedAtReset, ZeroedAtCancel, ZeroedAtCompletion, Filled}
 use Rattle.mailbox_state.specs.declared.step.Step.{Step}
 use Rattle.mailbox_rules.specs.Cci.{cciBitsOf}
 use Rattle.mailbox_rules.specs.Change.{meetsOf, changeStepOf}
@@ -40,11 +43,12 @@ use Rattle.mailbox_rules.specs.Changes.{lowestOf, markedOf, notedOf, nex
 use Rattle.mailbox_rules.specs.Events.{Event, writes, succeeds, fails, changes, parsedStepOf, eventStepOf, portBytes, stepReturns, eventOf}
 use Rattle.mailbox_rules.specs.History.{historyFrom, Reached}
 use Rattle.mailbox_rules.specs.Mailbox.{mailboxFreshOf, mailboxCciOf, messageInOf}
-use Rattle.mailbox_rules.specs.MessageIn.{zeroMessageIn, settledOf}
+use Rattle.mailbox_rules.specs.MessageIn.{zeroMessageIn, filledOf, settledOf}
 use Rattle.mailbox_rules.specs.Refusal.{situationOf, refusalOf}
+use Rattle.mailbox_rules.specs.Report.{successStepOf, failureStepOf}
 use Rattle.mailbox_rules.specs.Says.{Says}
-use Rattle.mailbox_rules.specs.Sentences.{answers, next, off, runs, due, shown, waits, Command, Ready, Gives, Starts, zeros, NeedsConnector, Other, Start, Sentences, MailboxKeeps}
-use Rattle.mailbox_rules.specs.Write.{withStatus, resets, enables, controlStepOf}
+use Rattle.mailbox_rules.specs.Sentences.{answers, next, off, runs, due, shown, waits, Command, Ready, Gives, Completes, Starts, Acknowledges, ShowsLowest, zeros, NeedsConnector, Other, MaySwitch, Start, Sentences, MailboxKeeps}
+use Rattle.mailbox_rules.specs.Write.{withStatus, resets, enables, startsCommand, takenStepOf, judgedStepOf, controlStepOf}
 use Rattle.mailbox_rules.proofs.Answers.{off-2, running-3, due-4, free}
 use Rattle.mailbox_rules.proofs.Bits.{reset-done-says, completed-says, failed-says, not-supported-says, cancelled-says, acknowledged-says}
 use Rattle.mailbox_rules.proofs.ByCode as code
@@ -53,7 +57,7 @@ use Rattle.mailbox_rules.proofs.Command.{ShownBy, stays, reset, acknowl
 use Rattle.mailbox_rules.proofs.Laws.{control-1, refused-keeps, cci-in-run, change-cci-high, change-cci-low, change-cci-in-run, fresh-made, fresh-29-zero, fresh-29-above, fresh-is}
 use Rattle.mailbox_rules.proofs.Marked.{marked}
 use Rattle.mailbox_rules.proofs.Message.{filled}
-use Rattle.mailbox_rules.proofs.Next.{next-shows}
+use Rattle.mailbox_rules.proofs.Next.{next-shows, next-waits-no-more}
 use Rattle.mailbox_rules.proofs.Noted.{altering, change-9-zero, change-9-above, change-off, change-dropped, change-recorded, noted-none, noted-waits, change-alters}
 use Rattle.mailbox_rules.proofs.Pending.{due-still}
 use Rattle.mailbox_rules.proofs.Reached.{holds, made, reached-next}
@@ -110,6 +114,44 @@ reached-eight {count} r =
     subst (λ (x : Mailbox). Eight (x .state .changes)) (r .ending)
     (history-eight (mailboxFreshOf count .mailbox) (r .events) (ap (length {A = Bool}) (fresh-is count .waiting)))
 
+-- MESSAGE_IN is always 256 bytes.
+zeros-256 : length zeros ≡ 256
+zeros-256 = length-replicate {A = ℕ} 256 0
+
+settled-256 : (message : List ℕ) (effect : MessageEffect) (bytes : List ℕ) → length message ≡ 256 → length (settledOf message effect bytes) ≡ 256
+unfolding settledOf zeroMessageIn filledOf
+settled-256 message Kept bytes e = e
+settled-256 message ZeroedAtReset bytes e = zeros-256
+settled-256 message ZeroedAtCancel bytes e = zeros-256
+settled-256 message ZeroedAtCompletion bytes e = zeros-256
+settled-256 message Filled bytes e = put-length zeros 0 bytes ∙ zeros-256
+
+history-256 : (m : Mailbox) (events : List Event) → length (m .message) ≡ 256 → length (historyFrom m events .mailbox .message) ≡ 256
+unfolding historyFrom
+history-256 m [] h = h
+history-256 m (e ∷ events) h =
+    history-256 (eventOf m e .mailbox) events (settled-256 (m .message) (eventStepOf (m .state) e .effect) (portBytes e) h)
+
+reached-256 : {count : ℕ} {m : Mailbox} → Reached count m → length (messageInOf m) ≡ 256
+reached-256 {count} r =
+    subst (λ (x : Mailbox). length (x .message) ≡ 256) (r .ending)
+    (history-256 (mailboxFreshOf count .mailbox) (r .events) (ap (length {A = ℕ}) (fresh-is count .message) ∙ zeros-256))
+
+-- One connector is marked: every other one waits as it did.
+marked-others : (w : List Bool) (c : ℕ) (b : Bool) (j : ℕ) → 1 ≤ j → (j ≡ c → ⊥) → getD (markedOf w c b) (j - 1) false ≡ getD w (j - 1) false
+unfolding markedOf
+marked-others w c b j low h =
+    pick-all (λ (v : List Bool). getD v (j - 1) false ≡ getD w (j - 1) false) _ _ _ (λ y. refl)
+    (λ n.
+    let some = eqb-false c 0 n in
+    pick-all (λ (v : List Bool). getD v (j - 1) false ≡ getD w (j - 1) false) _ _ _ (λ y. refl)
+    (λ m. getD-set-other w (c - 1) (j - 1) b false (λ e. h (omega (arith, some, e)))))
+
+lowest-others : (now : Changes) (j : ℕ) → 1 ≤ j → (j ≡ lowestOf (now .waiting) → ⊥)
+    → getD (nextShownOf now .waiting) (j - 1) false ≡ getD (now .waiting) (j - 1) false
+unfolding nextShownOf
+lowest-others now = marked-others (now .waiting) (lowestOf (now .waiting)) false
+
 -- The refusals by the class of a code: 2, 3 and 4.
 module _ (s : Situation) (code : ℕ) (not-reset : code ≡ 0x01 → ⊥) where
   off-number : (class : Class) → s .off ≡ true → (code ≡ 0x05 → ⊥) → Named code class → mailboxNumberOf (refusalOf class s) ≡ 2
@@ -137,6 +179,56 @@ module _ (s : Situation) (code : ℕ) (not-reset : code ≡ 0x01 → ⊥) where
     due-number class.Enable r d h n = ap mailboxNumberOf (due-4 s r d .enable)
     due-number class.Run r d h n = ap mailboxNumberOf (due-4 s r d .run on)
     due-number class.NotSupported r d h n = ap mailboxNumberOf (due-4 s r d .notSupported on)
+
+-- Which steps leave the mask, and notifications on or off.
+abbrev Leaves : State → Step → Type 0
+Leaves state step = step .state .notifications ≡ state .notifications
+
+module _ (state : State) where
+  success-mask : (n : ℕ) → Leaves state (successStepOf state n)
+  unfolding successStepOf
+  success-mask n = pick-all (Leaves state) _ _ _ (λ still. refl) (λ runs. pick-all (Leaves state) _ _ _ (λ long. refl) (λ short. refl))
+
+  failure-mask : Leaves state (failureStepOf state)
+  unfolding failureStepOf
+  failure-mask = pick-all (Leaves state) _ _ _ (λ still. refl) (λ runs. refl)
+
+  module _ (control : Control) where
+    abbrev Switches : Step → Type 0
+    Switches step = Leaves state step ⊎ ((control .code ≡ 0x01) ⊎ (control .code ≡ 0x05))
+
+    taken-mask : (class : Class) (needs : Bool) → Named (control .code) class → Switches (takenStepOf state class needs control)
+    unfolding takenStepOf startsCommand
+    taken-mask class.Reset needs h = inr (inl h)
+    taken-mask class.Cancel needs h = inl refl
+    taken-mask class.Acknowledge needs h = inl refl
+    taken-mask class.Enable needs h = inr (inr h)
+    taken-mask class.Run needs h = inl (pick-all (Leaves state) _ _ _ (λ absent. refl) (λ there. refl))
+    taken-mask class.NotSupported needs h = inl refl
+
+    control-mask : Switches (controlStepOf state control)
+    unfolding judgedStepOf
+    control-mask =
+        pick-all Switches _ _ _ (λ y. inl refl)
+        (λ n. taken-mask (entryOf (control .code) .class) (entryOf (control .code) .connector) (named (control .code)))
+
+  write-mask : (control : List ℕ) → Leaves state (eventStepOf state (writes control)) ⊎ MaySwitch (writes control)
+  unfolding controlOf parsedStepOf
+  write-mask control =
+      pick-all (λ (p : Parsed). Leaves state (parsedStepOf state p) ⊎ MaySwitch (writes control)) _ _ _ (λ y. inl refl)
+      (λ n. by (differ-false (length control) 8 n) (control-mask (fieldsOf control)))
+    where
+      by : length control ≡ 8 → {A : Type 0} → A ⊎ ((fieldsOf control .code ≡ 0x01) ⊎ (fieldsOf control .code ≡ 0x05))
+          → A ⊎ MaySwitch (writes control)
+      by e (inl a) = inl a
+      by e (inr (inl h)) = inr (inl (record { eight = e; coded = h }))
+      by e (inr (inr h)) = inr (inr (record { eight = e; coded = h }))
+
+  event-mask : (e : Event) → Leaves state (eventStepOf state e) ⊎ MaySwitch e
+  event-mask (writes control) = write-mask control
+  event-mask (succeeds bytes) = inl (success-mask (length bytes))
+  event-mask fails = inl failure-mask
+  event-mask (changes c reason) = inl (ap (λ (s : State). s .notifications) (change-alters state c reason .others))
 
 -- The entries of the codes that need a connector, and of those that document 01 does not name.
 needs-entry : (code : ℕ) → NeedsConnector code → entryOf code ≡ entry class.Run true
@@ -206,6 +298,18 @@ module _ {count : ℕ} {m : Mailbox} (r : Reached count m) where
         messageIn = ap (λ (s : Step). settledOf (m .message) (s .effect) (portBytes e)) row;
       }
 
+  -- An event that completes a command or cancels it.
+  completes : (e : Event) (after : State) (effect : MessageEffect) → eventStepOf state e ≡ mailboxStep after Taken effect
+      → dueOf (after .status) ≡ true → after .changes ≡ state .changes → {size : ℕ} {set : List ℕ}
+      → Says (cciBitsOf (after .status) (after .changes .shown)) (after .changes .shown % 128) size set
+      → Completes m e size set (settledOf (m .message) effect (portBytes e))
+  completes e after effect row waiting same says =
+      record {
+        gives = gives e after effect row says;
+        waitsForAck = ap (λ (s : Step). dueOf (s .state .status)) row ∙ waiting;
+        changesKept = ap (λ (s : Step). s .state .changes) row ∙ same;
+      }
+
   module _ (control : List ℕ) where
     abbrev fields : Control
     fields = fieldsOf control
@@ -224,6 +328,7 @@ module _ {count : ℕ} {m : Mailbox} (r : Reached count m) where
           running = running;
           cci = cci-in-run after (ap runsOf running);
           messageIn = ap (λ (s : Step). settledOf (m .message) (s .effect) []) row;
+          changesKept = ap (λ (s : Step). s .state .changes) row;
         }
 
     module _ (c : Command 0x01 control) where
@@ -242,14 +347,15 @@ module _ {count : ℕ} {m : Mailbox} (r : Reached count m) where
       enable-step : eventStepOf state (writes control) ≡ enables state (fields .mask)
       enable-step = write-row m control (c .eight) _ (code.enable-row state fields (c .coded) still none)
 
-      enable-gives : Gives m (writes control) 0 (31 ∷ []) zeros
-      unfolding settledOf zeroMessageIn
-      enable-gives = gives (writes control) _ _ enable-step (completed-says _ 0 (omega arith))
+      enable-completes : Completes m (writes control) 0 (31 ∷ []) zeros
+      unfolding settledOf zeroMessageIn dueOf
+      enable-completes = completes (writes control) _ _ enable-step refl refl (completed-says _ 0 (omega arith))
 
-    cancel-gives : off m ≡ false → runs m ≡ true → Command 0x02 control → Gives m (writes control) 0 (26 ∷ 31 ∷ []) zeros
-    unfolding settledOf zeroMessageIn
-    cancel-gives on running c =
-        gives (writes control) _ _ (write-row m control (c .eight) _ (code.cancel-row state fields (c .coded) on running)) (cancelled-says _)
+    cancel-completes : off m ≡ false → runs m ≡ true → Command 0x02 control → Completes m (writes control) 0 (26 ∷ 31 ∷ []) zeros
+    unfolding settledOf zeroMessageIn dueOf
+    cancel-completes on running c =
+        completes (writes control) _ _ (write-row m control (c .eight) _ (code.cancel-row state fields (c .coded) on running)) refl refl
+        (cancelled-says _)
 
     module _ (ready : Ready m) where
       capability-starts : Command 0x06 control → Starts m (writes control) (record { code = 0x06; connector = 0; «reset_type» = 0 })
@@ -272,10 +378,10 @@ module _ {count : ℕ} {m : Mailbox} (r : Reached count m) where
             → Starts m (writes control) (record { code = 0x12; connector = fields .connector; «reset_type» = 0 })
         connector-status-starts c = starts _ (c .eight) (code.connector-status-row state fields (ready-state m ready) low there (c .coded))
 
-      absent-gives : (code : ℕ) → NeedsConnector code → Command code control → (fields .connector ≡ 0) ⊎ (count < fields .connector)
-          → Gives m (writes control) 0 (30 ∷ 31 ∷ []) zeros
-      unfolding settledOf zeroMessageIn
-      absent-gives code n c h = gives (writes control) _ _ (write-row m control (c .eight) _ (row h)) (failed-says _)
+      absent-completes : (code : ℕ) → NeedsConnector code → Command code control → (fields .connector ≡ 0) ⊎ (count < fields .connector)
+          → Completes m (writes control) 0 (30 ∷ 31 ∷ []) zeros
+      unfolding settledOf zeroMessageIn dueOf
+      absent-completes code n c h = completes (writes control) _ _ (write-row m control (c .eight) _ (row h)) refl refl (failed-says _)
         where
           found : entryOf (fields .code) ≡ entry class.Run true
           found = ap entryOf (c .coded) ∙ needs-entry code n
@@ -285,12 +391,12 @@ module _ {count : ℕ} {m : Mailbox} (r : Reached count m) where
           row (inl z) = absent-zero state fields (ready-state m ready) found z
           row (inr above) = absent-above state fields (ready-state m ready) found (omega (arith, fixed))
 
-      other-gives : (code : ℕ) → Other code → Command code control → Gives m (writes control) 0 (25 ∷ 31 ∷ []) zeros
-      unfolding settledOf zeroMessageIn
-      other-gives code o c =
-          gives (writes control) _ _
+      other-completes : (code : ℕ) → Other code → Command code control → Completes m (writes control) 0 (25 ∷ 31 ∷ []) zeros
+      unfolding settledOf zeroMessageIn dueOf
+      other-completes code o c =
+          completes (writes control) _ _
           (write-row m control (c .eight) _ (other-row state fields (ready-state m ready) (ap entryOf (c .coded) ∙ other-entry code o)))
-          (not-supported-says _)
+          refl refl (not-supported-says _)
 
       six : Command 0x02 control → answers m (writes control) ≡ 6
       six c =
@@ -298,13 +404,19 @@ module _ {count : ℕ} {m : Mailbox} (r : Reached count m) where
           refuses m control (c .eight) 5 (rw (ap entryOf (c .coded) ∙ rows .cancel) (ap mailboxNumberOf none))
 
     -- ACK_CC_CI: taken, or 5.
+    acknowledges : (now : Changes)
+        → eventStepOf state (writes control) ≡ mailboxStep (mailboxState (state .connectors) (state .notifications) Acknowledged now) Taken Kept
+        → Acknowledges m (writes control)
+    unfolding settledOf dueOf
+    acknowledges now row =
+        record { gives = gives (writes control) _ _ row (acknowledged-says _); ended = ap (λ (s : Step). dueOf (s .state .status)) row }
+
     module _ (c : Command 0x04 control) (on : off m ≡ false) where
-      acknowledge-gives : due m ≡ true → fields .change ≡ false → fields .completed ≡ true
-          → Gives m (writes control) 0 (29 ∷ []) (messageInOf m) × (after .state .changes ≡ state .changes)
-      unfolding settledOf
-      acknowledge-gives d b k =
+      completion-acked : due m ≡ true → fields .change ≡ false → fields .completed ≡ true
+          → Acknowledges m (writes control) × (after .state .changes ≡ state .changes)
+      completion-acked d b k =
           let row = write-row m control (c .eight) _ (code.completed-acked state fields (c .coded) on (due-still (state .status) d) d b k) in
-          (gives (writes control) _ _ row (acknowledged-says _), ap (λ (s : Step). s .state .changes) row)
+          (acknowledges _ row, ap (λ (s : Step). s .state .changes) row)
 
       module _ (still : runs m ≡ false) (b : fields .change ≡ true) (k : fields .completed ≡ due m) where
         abbrev acked : State
@@ -314,11 +426,29 @@ module _ {count : ℕ} {m : Mailbox} (r : Reached count m) where
         change-row h true d = code.both-acked state fields (c .coded) on still h d b (k ∙ d)
         change-row h false d = code.change-acked state fields (c .coded) on still h d b (k ∙ d)
 
-        change-gives : (shown m ≡ 0 → ⊥) → Gives m (writes control) 0 (29 ∷ []) (messageInOf m) × (shown after ≡ lowestOf (state .changes .waiting))
-        unfolding settledOf
-        change-gives h =
-            let row = write-row m control (c .eight) _ (change-row h (due m) refl) in
-            (gives (writes control) _ _ row (acknowledged-says _), ap (λ (s : Step). s .state .changes .shown) row ∙ next-shows (state .changes))
+        next-is : (shown m ≡ 0 → ⊥) → after .state .changes ≡ nextShownOf (state .changes)
+        next-is h = ap (λ (s : Step). s .state .changes) (write-row m control (c .eight) _ (change-row h (due m) refl))
+
+        shows-lowest : (shown m ≡ 0 → ⊥) → ShowsLowest m after
+        shows-lowest h =
+            let within = holds count (reached-next count m (writes control) r) .within .shown in
+            let few = made count (r .made) .high in
+            let e = ap (λ (now : Changes). now .shown) (next-is h) ∙ next-shows (state .changes) in
+            record {
+              lowest = e;
+              waitsNoMore =
+                  λ low.
+                  ap (λ (now : Changes). getD (now .waiting) (shown after - 1) false) (next-is h)
+                  ∙ ap (λ (n : ℕ). getD (nextShownOf (state .changes) .waiting) (n - 1) false) e
+                  ∙ next-waits-no-more (state .changes) (omega (arith, low, e)) (omega (arith, within, few, e));
+              others =
+                  λ j low other.
+                  ap (λ (now : Changes). getD (now .waiting) (j - 1) false) (next-is h)
+                  ∙ lowest-others (state .changes) j low (λ t. other (t ∙ sym e));
+            }
+
+        change-acked : (shown m ≡ 0 → ⊥) → Acknowledges m (writes control) × ShowsLowest m after
+        change-acked h = (acknowledges _ (write-row m control (c .eight) _ (change-row h (due m) refl)), shows-lowest h)
 
         none-shown-row : shown m ≡ 0 → (d : Bool) → due m ≡ d → controlStepOf state fields ≡ refused state NothingToClear
         none-shown-row z true d = code.none-shown-due-5 state fields (c .coded) on still z d b (k ∙ d)
@@ -355,16 +485,17 @@ module _ {count : ℕ} {m : Mailbox} (r : Reached count m) where
 
   -- The port's reports: in a run they complete it, or are 8; else 7.
   module _ (running : runs m ≡ true) where
-    success-gives : (bytes : List ℕ) → length bytes ≤ 255
-        → Gives m (succeeds bytes) (length bytes) (31 ∷ []) (bytes ++ replicate (256 - length bytes) 0)
-    unfolding settledOf
-    success-gives bytes few =
-        subst (Gives m (succeeds bytes) (length bytes) (31 ∷ [])) (filled bytes (omega arith))
-        (gives (succeeds bytes) _ Filled (success-completes state (length bytes) running few) (completed-says _ (length bytes) (omega arith)))
+    reports-success : (bytes : List ℕ) → length bytes ≤ 255
+        → Completes m (succeeds bytes) (length bytes) (31 ∷ []) (bytes ++ replicate (256 - length bytes) 0)
+    unfolding settledOf dueOf
+    reports-success bytes few =
+        subst (Completes m (succeeds bytes) (length bytes) (31 ∷ [])) (filled bytes (omega arith))
+        (completes (succeeds bytes) _ Filled (success-completes state (length bytes) running few) refl refl
+        (completed-says _ (length bytes) (omega arith)))
 
-    failure-gives : Gives m fails 0 (30 ∷ 31 ∷ []) zeros
-    unfolding settledOf zeroMessageIn
-    failure-gives = gives fails _ _ (failure-completes state running) (failed-says _)
+    reports-failure : Completes m fails 0 (30 ∷ 31 ∷ []) zeros
+    unfolding settledOf zeroMessageIn dueOf
+    reports-failure = completes fails _ _ (failure-completes state running) refl refl (failed-says _)
 
     eight : (bytes : List ℕ) → 255 < length bytes → answers m (succeeds bytes) ≡ 8
     eight bytes long = numbered m (succeeds bytes) _ (success-8 state (length bytes) running long)
@@ -405,15 +536,23 @@ module _ {count : ℕ} {m : Mailbox} (r : Reached count m) where
         noted-is : (now : Changes) → notedOf (state .changes) c ≡ now → changed .state .changes ≡ now
         noted-is now e = ap (λ (s : Step). s .state .changes) recorded ∙ e
 
-        becomes-shown : shown m ≡ 0 → (answers m (changes c reason) ≡ 0) × (shown changed ≡ c)
-        becomes-shown z = (recorded-0, ap (λ (s : Changes). s .shown) (noted-is _ (noted-none (state .changes) c z)))
+        becomes-shown : shown m ≡ 0 → (answers m (changes c reason) ≡ 0) × (shown changed ≡ c) × ((j : ℕ) → waits changed j ≡ waits m j)
+        becomes-shown z =
+            let p = noted-is _ (noted-none (state .changes) c z) in
+            (recorded-0, ap (λ (s : Changes). s .shown) p, λ j. ap (λ (s : Changes). getD (s .waiting) (j - 1) false) p)
 
-        becomes-waiting : (shown m ≡ 0 → ⊥) → (answers m (changes c reason) ≡ 0) × (shown changed ≡ shown m) × (waits changed c ≡ true)
+        becomes-waiting : (shown m ≡ 0 → ⊥)
+            → (answers m (changes c reason) ≡ 0) × (shown changed ≡ shown m) × (waits changed c ≡ true)
+            × ((j : ℕ) → 1 ≤ j → (j ≡ c → ⊥) → waits changed j ≡ waits m j)
         becomes-waiting h =
             let p = noted-is _ (noted-waits (state .changes) c h) in
             let few = made count (r .made) .high in
-            let w = marked (state .changes .waiting) c true low (omega (arith, few)) (reached-eight r) in
-            (recorded-0, ap (λ (s : Changes). s .shown) p, ap (λ (s : Changes). getD (s .waiting) (c - 1) false) p ∙ w)
+            let w = marked (state .changes .waiting) c true low (omega (arith, few)) (reached-eight r) in (
+              recorded-0,
+              ap (λ (s : Changes). s .shown) p,
+              ap (λ (s : Changes). getD (s .waiting) (c - 1) false) p ∙ w,
+              λ j one other. ap (λ (s : Changes). getD (s .waiting) (j - 1) false) p ∙ marked-others (state .changes .waiting) c true j one other,
+            )
 
   every : Sentences count m
   every =
@@ -421,26 +560,28 @@ module _ {count : ℕ} {m : Mailbox} (r : Reached count m) where
         low = made count (r .made) .low;
         high = made count (r .made) .high;
         fixed = fixed;
+        messageInSize = reached-256 r;
         reset = reset-gives;
         resetChanges = λ control c. ap (λ (s : Step). s .state .changes) (reset-step control c);
         resetOff = λ control c. ap (λ (s : Step). s .state .notifications) (reset-step control c);
         resetStill = reset-still;
-        enable = λ still none control c. enable-gives control still none c;
+        enable = λ still none control c. enable-completes control still none c;
         enableOn = λ still none control c. ap (λ (s : Step). s .state .notifications) (enable-step control still none c);
+        notificationsKept = event-mask state;
         capability = λ ready control c. capability-starts control ready c;
         connectorReset = λ ready control c low high. connector-reset-starts control ready low high c;
         connectorCapability = λ ready control c low high. connector-capability-starts control ready low high c;
         connectorStatus = λ ready control c low high. connector-status-starts control ready low high c;
-        noConnector = λ ready code needs control c h. absent-gives control ready code needs c h;
-        otherCodes = λ ready code o control c. other-gives control ready code o c;
-        cancel = λ on running control c. cancel-gives control on running c;
+        noConnector = λ ready code needs control c h. absent-completes control ready code needs c h;
+        otherCodes = λ ready code o control c. other-completes control ready code o c;
+        cancel = λ on running control c. cancel-completes control on running c;
         runsUntil = run-until m;
         dueUntil = due-until m;
-        acknowledge = λ on d control c b k. acknowledge-gives control c on d b k;
-        acknowledgeChange = λ on still h control c b k. change-gives control c on still b k h;
+        acknowledge = λ on d control c b k. completion-acked control c on d b k;
+        acknowledgeChange = λ on still h control c b k. change-acked control c on still b k h;
         running = cci-in-run m;
-        success = success-gives;
-        failure = failure-gives;
+        success = reports-success;
+        failure = reports-failure;
         dropped = dropped;
         becomesShown = becomes-shown;
         becomesWaiting = becomes-waiting;

@@ -62,12 +62,31 @@ pub record Gives (m : Mailbox) (e : Event) (size : ℕ) (set message : List ℕ)
   pub cci : Says (mailboxCciOf (next m e)) (shown (next m e)) size set
   pub messageIn : messageInOf (next m e) ≡ message
 
--- The event is answered 0, and this command runs then: CCI is bit 28 alone, and MESSAGE_IN is kept.
+-- A completion or a cancel gives this and waits for ACK_CC_CI; the connector shown and those that wait stay as they are.
+pub record Completes (m : Mailbox) (e : Event) (size : ℕ) (set message : List ℕ) : Type 0 where
+  pub gives : Gives m e size set message
+  pub waitsForAck : due (next m e) ≡ true
+  pub changesKept : next m e .state .changes ≡ m .state .changes
+
+-- The event is answered 0, and this command runs then: CCI is bit 28 alone, and MESSAGE_IN is kept; the connector shown and those that wait
+-- stay as they are.
 pub record Starts (m : Mailbox) (e : Event) (command : port.Command) : Type 0 where
   pub taken : answers m e ≡ 0
   pub running : next m e .state .status ≡ Busy command
   pub cci : mailboxCciOf (next m e) ≡ 2 ^ 28
   pub messageIn : messageInOf (next m e) ≡ messageInOf m
+  pub changesKept : next m e .state .changes ≡ m .state .changes
+
+-- An accepted ACK gives bit 29 and keeps MESSAGE_IN, and no acknowledgement is due then.
+pub record Acknowledges (m : Mailbox) (e : Event) : Type 0 where
+  pub gives : Gives m e 0 (29 ∷ []) (messageInOf m)
+  pub ended : due (next m e) ≡ false
+
+-- Then the lowest waiting one is shown (0 if none waits), and it waits no more; of all others, those wait that waited before.
+pub record ShowsLowest (m after : Mailbox) : Type 0 where
+  pub lowest : shown after ≡ lowestOf (m .state .changes .waiting)
+  pub waitsNoMore : 1 ≤ shown after → waits after (shown after) ≡ false
+  pub others : (j : ℕ) → 1 ≤ j → (j ≡ shown after → ⊥) → waits after j ≡ waits m j
 
 abbrev pub zeros : List ℕ
 zeros = replicate 256 0
@@ -80,6 +99,13 @@ NeedsConnector code = (code ≡ 0x03) ⊎ ((code ≡ 0x07) ⊎ (code ≡ 0x12))
 pub record Other (code : ℕ) : Type 0 where
   pub not-1-to-7 : (code ≡ 0) ⊎ (7 < code)
   pub not-0x12 : code ≡ 0x12 → ⊥
+
+-- PPM_RESET and SET_NOTIFICATION_ENABLE may switch notifications off or on, and alter the mask.
+abbrev pub MaySwitch : Event → Type 0
+MaySwitch (writes control) = Command 0x01 control ⊎ Command 0x05 control
+MaySwitch (succeeds bytes) = ⊥
+MaySwitch fails = ⊥
+MaySwitch (changes c reason) = ⊥
 
 -- There are 1 to 8 connectors; other counts: 29, no mailbox. A fresh mailbox has CCI 0 and notifications off.
 pub record Start (count : ℕ) : Type 0 where
@@ -95,6 +121,8 @@ pub record Sentences (count : ℕ) (m : Mailbox) : Type 0 where
   pub low : 1 ≤ count
   pub high : count ≤ 8
   pub fixed : m .state .connectors ≡ count
+  -- A 256-byte MESSAGE_IN.
+  pub messageInSize : length (messageInOf m) ≡ 256
   -- PPM_RESET: accepted always; CCI only bit 27, MESSAGE_IN zero, changes and mask cleared, notifications off, nothing running, no
   -- acknowledgement due.
   pub reset : (control : List ℕ) → Command 0x01 control → Gives m (writes control) 0 (27 ∷ []) zeros
@@ -102,9 +130,11 @@ pub record Sentences (count : ℕ) (m : Mailbox) : Type 0 where
   pub resetOff : (control : List ℕ) → Command 0x01 control → next m (writes control) .state .notifications ≡ Off
   pub resetStill : (control : List ℕ) → Command 0x01 control → (runs (next m (writes control)) ≡ false) × (due (next m (writes control)) ≡ false)
   -- SET_NOTIFICATION_ENABLE: takes the mask, notifications on, completes at once (mask 0 too).
-  pub enable : runs m ≡ false → due m ≡ false → (control : List ℕ) → Command 0x05 control → Gives m (writes control) 0 (31 ∷ []) zeros
+  pub enable : runs m ≡ false → due m ≡ false → (control : List ℕ) → Command 0x05 control → Completes m (writes control) 0 (31 ∷ []) zeros
   pub enableOn : runs m ≡ false → due m ≡ false → (control : List ℕ) → Command 0x05 control
       → next m (writes control) .state .notifications ≡ On (fieldsOf control .mask)
+  -- Nothing else alters the mask, or switches notifications on or off.
+  pub notificationsKept : (e : Event) → (next m e .state .notifications ≡ m .state .notifications) ⊎ MaySwitch e
   -- GET_CAPABILITY, and with a connector number from 1 to the count the three commands that need one, run; else they complete at once with
   -- bits 30 and 31. Other codes complete at once with bits 25 and 31.
   pub capability : Ready m → (control : List ℕ) → Command 0x06 control → Starts m (writes control) (record { code = 0x06; connector = 0; «reset_type» = 0 })
@@ -115,31 +145,34 @@ pub record Sentences (count : ℕ) (m : Mailbox) : Type 0 where
   pub connectorStatus : Ready m → (control : List ℕ) → Command 0x12 control → 1 ≤ fieldsOf control .connector → fieldsOf control .connector ≤ count
       → Starts m (writes control) (record { code = 0x12; connector = fieldsOf control .connector; «reset_type» = 0 })
   pub noConnector : Ready m → (code : ℕ) → NeedsConnector code → (control : List ℕ) → Command code control
-      → (fieldsOf control .connector ≡ 0) ⊎ (count < fieldsOf control .connector) → Gives m (writes control) 0 (30 ∷ 31 ∷ []) zeros
-  pub otherCodes : Ready m → (code : ℕ) → Other code → (control : List ℕ) → Command code control → Gives m (writes control) 0 (25 ∷ 31 ∷ []) zeros
+      → (fieldsOf control .connector ≡ 0) ⊎ (count < fieldsOf control .connector) → Completes m (writes control) 0 (30 ∷ 31 ∷ []) zeros
+  pub otherCodes : Ready m → (code : ℕ) → Other code → (control : List ℕ) → Command code control → Completes m (writes control) 0 (25 ∷ 31 ∷ []) zeros
   -- Cancel sets bit 26 and what 000 T4-4 prints beside it.
-  pub cancel : off m ≡ false → runs m ≡ true → (control : List ℕ) → Command 0x02 control → Gives m (writes control) 0 (26 ∷ 31 ∷ []) zeros
+  pub cancel : off m ≡ false → runs m ≡ true → (control : List ℕ) → Command 0x02 control → Completes m (writes control) 0 (26 ∷ 31 ∷ []) zeros
   -- A run lasts until the port reports, but for CANCEL and PPM_RESET. Every completion and cancel waits for ACK_CC_CI with bit 17 set.
   pub runsUntil : runs m ≡ true → (e : Event) → (next m e .state .status ≡ m .state .status) ⊎ MayEndRun e
   pub dueUntil : due m ≡ true → (e : Event) → (due (next m e) ≡ true) ⊎ MayEndDue e
   -- An accepted ACK gives bit 29; with bit 16 set it also clears the connector shown, and then the lowest waiting one is shown.
   pub acknowledge : off m ≡ false → due m ≡ true → (control : List ℕ) → Command 0x04 control → fieldsOf control .change ≡ false
-      → fieldsOf control .completed ≡ true → Gives m (writes control) 0 (29 ∷ []) (messageInOf m) × (next m (writes control) .state .changes ≡ m .state .changes)
-  pub acknowledgeChange : off m ≡ false → runs m ≡ false → (shown m ≡ 0 → ⊥) → (control : List ℕ) → Command 0x04 control → fieldsOf control .change ≡ true
-      → fieldsOf control .completed ≡ due m
-      → Gives m (writes control) 0 (29 ∷ []) (messageInOf m) × (shown (next m (writes control)) ≡ lowestOf (m .state .changes .waiting))
+      → fieldsOf control .completed ≡ true → Acknowledges m (writes control) × (next m (writes control) .state .changes ≡ m .state .changes)
+  pub acknowledgeChange : off m ≡ false → runs m ≡ false → (shown m ≡ 0 → ⊥) → (control : List ℕ) → Command 0x04 control
+      → fieldsOf control .change ≡ true → fieldsOf control .completed ≡ due m → Acknowledges m (writes control) × ShowsLowest m (next m (writes control))
   -- While a command runs, CCI is bit 28 alone. Port success copies its bytes to MESSAGE_IN, zeros after; a failure zeroes it.
   pub running : runs m ≡ true → mailboxCciOf m ≡ 2 ^ 28
-  pub success : runs m ≡ true → (bytes : List ℕ) → length bytes ≤ 255 → Gives m (succeeds bytes) (length bytes) (31 ∷ []) (bytes ++ replicate (256 - length bytes) 0)
-  pub failure : runs m ≡ true → Gives m fails 0 (30 ∷ 31 ∷ []) zeros
+  pub success : runs m ≡ true → (bytes : List ℕ) → length bytes ≤ 255
+      → Completes m (succeeds bytes) (length bytes) (31 ∷ []) (bytes ++ replicate (256 - length bytes) 0)
+  pub failure : runs m ≡ true → Completes m fails 0 (30 ∷ 31 ∷ []) zeros
   -- A change is recorded if notifications are on and its reason meets the mask outside bit 0; else it is dropped with answer 0. With none
-  -- shown it becomes the shown one; else the shown one stays, and the new one waits, once.
-  pub dropped : (c reason : ℕ) → 1 ≤ c → c ≤ count → (mask : ℕ) → (m .state .notifications ≡ Off) ⊎ ((m .state .notifications ≡ On mask) × (meetsOf reason mask ≡ false))
+  -- shown it becomes the shown one; else the shown one stays, and the new one waits, once. Of all others, those wait that waited before.
+  pub dropped : (c reason : ℕ) → 1 ≤ c → c ≤ count → (mask : ℕ)
+      → (m .state .notifications ≡ Off) ⊎ ((m .state .notifications ≡ On mask) × (meetsOf reason mask ≡ false))
       → (answers m (changes c reason) ≡ 0) × (next m (changes c reason) ≡ m)
   pub becomesShown : (c reason : ℕ) → 1 ≤ c → c ≤ count → (mask : ℕ) → m .state .notifications ≡ On mask → meetsOf reason mask ≡ true → shown m ≡ 0
-      → (answers m (changes c reason) ≡ 0) × (shown (next m (changes c reason)) ≡ c)
-  pub becomesWaiting : (c reason : ℕ) → 1 ≤ c → c ≤ count → (mask : ℕ) → m .state .notifications ≡ On mask → meetsOf reason mask ≡ true → (shown m ≡ 0 → ⊥)
+      → (answers m (changes c reason) ≡ 0) × (shown (next m (changes c reason)) ≡ c) × ((j : ℕ) → waits (next m (changes c reason)) j ≡ waits m j)
+  pub becomesWaiting : (c reason : ℕ) → 1 ≤ c → c ≤ count → (mask : ℕ) → m .state .notifications ≡ On mask → meetsOf reason mask ≡ true
+      → (shown m ≡ 0 → ⊥)
       → (answers m (changes c reason) ≡ 0) × (shown (next m (changes c reason)) ≡ shown m) × (waits (next m (changes c reason)) c ≡ true)
+      × ((j : ℕ) → 1 ≤ j → (j ≡ c → ⊥) → waits (next m (changes c reason)) j ≡ waits m j)
   -- A change alters only bits 1 to 7, and in a run none.
   pub changeHigh : (c reason : ℕ) → mailboxCciOf (next m (changes c reason)) / 2 ^ 8 ≡ mailboxCciOf m / 2 ^ 8
   pub changeLow : (c reason : ℕ) → mailboxCciOf (next m (changes c reason)) % 2 ≡ mailboxCciOf m % 2
