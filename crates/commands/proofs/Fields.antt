@@ -24,7 +24,7 @@ alike p q r s t = cc
 abbrev pub inBytes : ℕ → ℕ → ℕ → Control
 inBytes code low high = control code (low % 128) (low / 128) (low + 256 * high) (eqb (low % 2) 1) (eqb (low / 2 % 2) 1)
 
--- The bits of a byte, one by one, and what stands above them.
+-- The bits of a byte, one by one, and what is above them.
 module _ (n t : ℕ) (h : n < 256) where
   from-128 : n / 128 % 2 + 2 * t ≡ n / 128 + 2 * t
   from-128 = omega arith

@@ -17,7 +17,7 @@ controlSize = 8
 abbrev pub bit : List ℕ → ℕ → ℕ
 bit b i = getD b (i / 8) 0 / 2 ^ (i % 8) % 2
 
--- Its lowest bit stands at the offset.
+-- So many bits from the offset on, the lowest first.
 abbrev pub field : List ℕ → ℕ → ℕ → ℕ
 field b offset zero = 0
 field b offset (suc size) = bit b offset + 2 * field b (suc offset) size

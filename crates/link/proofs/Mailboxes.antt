@@ -17,7 +17,7 @@ use Rattle.mailbox_rules.specs.Events.{Event, eventOf}
 use Rattle.mailbox_rules.specs.History.{Reached}
 use Rattle.mailbox_rules.proofs.Laws.{fresh-made, fresh-29-zero, fresh-29-above}
 use Rattle.mailbox_rules.proofs.Reached.{reached-fresh, reached-next, made, holds}
-use Rattle.mailbox_flat.specs.Flat.{packOf, unpackOf, isMailbox, none}
+use Rattle.mailbox_flat.specs.Flat.{mailboxPackOf, mailboxUnpackOf, isMailbox, zeroMailbox}
 use Rattle.mailbox_flat.specs.Waiting.{waitingBytesOf}
 use Rattle.mailbox_flat.specs.Status.{flatStatusOf}
 use Rattle.mailbox_flat.specs.declared.flat.FlatMailbox.{FlatMailbox}
@@ -29,72 +29,72 @@ use Rattle.link.specs.Handed.{HandedMailbox, starts, writes, succeeds, f
 -- Of every event: `heldOf` is what each of the four calls is.
 module _ (f : FlatMailbox) (e : Event) where
   abbrev outcome : Outcome
-  outcome = eventOf (unpackOf f) e
+  outcome = eventOf (mailboxUnpackOf f) e
 
-  pub held-through : isMailbox f ≡ true → heldOf f e ≡ mailboxOutcome (packOf (outcome .mailbox)) (mailboxNumberOf (outcome .answer))
+  pub held-through : isMailbox f ≡ true → heldOf f e ≡ mailboxOutcome (mailboxPackOf (outcome .mailbox)) (mailboxNumberOf (outcome .answer))
   held-through is = pick-yes _ _ _ is
 
   pub held-29 : isMailbox f ≡ false → heldOf f e ≡ mailboxOutcome f 29
   held-29 is = pick-no _ _ _ is
 
-  pub held-next : isMailbox f ≡ true → unpackOf (heldOf f e .state) ≡ outcome .mailbox
-  held-next is = ap (λ x. unpackOf (x .state)) (held-through is) ∙ unpack-pack (outcome .mailbox)
+  pub held-next : isMailbox f ≡ true → mailboxUnpackOf (heldOf f e .state) ≡ outcome .mailbox
+  held-next is = ap (λ x. mailboxUnpackOf (x .state)) (held-through is) ∙ unpack-pack (outcome .mailbox)
 
 module _ (f : FlatMailbox) (is : isMailbox f ≡ true) where
   abbrev through : Outcome → MailboxOutcome
-  through o = mailboxOutcome (packOf (o .mailbox)) (mailboxNumberOf (o .answer))
+  through o = mailboxOutcome (mailboxPackOf (o .mailbox)) (mailboxNumberOf (o .answer))
 
-  pub write-through : (control : List ℕ) → harsolvekMailboxWrite f control ≡ through (eventOf (unpackOf f) (event.writes control))
+  pub write-through : (control : List ℕ) → harsolvekMailboxWrite f control ≡ through (eventOf (mailboxUnpackOf f) (event.writes control))
   write-through control = held-through f (event.writes control) is
 
-  pub success-through : (bytes : List ℕ) → harsolvekMailboxSuccess f bytes ≡ through (eventOf (unpackOf f) (event.succeeds bytes))
+  pub success-through : (bytes : List ℕ) → harsolvekMailboxSuccess f bytes ≡ through (eventOf (mailboxUnpackOf f) (event.succeeds bytes))
   success-through bytes = held-through f (event.succeeds bytes) is
 
-  pub failure-through : harsolvekMailboxFailure f ≡ through (eventOf (unpackOf f) event.fails)
+  pub failure-through : harsolvekMailboxFailure f ≡ through (eventOf (mailboxUnpackOf f) event.fails)
   failure-through = held-through f event.fails is
 
-  pub change-through : (connector reason : ℕ) → harsolvekMailboxChange f connector reason ≡ through (eventOf (unpackOf f) (event.changes connector reason))
+  pub change-through : (connector reason : ℕ) → harsolvekMailboxChange f connector reason ≡ through (eventOf (mailboxUnpackOf f) (event.changes connector reason))
   change-through connector reason = held-through f (event.changes connector reason) is
 
 module _ (f : FlatMailbox) where
-  pub cci-through : isMailbox f ≡ true → harsolvekMailboxCci f ≡ reads (mailboxCciOf (unpackOf f)) 0
+  pub cci-through : isMailbox f ≡ true → harsolvekMailboxCci f ≡ reads (mailboxCciOf (mailboxUnpackOf f)) 0
   cci-through e = pick-yes _ _ _ e
 
   pub cci-29 : isMailbox f ≡ false → harsolvekMailboxCci f ≡ reads 0 29
   cci-29 e = pick-no _ _ _ e
 
-  pub message-through : isMailbox f ≡ true → harsolvekMailboxMessageIn f ≡ carries (messageInOf (unpackOf f)) 0
+  pub message-through : isMailbox f ≡ true → harsolvekMailboxMessageIn f ≡ carries (messageInOf (mailboxUnpackOf f)) 0
   message-through e = pick-yes _ _ _ e
 
   pub message-29 : isMailbox f ≡ false → harsolvekMailboxMessageIn f ≡ carries (replicate 256 0) 29
   message-29 e = pick-no _ _ _ e
 
 -- A mailbox with no connector is all zero, which no call takes for a mailbox.
-zero-none : packOf (freshMailbox 0) ≡ none
+zero-none : mailboxPackOf (freshMailbox 0) ≡ zeroMailbox
 unfolding freshMailbox zeroMessageIn waitingBytesOf flatStatusOf
 zero-none = refl
 
 abbrev flatFresh : Fresh → MailboxOutcome
-flatFresh f = mailboxOutcome (packOf (f .mailbox)) (f .number)
+flatFresh f = mailboxOutcome (mailboxPackOf (f .mailbox)) (f .number)
 
 -- A count of 1 to 8 hands out the numbers of the fresh mailbox; any other hands out none, and 29.
 module _ (count : ℕ) where
-  pub fresh-taken : 1 ≤ count → count ≤ 8 → harsolvekMailboxFresh count ≡ mailboxOutcome (packOf (freshMailbox count)) 0
+  pub fresh-taken : 1 ≤ count → count ≤ 8 → harsolvekMailboxFresh count ≡ mailboxOutcome (mailboxPackOf (freshMailbox count)) 0
   fresh-taken low high = ap flatFresh (fresh-made count low high)
 
-  pub fresh-refused-zero : count ≡ 0 → harsolvekMailboxFresh count ≡ mailboxOutcome none 29
+  pub fresh-refused-zero : count ≡ 0 → harsolvekMailboxFresh count ≡ mailboxOutcome zeroMailbox 29
   fresh-refused-zero e = ap flatFresh (fresh-29-zero count e) ∙ ap (λ f. mailboxOutcome f 29) zero-none
 
-  pub fresh-refused-above : 8 < count → harsolvekMailboxFresh count ≡ mailboxOutcome none 29
+  pub fresh-refused-above : 8 < count → harsolvekMailboxFresh count ≡ mailboxOutcome zeroMailbox 29
   fresh-refused-above h = ap flatFresh (fresh-29-above count h) ∙ ap (λ f. mailboxOutcome f 29) zero-none
 
 module _ (count : ℕ) where
   -- The numbers are a mailbox's, and it is one that events lead to.
   pub record Reaches (f : FlatMailbox) : Type 0 where
     pub is : isMailbox f ≡ true
-    pub reached : Reached count (unpackOf f)
+    pub reached : Reached count (mailboxUnpackOf f)
 
-  reaches : (m : Mailbox) → Reached count m → Reaches (packOf m)
+  reaches : (m : Mailbox) → Reached count m → Reaches (mailboxPackOf m)
   reaches m r =
       let same = holds count r .connectors in
       let count-of = made count (r .made) in
@@ -106,7 +106,7 @@ module _ (count : ℕ) where
   goes-on : (f : FlatMailbox) (e : Event) → Reaches f → Reaches (heldOf f e .state)
   goes-on f e r =
       subst (λ x. Reaches (x .state)) (sym (held-through f e (r .is)))
-      (reaches (eventOf (unpackOf f) e .mailbox) (reached-next count (unpackOf f) e (r .reached)))
+      (reaches (eventOf (mailboxUnpackOf f) e .mailbox) (reached-next count (mailboxUnpackOf f) e (r .reached)))
 
   pub handed-reached : {f : FlatMailbox} → HandedMailbox count f → Reaches f
   handed-reached (starts e) = reaches (mailboxFreshOf count .mailbox) (reached-fresh count e)
@@ -115,5 +115,5 @@ module _ (count : ℕ) where
   handed-reached (fails {f = f} h) = goes-on f event.fails (handed-reached h)
   handed-reached (changes {f = f} h connector reason) = goes-on f (event.changes connector reason) (handed-reached h)
 
-  pub handed-inverse : {f : FlatMailbox} → HandedMailbox count f → packOf (unpackOf f) ≡ f
+  pub handed-inverse : {f : FlatMailbox} → HandedMailbox count f → mailboxPackOf (mailboxUnpackOf f) ≡ f
   handed-inverse {f} h = pack-unpack f (handed-reached h .is)

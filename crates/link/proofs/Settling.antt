@@ -10,7 +10,7 @@ use Rattle.mailbox_rules.specs.MessageIn.{zeroMessageIn, settledOf, keepsOf}
 use Rattle.mailbox_rules.specs.Mailbox.{mailbox, mailboxReturns}
 use Rattle.mailbox_rules.specs.Events.{stepReturns}
 use Rattle.mailbox_rules.proofs.Message.{settled-anew, settled-keeps}
-use Rattle.mailbox_flat.specs.Flat.{unpackOf, isMailbox}
+use Rattle.mailbox_flat.specs.Flat.{mailboxUnpackOf, isMailbox}
 use Rattle.mailbox_flat.proofs.Inverse.{pack-unpack}
 use Rattle.mailbox_flat.specs.declared.flat.FlatMailbox.{FlatMailbox}
 use Rattle.link.specs.Mailbox.{mailboxOutcome, flatMailboxOf}
@@ -20,15 +20,15 @@ module _ (f : FlatMailbox) (step : Step) (bytes : List ℕ) where
   abbrev with-message : List ℕ → MailboxOutcome
   with-message message = flatMailboxOf (mailboxReturns (mailbox (step .state) message) (step .answer))
 
-  pub kept-settles : keepsOf (step .effect) ≡ true → with-message (f .«message_in») ≡ flatMailboxOf (stepReturns (unpackOf f) step bytes)
+  pub kept-settles : keepsOf (step .effect) ≡ true → with-message (f .«message_in») ≡ flatMailboxOf (stepReturns (mailboxUnpackOf f) step bytes)
   kept-settles e = ap with-message (sym (settled-keeps (step .effect) (f .«message_in») bytes e))
 
-  pub anew-settles : keepsOf (step .effect) ≡ false → with-message (settledOf zeroMessageIn (step .effect) bytes) ≡ flatMailboxOf (stepReturns (unpackOf f) step bytes)
+  pub anew-settles : keepsOf (step .effect) ≡ false → with-message (settledOf zeroMessageIn (step .effect) bytes) ≡ flatMailboxOf (stepReturns (mailboxUnpackOf f) step bytes)
   anew-settles e = ap with-message (settled-anew (step .effect) zeroMessageIn (f .«message_in») bytes e)
 
 -- A refusal returns the state as it came.
 pub refused-stays : (f : FlatMailbox) (o : Outcome) (n : ℕ) → isMailbox f ≡ true
-    → ((mailboxNumberOf (o .answer) ≡ 0 → ⊥) → o ≡ mailboxReturns (unpackOf f) (o .answer))
+    → ((mailboxNumberOf (o .answer) ≡ 0 → ⊥) → o ≡ mailboxReturns (mailboxUnpackOf f) (o .answer))
     → n ≡ mailboxNumberOf (o .answer) → (n ≡ 0 → ⊥) → mailboxOutcome f n ≡ flatMailboxOf o
 refused-stays f o n is keeps e h =
     ap (mailboxOutcome f) e

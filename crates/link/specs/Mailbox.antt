@@ -8,7 +8,7 @@ use Rattle.mailbox_state.specs.Answer.{mailboxNumberOf}
 use Rattle.mailbox_state.specs.declared.mailbox.Outcome.{Outcome}
 use Rattle.mailbox_rules.specs.Mailbox.{mailboxFreshOf, messageInOf, mailboxCciOf}
 use Rattle.mailbox_rules.specs.Events.{Event, writes, succeeds, fails, changes, eventOf}
-use Rattle.mailbox_flat.specs.Flat.{packOf, unpackOf, isMailbox}
+use Rattle.mailbox_flat.specs.Flat.{mailboxPackOf, mailboxUnpackOf, isMailbox}
 use Rattle.mailbox_flat.specs.declared.flat.FlatMailbox.{FlatMailbox}
 use Rattle.link.specs.declared.mailbox_calls.MailboxOutcome.{MailboxOutcome}
 use Rattle.link.specs.declared.mailbox_calls.MailboxCci.{MailboxCci}
@@ -18,7 +18,7 @@ abbrev pub mailboxOutcome : FlatMailbox → ℕ → MailboxOutcome
 mailboxOutcome state number = record { state = state; number = number }
 
 abbrev pub flatMailboxOf : Outcome → MailboxOutcome
-flatMailboxOf o = mailboxOutcome (packOf (o .mailbox)) (mailboxNumberOf (o .answer))
+flatMailboxOf o = mailboxOutcome (mailboxPackOf (o .mailbox)) (mailboxNumberOf (o .answer))
 
 -- 29, and nothing changes.
 abbrev pub noMailbox : FlatMailbox → MailboxOutcome
@@ -26,11 +26,11 @@ noMailbox f = mailboxOutcome f 29
 
 -- The numbers of what a start returns; beside a 29 they are all zero.
 abbrev pub harsolvekMailboxFresh : ℕ → MailboxOutcome
-harsolvekMailboxFresh count = mailboxOutcome (packOf (mailboxFreshOf count .mailbox)) (mailboxFreshOf count .number)
+harsolvekMailboxFresh count = mailboxOutcome (mailboxPackOf (mailboxFreshOf count .mailbox)) (mailboxFreshOf count .number)
 
 -- An event of the mailbox that the numbers say.
 abbrev pub heldOf : FlatMailbox → Event → MailboxOutcome
-heldOf f e = pick (isMailbox f) (flatMailboxOf (eventOf (unpackOf f) e)) (noMailbox f)
+heldOf f e = pick (isMailbox f) (flatMailboxOf (eventOf (mailboxUnpackOf f) e)) (noMailbox f)
 
 abbrev pub harsolvekMailboxWrite : FlatMailbox → List ℕ → MailboxOutcome
 harsolvekMailboxWrite f control = heldOf f (writes control)
@@ -48,10 +48,10 @@ abbrev pub reads : ℕ → ℕ → MailboxCci
 reads cci number = record { cci = cci; number = number }
 
 abbrev pub harsolvekMailboxCci : FlatMailbox → MailboxCci
-harsolvekMailboxCci f = pick (isMailbox f) (reads (mailboxCciOf (unpackOf f)) 0) (reads 0 29)
+harsolvekMailboxCci f = pick (isMailbox f) (reads (mailboxCciOf (mailboxUnpackOf f)) 0) (reads 0 29)
 
 abbrev pub holds : List ℕ → ℕ → MessageIn
 holds bytes number = record { bytes = bytes; number = number }
 
 abbrev pub harsolvekMailboxMessageIn : FlatMailbox → MessageIn
-harsolvekMailboxMessageIn f = pick (isMailbox f) (holds (messageInOf (unpackOf f)) 0) (holds (replicate 256 0) 29)
+harsolvekMailboxMessageIn f = pick (isMailbox f) (holds (messageInOf (mailboxUnpackOf f)) 0) (holds (replicate 256 0) 29)

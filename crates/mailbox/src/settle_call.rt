@@ -24,7 +24,7 @@ fn fill(message: &mut [u8; 256], bytes: &[u8])
     lent::put(message, 0, bytes);
 }
 
-// Whether `settle` changes nothing: a caller that copies MESSAGE_IN then copies it once.
+// Whether `settle` changes nothing, so that a caller which copies MESSAGE_IN can copy it once.
 pub fn keeps(effect: MessageEffect) -> bool
     ensures { λ r. ⌜ r ≡ keepsOf effect ⌝ }
 {

@@ -6,7 +6,7 @@ ghost use Rattle.mailbox_rules.specs.Changes.{lowestOf, markedOf, notedOf, next
 
 const PLACES: usize = 8;
 
-// A recorded change.
+// A change that is recorded is shown where none is, and else waits.
 pub(crate) fn noted(changes: Changes, connector: u8) -> Changes
     ensures { λ r. ⌜ r ≡ notedOf changes connector ⌝ }
 {
@@ -24,7 +24,7 @@ pub(crate) fn noted(changes: Changes, connector: u8) -> Changes
     }
 }
 
-// The one shown is acknowledged.
+// Once the one shown is acknowledged, the lowest that waits is shown.
 pub(crate) fn next(changes: Changes) -> Changes
     ensures { λ r. ⌜ r ≡ nextShownOf changes ⌝ }
 {

@@ -59,7 +59,7 @@ fn taken(state: State, class: Class, needs: bool, control: Control) -> Step
     }
 }
 
-// A taken event after which only the status is another one.
+// A taken event that changes nothing but the status.
 pub(crate) fn with_status(state: State, status: CommandStatus, effect: MessageEffect) -> Step
     ensures { λ r. ⌜ r ≡ mailboxStep (withStatus state status) Taken effect ⌝ }
 {

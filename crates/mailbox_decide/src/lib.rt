@@ -1,4 +1,4 @@
-// What the mailbox decides on a write, on a report of the port and on a change, and what CCI then says; no memory (01, The mailbox).
+// What the mailbox decides on a write, on a report of the port and on a change, and what CCI then says. Nothing here touches memory (01, The mailbox).
 mod answer;
 mod bits;
 mod changes;

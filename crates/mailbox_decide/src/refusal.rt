@@ -53,7 +53,7 @@ fn in_run(class: Class, situation: Situation) -> Answer
     }
 }
 
-// A command that runs while notifications are off, which no event leads to: 0x05 is 3, everything else but PPM_RESET is 2.
+// A command that runs while notifications are off: 0x05 is 3, everything else but PPM_RESET is 2.
 fn runs_while_off(class: Class) -> Answer
     ensures { λ r. ⌜ r ≡ runsWhileOff class ⌝ }
 {

@@ -1,4 +1,4 @@
--- The numbers are taken for a mailbox exactly where they are one in the paper's own numbers.
+-- Numbers are taken for a mailbox exactly where they are valid in the paper's own numbers.
 use Prim.Native.Nat.{ℕ, zero, suc, _≤_}
 use mathlib.Core.Bool.{Bool, true, false, true≢false}
 use mathlib.Core.List.{List, [], _∷_}
@@ -13,8 +13,8 @@ use Rattle.mailbox_state.proofs.Numbers.{counted-0, counted-within}
 use Rattle.mailbox_flat.specs.Waiting.{areFlags}
 use Rattle.mailbox_flat.specs.Notifying.{notifiesOf}
 use Rattle.mailbox_flat.specs.Status.{idleOf, isRestOf, isStatusOf}
-use Rattle.mailbox_flat.specs.Flat.{stated, saysOf, isMailbox, none}
-use Rattle.mailbox_flat.specs.Whole.{Standing, Whole}
+use Rattle.mailbox_flat.specs.Flat.{flatStatusIn, saysMailbox, isMailbox, zeroMailbox}
+use Rattle.mailbox_flat.specs.Valid.{MailboxStatusValid, MailboxValid}
 use Rattle.mailbox_flat.specs.declared.status.FlatStatus.{FlatStatus}
 use Rattle.mailbox_flat.specs.declared.flat.FlatMailbox.{FlatMailbox}
 
@@ -43,9 +43,9 @@ module _ (on mask : ℕ) where
 
   numbers-notify : on ≤ 1 → (on ≡ 0 → mask ≡ 0) → notifiesOf on mask ≡ true
   unfolding notifiesOf
-  numbers-notify few none =
+  numbers-notify few zeroMailbox =
       pick-all (λ (b : Bool). b ≡ true) (eqb on 1) _ _ (λ _. refl)
-      (λ t. let zero : on ≡ 0 = omega (arith, eqb-false on 1 t) in let no = none zero in search tests)
+      (λ t. let zero : on ≡ 0 = omega (arith, eqb-false on 1 t) in let no = zeroMailbox zero in search tests)
 
 module _ (t : FlatStatus) where
   idle-none : idleOf (t .command) ≡ true → (t .command .code ≡ 0) × (t .command .connector ≡ 0) × (t .command .«reset_type» ≡ 0)
@@ -55,45 +55,45 @@ module _ (t : FlatStatus) where
       let b = pick-both (eqb (t .command .connector) 0) _ (a .1) in
       (eqb-true (t .command .code) 0 (a .0), eqb-true (t .command .connector) 0 (b .0), eqb-true (t .command .«reset_type») 0 (b .1))
 
-  rests-standing : (t .code ≡ 2 → ⊥) → (t .command .code ≡ 0) × (t .command .connector ≡ 0) × (t .command .«reset_type» ≡ 0) → isRestOf t ≡ true
-      → Standing t
+  rest-valid : (t .code ≡ 2 → ⊥) → (t .command .code ≡ 0) × (t .command .connector ≡ 0) × (t .command .«reset_type» ≡ 0) → isRestOf t ≡ true
+      → MailboxStatusValid t
   unfolding isRestOf
-  rests-standing not idle =
-      pick-all (λ (b : Bool). b ≡ true → Standing t) (eqb (t .code) 3) _ _
+  rest-valid not idle =
+      pick-all (λ (b : Bool). b ≡ true → MailboxStatusValid t) (eqb (t .code) 3) _ _
       (λ u _. let three = eqb-true (t .code) 3 u in record { codes = omega arith; busy-alone = λ _. idle; completed-alone = λ n. absurd (n three) })
       (λ _ e.
       let both = pick-both (eqb (t .length) 0) _ e in
       record { codes = leb-true (t .code) 7 (both .1); busy-alone = λ _. idle; completed-alone = λ _. eqb-true (t .length) 0 (both .0) })
 
-  status-whole : isStatusOf t ≡ true → Standing t
+  status-valid : isStatusOf t ≡ true → MailboxStatusValid t
   unfolding isStatusOf
-  status-whole =
-      pick-all (λ (b : Bool). b ≡ true → Standing t) (eqb (t .code) 2) _ _
+  status-valid =
+      pick-all (λ (b : Bool). b ≡ true → MailboxStatusValid t) (eqb (t .code) 2) _ _
       (λ u e.
       let two = eqb-true (t .code) 2 u in
       record { codes = omega arith; busy-alone = λ n. absurd (n two); completed-alone = λ _. eqb-true (t .length) 0 e })
       (λ u e.
       let both = pick-both (idleOf (t .command)) _ e in
-      rests-standing (eqb-false (t .code) 2 u) (idle-none (both .0)) (both .1))
+      rest-valid (eqb-false (t .code) 2 u) (idle-none (both .0)) (both .1))
 
-  whole-status : Standing t → isStatusOf t ≡ true
+  valid-status : MailboxStatusValid t → isStatusOf t ≡ true
   unfolding isStatusOf idleOf isRestOf
-  whole-status s =
+  valid-status s =
       let P : Bool → Type 0 = λ b. b ≡ true in
       let few = s .codes in
-      pick-all P (eqb (t .code) 2) _ _ (λ u. let two = eqb-true (t .code) 2 u in let none = s .completed-alone (λ e. omega arith) in search tests)
+      pick-all P (eqb (t .code) 2) _ _ (λ u. let two = eqb-true (t .code) 2 u in let zeroMailbox = s .completed-alone (λ e. omega arith) in search tests)
       (λ u.
       let idle = s .busy-alone (eqb-false (t .code) 2 u) in
       let code = idle .0 in
       let connector = idle .1 in
       let type = idle .2 in
       let rest : idleOf (t .command) ≡ true = search tests in
-      let rests : isRestOf t ≡ true = pick-all P (eqb (t .code) 3) _ _ (λ _. refl) (λ v. let none = s .completed-alone (eqb-false (t .code) 3 v) in search tests) in
+      let rests : isRestOf t ≡ true = pick-all P (eqb (t .code) 3) _ _ (λ _. refl) (λ v. let zeroMailbox = s .completed-alone (eqb-false (t .code) 3 v) in search tests) in
       rw (rest, rests) (search tests))
 
-pub mailbox-whole : (f : FlatMailbox) → isMailbox f ≡ true → Whole f
-unfolding isMailbox saysOf
-mailbox-whole f e =
+pub mailbox-valid : (f : FlatMailbox) → isMailbox f ≡ true → MailboxValid f
+unfolding isMailbox saysMailbox
+mailbox-valid f e =
     let a = pick-both (eqb (connectorsNumberOf (f .connectors)) 0) _ e in
     let b = pick-both (areFlags (f .waiting)) _ (a .1) in
     let c = pick-both (notifiesOf (f .notifications) (f .mask)) _ (b .1) in
@@ -105,20 +105,20 @@ mailbox-whole f e =
       flags = flags-each (f .waiting) (b .0);
       on = on .0;
       off-no-mask = on .1;
-      standing = status-whole (stated f) (c .1);
+      statusValid = status-valid (flatStatusIn f) (c .1);
     }
 
-pub whole-mailbox : (f : FlatMailbox) → Whole f → isMailbox f ≡ true
-unfolding isMailbox saysOf
-whole-mailbox f w =
+pub valid-mailbox : (f : FlatMailbox) → MailboxValid f → isMailbox f ≡ true
+unfolding isMailbox saysMailbox
+valid-mailbox f w =
     rw (
       counted-0 (f .connectors) (w .least) (w .most),
       each-flags (f .waiting) (w .flags),
       numbers-notify (f .notifications) (f .mask) (w .on) (w .off-no-mask),
-      whole-status (stated f) (w .standing),
+      valid-status (flatStatusIn f) (w .statusValid),
     )
     (search tests)
 
 -- All zero is no mailbox: it has no connectors.
-pub none-mailbox : isMailbox none ≡ true → ⊥
-none-mailbox e = let low = mailbox-whole none e .least in omega arith
+pub none-mailbox : isMailbox zeroMailbox ≡ true → ⊥
+none-mailbox e = let low = mailbox-valid zeroMailbox e .least in omega arith

@@ -1,4 +1,4 @@
--- The codes of include/harsolvek.h, in its own numbers, which byte is which connector's, and what a refused count hands out.
+-- The codes of include/harsolvek.h, in its own numbers, which byte is which connector's, and what is returned beside a 29.
 use Prim.Native.Nat.{ℕ, zero, suc}
 use mathlib.Core.Bool.{Bool, false}
 use mathlib.Core.Path.{_≡_, refl}
@@ -10,7 +10,7 @@ use Rattle.mailbox_state.specs.declared.status.CommandStatus.{CommandStatus}
 use Rattle.mailbox_state.specs.declared.status.CommandStatus.the-variants.{Nothing, ResetDone, Busy, Completed, Failed, NotSupported, Cancelled, Acknowledged}
 use Rattle.mailbox_flat.specs.Waiting.{waitingBytesOf}
 use Rattle.mailbox_flat.specs.Status.{flatStatusOf}
-use Rattle.mailbox_flat.specs.Flat.{none}
+use Rattle.mailbox_flat.specs.Flat.{zeroMailbox}
 use Rattle.mailbox_flat.specs.declared.flat.FlatMailbox.{FlatMailbox}
 
 pub status-rows : (command : Command) (length : ℕ)
@@ -30,6 +30,6 @@ abbrev numbers : FlatMailbox → List ℕ
 numbers f =
     f .shown ∷ f .connectors ∷ f .mask ∷ f .notifications ∷ f .told ∷ f .length ∷ f .command .code ∷ f .command .connector ∷ f .command .«reset_type» ∷ []
 
--- What a refused count hands out is zeros.
-pub none-zeros : (none .«message_in» ≡ replicate 256 0) × (none .waiting ≡ replicate 8 0) × (numbers none ≡ replicate 9 0)
+-- What is returned beside a 29 is zeros.
+pub none-zeros : (zeroMailbox .«message_in» ≡ replicate 256 0) × (zeroMailbox .waiting ≡ replicate 8 0) × (numbers zeroMailbox ≡ replicate 9 0)
 none-zeros = (refl, refl, refl)

@@ -2,19 +2,19 @@
 use mathlib.Core.Bool.{Bool}
 use mathlib.Core.Path.{_≡_}
 use Rattle.basis.specs.Only.{only}
-use Rattle.mailbox_flat.specs.Flat.{packOf, unpackOf, isMailbox}
+use Rattle.mailbox_flat.specs.Flat.{mailboxPackOf, mailboxUnpackOf, isMailbox}
 use Rattle.mailbox_flat.specs.declared.flat.FlatMailbox.{FlatMailbox}
 use Rattle.mailbox_state.specs.declared.mailbox.Mailbox.{Mailbox}
 
 pub one-pack : (mailbox : Mailbox) (r r′ : FlatMailbox)
-    → r ≡ packOf mailbox
-    → r′ ≡ packOf mailbox
+    → r ≡ mailboxPackOf mailbox
+    → r′ ≡ mailboxPackOf mailbox
     → r ≡ r′
 one-pack mailbox r r′ is is′ = only is is′
 
 pub one-unpack : (self : FlatMailbox) (r r′ : Mailbox)
-    → r ≡ unpackOf self
-    → r′ ≡ unpackOf self
+    → r ≡ mailboxUnpackOf self
+    → r′ ≡ mailboxUnpackOf self
     → r ≡ r′
 one-unpack self r r′ is is′ = only is is′
 

@@ -15,8 +15,8 @@ use Rattle.mailbox_flat.specs.Status.{flatStatus, bare, flatStatusOf, st
 use Rattle.mailbox_flat.specs.declared.status.FlatStatus.{FlatStatus}
 use Rattle.mailbox_flat.specs.declared.flat.FlatMailbox.{FlatMailbox}
 
-abbrev pub flat : List ℕ → List ℕ → ℕ → ℕ → ℕ → ℕ → FlatStatus → FlatMailbox
-flat message waiting shown connectors mask on t = record {
+abbrev pub flatMailbox : List ℕ → List ℕ → ℕ → ℕ → ℕ → ℕ → FlatStatus → FlatMailbox
+flatMailbox message waiting shown connectors mask on t = record {
   «message_in» = message;
   waiting = waiting;
   shown = shown;
@@ -28,12 +28,12 @@ flat message waiting shown connectors mask on t = record {
   command = t .command;
 }
 
-abbrev pub stated : FlatMailbox → FlatStatus
-stated f = flatStatus (f .told) (f .length) (f .command)
+abbrev pub flatStatusIn : FlatMailbox → FlatStatus
+flatStatusIn f = flatStatus (f .told) (f .length) (f .command)
 
-abbrev pub packOf : Mailbox → FlatMailbox
-packOf m =
-    flat (m .message)
+abbrev pub mailboxPackOf : Mailbox → FlatMailbox
+mailboxPackOf m =
+    flatMailbox (m .message)
     (waitingBytesOf (m .state .changes .waiting))
     (m .state .changes .shown)
     (m .state .connectors)
@@ -41,19 +41,19 @@ packOf m =
     (onOf (m .state .notifications))
     (flatStatusOf (m .state .status))
 
-abbrev pub unpackOf : FlatMailbox → Mailbox
-unpackOf f =
+abbrev pub mailboxUnpackOf : FlatMailbox → Mailbox
+mailboxUnpackOf f =
     mailbox
-    (mailboxState (f .connectors) (notificationsOf (f .notifications) (f .mask)) (statusOf (stated f)) (changes (f .shown) (flagsOf (f .waiting))))
+    (mailboxState (f .connectors) (notificationsOf (f .notifications) (f .mask)) (statusOf (flatStatusIn f)) (changes (f .shown) (flagsOf (f .waiting))))
     (f .«message_in»)
 
-unfoldable pub saysOf : FlatMailbox → Bool
-saysOf f = pick (notifiesOf (f .notifications) (f .mask)) (isStatusOf (stated f)) false
+unfoldable pub saysMailbox : FlatMailbox → Bool
+saysMailbox f = pick (notifiesOf (f .notifications) (f .mask)) (isStatusOf (flatStatusIn f)) false
 
--- Numbers of a mailbox: a count that it may have, flags, a mask only while notifications are on, and something that it tells.
+-- The numbers of a mailbox: a count that it may have, flags, a mask only while notifications are on, and a status.
 unfoldable pub isMailbox : FlatMailbox → Bool
-isMailbox f = pick (eqb (connectorsNumberOf (f .connectors)) 0) (pick (areFlags (f .waiting)) (saysOf f) false) false
+isMailbox f = pick (eqb (connectorsNumberOf (f .connectors)) 0) (pick (areFlags (f .waiting)) (saysMailbox f) false) false
 
--- All zero.
-abbrev pub none : FlatMailbox
-none = flat (replicate 256 0) (replicate 8 0) 0 0 0 0 (bare 0 0)
+-- All zero: what is returned beside a 29.
+abbrev pub zeroMailbox : FlatMailbox
+zeroMailbox = flatMailbox (replicate 256 0) (replicate 8 0) 0 0 0 0 (bare 0 0)

@@ -2,4 +2,4 @@ pub mod Waiting
 pub mod Notifying
 pub mod Status
 pub mod Flat
-pub mod Whole
+pub mod Valid

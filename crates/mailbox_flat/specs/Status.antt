@@ -1,4 +1,4 @@
--- What the mailbox last told, as the numbers of include/harsolvek.h, and back.
+-- The status of the last command as the numbers of include/harsolvek.h, and back.
 use Prim.Native.Nat.{ℕ}
 use mathlib.Core.Bool.{Bool, true, false}
 use lib.Dec.{eqb, leb}
@@ -14,7 +14,7 @@ flatStatus code length command = record { code = code; length = length; command 
 abbrev pub noCommand : Command
 noCommand = record { code = 0; connector = 0; «reset_type» = 0 }
 
--- With no command that runs.
+-- A status in which no command runs.
 abbrev pub bare : ℕ → ℕ → FlatStatus
 bare code length = flatStatus code length noCommand
 
@@ -28,7 +28,7 @@ flatStatusOf NotSupported = bare 5 0
 flatStatusOf Cancelled = bare 6 0
 flatStatusOf Acknowledged = bare 7 0
 
--- A code that is nobody's is read as Nothing.
+-- A code that no status has is read as Nothing.
 unfoldable pub restOf : ℕ → CommandStatus
 restOf code =
     pick (eqb code 1) ResetDone
@@ -47,6 +47,6 @@ idleOf command = pick (eqb (command .code) 0) (pick (eqb (command .connector) 0)
 unfoldable pub isRestOf : FlatStatus → Bool
 isRestOf t = pick (eqb (t .code) 3) true (pick (eqb (t .length) 0) (leb (t .code) 7) false)
 
--- Numbers of something told: a command where one runs alone, a length where it completed alone.
+-- The numbers of a status: a command in Busy alone, a length in Completed alone.
 unfoldable pub isStatusOf : FlatStatus → Bool
 isStatusOf t = pick (eqb (t .code) 2) (eqb (t .length) 0) (pick (idleOf (t .command)) (isRestOf t) false)

@@ -30,7 +30,7 @@ pub(crate) fn notifications_of(on: u8, mask: u16) -> Notifications
     Notifications::Off
 }
 
-// Whether the numbers are some notifications'.
+// A flag is 0 or 1, and while notifications are off the mask is 0.
 pub(crate) fn notifies(on: u8, mask: u16) -> bool
     ensures { λ r. ⌜ r ≡ notifiesOf on mask ⌝ }
 {

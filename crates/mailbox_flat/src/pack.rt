@@ -6,11 +6,11 @@ use crate::status::FlatStatus;
 use crate::waiting::bytes_of;
 use mailbox_state::mailbox::Mailbox;
 ghost use mathlib.Core.Path.{_≡_};
-ghost use Rattle.mailbox_flat.specs.Flat.{packOf};
+ghost use Rattle.mailbox_flat.specs.Flat.{mailboxPackOf};
 
 impl FlatMailbox {
     pub fn pack(mailbox: Mailbox) -> FlatMailbox
-        ensures { λ r. ⌜ r ≡ packOf mailbox ⌝ }
+        ensures { λ r. ⌜ r ≡ mailboxPackOf mailbox ⌝ }
     {
         let message_in = mailbox.message;
         let state = mailbox.state;

@@ -1,4 +1,4 @@
-// What the mailbox last told, as numbers, and back.
+// The status of the last command as numbers, and back.
 use mailbox_state::status::Command;
 use mailbox_state::status::CommandStatus;
 ghost use mathlib.Core.Path.{_≡_};
@@ -26,7 +26,7 @@ const CANCELLED: u8 = 6;
 
 const ACKNOWLEDGED: u8 = 7;
 
-// With no command that runs.
+// A status in which no command runs.
 fn bare(code: u8, length: u8) -> FlatStatus
     ensures { λ r. ⌜ r ≡ bare code length ⌝ }
 {
@@ -68,7 +68,7 @@ impl FlatStatus {
         }
     }
 
-    // A code that is nobody's is read as Nothing; `tells` tells the two apart.
+    // A code that no status has is read as Nothing; `is_status` says whether there is one.
     pub(crate) fn status(self) -> CommandStatus
         ensures { λ r. ⌜ r ≡ statusOf self ⌝ }
     {
@@ -84,7 +84,7 @@ impl FlatStatus {
         rest(self.code)
     }
 
-    // Whether the numbers are something that a mailbox tells.
+    // Whether the numbers are those of a status: a command in Busy alone, a length in Completed alone.
     pub(crate) fn is_status(self) -> bool
         ensures { λ r. ⌜ r ≡ isStatusOf self ⌝ }
     {
@@ -98,7 +98,7 @@ impl FlatStatus {
         false
     }
 
-    // Whether they are with no command that runs.
+    // The same where no command runs.
     fn is_rest(self) -> bool
         ensures { λ r. ⌜ r ≡ isRestOf self ⌝ }
     {
@@ -112,7 +112,7 @@ impl FlatStatus {
     }
 }
 
-// What carries nothing.
+// The statuses that have neither a command nor a length.
 fn rest(code: u8) -> CommandStatus
     ensures { λ r. ⌜ r ≡ restOf code ⌝ }
 {

@@ -1,5 +1,4 @@
-// The mailbox that the numbers say, and whether they are a mailbox's at all: a count of connectors that a mailbox may have, and what each
-// of the others may be.
+// The mailbox that the numbers say, and whether they are one: each number may be only what include/harsolvek.h says of it.
 use crate::flat::FlatMailbox;
 use crate::notifying::notifications_of;
 use crate::notifying::notifies;
@@ -10,11 +9,11 @@ use mailbox_state::mailbox::Mailbox;
 use mailbox_state::state::Changes;
 use mailbox_state::state::State;
 ghost use mathlib.Core.Path.{_≡_};
-ghost use Rattle.mailbox_flat.specs.Flat.{stated, unpackOf, saysOf, isMailbox};
+ghost use Rattle.mailbox_flat.specs.Flat.{flatStatusIn, mailboxUnpackOf, saysMailbox, isMailbox};
 
 impl FlatMailbox {
     pub fn unpack(self) -> Mailbox
-        ensures { λ r. ⌜ r ≡ unpackOf self ⌝ }
+        ensures { λ r. ⌜ r ≡ mailboxUnpackOf self ⌝ }
     {
         let message = self.message_in;
         let bytes = self.waiting;
@@ -49,7 +48,7 @@ impl FlatMailbox {
     }
 
     fn says(self) -> bool
-        ensures { λ r. ⌜ r ≡ saysOf self ⌝ }
+        ensures { λ r. ⌜ r ≡ saysMailbox self ⌝ }
     {
         let flat_status = self.flat_status();
         if notifies(self.notifications, self.mask) {
@@ -59,7 +58,7 @@ impl FlatMailbox {
     }
 
     fn flat_status(self) -> FlatStatus
-        ensures { λ r. ⌜ r ≡ stated self ⌝ }
+        ensures { λ r. ⌜ r ≡ flatStatusIn self ⌝ }
     {
         let command = self.command;
         FlatStatus {

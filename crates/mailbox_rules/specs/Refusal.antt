@@ -53,7 +53,7 @@ refusalOf class s =
     (pick (is Cancel class && not (s .runs)) NothingToCancel
     Taken)))))
 
--- The row of a command that runs while notifications are off, which no event leads to: 0x05 is 3, everything else but PPM_RESET is 2.
+-- A command that runs while notifications are off: 0x05 is 3, everything else but PPM_RESET is 2.
 abbrev pub runsWhileOff : Class → Answer
 runsWhileOff Reset = Taken
 runsWhileOff Cancel = NotificationsOff

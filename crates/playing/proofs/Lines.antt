@@ -22,7 +22,7 @@ pub printed-sized : (m : Mailbox) (r : Record) → (11 ≤ length (printed (outc
 unfolding printed
 printed-sized m r = line-sized (mailboxCciOf (outcomeOf m r .mailbox)) (mailboxNumberOf (outcomeOf m r .answer))
 
--- The line that a turn hands out is that of its own mailbox and answer.
+-- The line that a turn returns is that of its own mailbox and answer.
 pub turn-line : (m : Mailbox) (r : Record) → take (turnOf m r .line .len) (turnOf m r .line .bytes) ≡ textOf (mailboxCciOf (turnOf m r .mailbox)) (mailboxNumberOf (turnOf m r .answer))
 unfolding turnOf printed
 turn-line m r = line-holds (textOf (mailboxCciOf (outcomeOf m r .mailbox)) (mailboxNumberOf (outcomeOf m r .answer))) .1

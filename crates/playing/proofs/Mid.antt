@@ -37,7 +37,7 @@ pub record Mid (started : Mailbox) (part before : List ℕ) (mailbox : Mailbox) 
   pub size : length out ≡ length before
   pub place : taken ≤ length part
 
--- So many bytes and these lines, and then more of them, are both together.
+-- Bytes and lines that follow others are joined with them.
 regroup : (t k n : ℕ) (x y z : List ℕ) (q : Plays) → n ≡ t + k → z ≡ x ++ y → after t x (after k y q) ≡ after n z q
 regroup t k n x y z q e f = rw (e, f, add-assoc t k (q .taken), append-assoc x y (q .text))
 

@@ -44,7 +44,7 @@ play-within m part out r now e =
     let w = part-within m (length out) part in
     (rw (ap (λ (x : Left Played). x .answer .taken) e) (w .0), rw (ap (λ (x : Left Played). x .answer .written) e) (w .1))
 
--- The lines lead the output, and the rest of it is kept.
+-- The lines are in the first bytes of the output, and the rest of it is kept.
 pub play-writes : (m : Mailbox) (part out : List ℕ) (r : Played) (now : List ℕ) → left r now ≡ playOf m part out
     → (take (r .written) now ≡ partOf m (length out) (apartOf part) .text) × (drop (r .written) now ≡ drop (r .written) out)
 unfolding leadsOf
@@ -59,7 +59,7 @@ abbrev pub NotFull : Stop → Type 0
 NotFull (Stop.Ended ending) = Unit
 NotFull Stop.Full = ⊥
 
--- Where there is room for the longest line to every byte of the part, none does: a record has one byte at least.
+-- No record waits where there is room for the longest line to every byte of the part, since a record has one byte at least.
 pub never-full : (m : Mailbox) (room : ℕ) (part : List ℕ) → lineLongest * length part ≤ room → NotFull (partOf m room (apartOf part) .stop)
 never-full =
     part-all (λ m room part q. lineLongest * length part ≤ room → NotFull (q .stop))
@@ -152,7 +152,7 @@ part-leaves m room part =
     let q = partOf m room (apartOf part) in
     leaving (q .mailbox) (room - length (q .text)) part (q .taken) (q .stop) (part-stops m room part)
 
--- The same of what `play` hands out.
+-- The same of what `play` returns.
 module _ (m : Mailbox) (part out : List ℕ) (r : Played) (now : List ℕ) (e : left r now ≡ playOf m part out) where
   pub play-mailbox : r .mailbox ≡ partOf m (length out) (apartOf part) .mailbox
   unfolding leadsOf

@@ -29,7 +29,7 @@ pub record Plays : Type 0 where
 abbrev pub plays : Mailbox → ℕ → List ℕ → Stop → Plays
 plays mailbox taken text stop = record { mailbox = mailbox; taken = taken; text = text; stop = stop }
 
--- After so many bytes and these lines.
+-- What was played behind so many bytes and these lines.
 abbrev pub after : ℕ → List ℕ → Plays → Plays
 after taken text p = plays (p .mailbox) (taken + p .taken) (text ++ p .text) (p .stop)
 
@@ -43,14 +43,14 @@ playsOf m room (r ∷ rs) ending =
 abbrev pub partOf : Mailbox → ℕ → Apart → Plays
 partOf m room a = playsOf m room (a .records) (a .ending)
 
--- The lines lead the output, and the rest of it is kept.
+-- The lines are in the first bytes of the output, and the rest of it is kept.
 unfoldable pub leadsOf : Plays → List ℕ → Left Played
 leadsOf p out = left (record { mailbox = p .mailbox; taken = p .taken; written = length (p .text); stop = p .stop }) (writtenInto (p .text) out)
 
 abbrev pub playOf : Mailbox → List ℕ → List ℕ → Left Played
 playOf m part out = leadsOf (partOf m (length out) (apartOf part)) out
 
--- The line that ends a recording which ends here.
+-- The line that closes a recording which ends here.
 unfoldable pub closingOf : Stop → Line
 closingOf (Ended ending) = lineIn (closingText ending)
 closingOf Full = lineIn []

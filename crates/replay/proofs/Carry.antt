@@ -54,7 +54,7 @@ module _ (mailbox : Mailbox) (part out : List ℕ) (r : Played) (now : List ℕ)
             ∙ sym (drop-of-take (r .taken) filled before) ∙ ap (drop (r .taken)) (sym p) ∙ ap (λ (k : ℕ). drop k part) (play-taken mailbox part out r now e);
       }
 
--- What stood before the read's bytes stands there still.
+-- A read leaves the bytes before its own as they were.
 pub onward : (mailbox : Mailbox) (before after : List ℕ) (held fresh room : ℕ) (progress : Progress) (now : List ℕ) → take held after ≡ take held before
     → Carried mailbox (take (held + fresh) after) room progress now → Onward mailbox (take held before) room progress now
 onward mailbox before after held fresh room progress now e c =

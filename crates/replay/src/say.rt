@@ -1,4 +1,4 @@
-// What goes to standard output. A write that fails is told on standard error.
+// What goes to standard output. A write that fails is reported on standard error.
 use libc::STDOUT_FILENO;
 use printing::Line;
 ghost use Prim.Native.Nat.{_≤_};

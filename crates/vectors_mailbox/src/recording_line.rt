@@ -4,7 +4,7 @@ use crate::record;
 use saying::Said;
 use script::Field;
 
-// What stands in the memory that is lent, so that what is written shows.
+// What the lent memory holds before a call, so that what is written shows.
 const UNWRITTEN: u8 = 0xEE;
 
 // Enough for the longest recording that a line spells: 320 records, each with a line of 11 bytes, as every answer is one digit.

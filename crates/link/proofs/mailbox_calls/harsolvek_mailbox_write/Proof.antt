@@ -4,7 +4,7 @@ use denote.Ref.{now}
 use Rattle.basis.specs.Pick.{pick}
 use Rattle.mailbox_rules.specs.Events.{writes}
 use Rattle.mailbox_rules.proofs.Laws.{refused-keeps}
-use Rattle.mailbox_flat.specs.Flat.{unpackOf}
+use Rattle.mailbox_flat.specs.Flat.{mailboxUnpackOf}
 use Rattle.link.proofs.Settling.{kept-settles, anew-settles, refused-stays}
 use borrow.Author.Needs.{needs}
 use Rattle.link.proofs.mailbox_calls.harsolvek_mailbox_write.Statement.{statement}
@@ -24,7 +24,7 @@ harsolvek-mailbox-write-spec =
     let a = u .before .before .before .before .args in
     let is = u .before .before .is-mailbox .ensures in
     rw (← is, u .before .if1 .taken)
-    (refused-stays (a .state) _ _ (sym is ∙ u .before .if1 .taken) (refused-keeps (unpackOf (a .state)) (writes (now (a .control))))
+    (refused-stays (a .state) _ _ (sym is ∙ u .before .if1 .taken) (refused-keeps (mailboxUnpackOf (a .state)) (writes (now (a .control))))
     (c .before .answer-number .ensures ∙ rw (decided .write-step .ensures, u .unpack .ensures)) (c .if2 .taken)))
     (λ c κs. search needs)
     (λ c κs. search needs)

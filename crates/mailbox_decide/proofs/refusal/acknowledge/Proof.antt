@@ -11,6 +11,12 @@ acknowledge-spec =
     (tie.spec
     (λ c κs. search needs)
     (λ c κs. search needs)
-    (λ c. let a = c .before .before .before .before .before in rw (← acknowledges (a .args .situation) (a .pre), ← c .before .before .clears-nothing .ensures, c .before .if1 .taken) (c .stopped .ensures))
+    (λ c. let entry = c .before .before in
+    let entry2 = entry .before .before in
+    let entry3 = entry2 .before in
+    let a = entry3 in rw (← acknowledges (a .args .situation) (a .pre), ← entry .clears-nothing .ensures, c .before .if1 .taken) (c .stopped .ensures))
     (λ c κs. search needs)
-    (λ c. let a = c .before .before .before .before .before in rw (← acknowledges (a .args .situation) (a .pre), ← c .before .before .clears-nothing .ensures, c .before .if1 .left) (c .stopped2 .ensures)))
+    (λ c. let entry = c .before .before in
+    let entry2 = entry .before .before in
+    let entry3 = entry2 .before in
+    let a = entry3 in rw (← acknowledges (a .args .situation) (a .pre), ← entry .clears-nothing .ensures, c .before .if1 .left) (c .stopped2 .ensures)))

@@ -17,4 +17,7 @@ put-spec =
     (λ c. let room : length (c .before .before .before .before .args .line .bytes) ≡ 13 = search needs in sym (length-take-le _ _ (omega arith)))
     (λ c κs. search needs)
     (λ c. search needs)
-    (λ c. let a = c .before .before .before .before .before .before .before .args in let room : length (a .line .bytes) ≡ 13 = search needs in let l : length (take (a .line .len) (a .line .bytes)) ≡ a .line .len = length-take-le _ _ (omega arith) in leaves (c .before .before .put .ensures ∙ put-fits (now (a .out)) (a .at) (take (a .line .len) (a .line .bytes)) (omega arith))))
+    (λ c. let atPut = c .before .before in
+    let midway = atPut .before .before .before .before in
+    let entry = midway .before in
+    let a = entry .args in let room : length (a .line .bytes) ≡ 13 = search needs in let l : length (take (a .line .len) (a .line .bytes)) ≡ a .line .len = length-take-le _ _ (omega arith) in leaves (atPut .put .ensures ∙ put-fits (now (a .out)) (a .at) (take (a .line .len) (a .line .bytes)) (omega arith))))

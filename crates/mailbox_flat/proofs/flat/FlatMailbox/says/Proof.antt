@@ -1,11 +1,11 @@
 use Rattle.basis.specs.Pick.{tests}
-use Rattle.mailbox_flat.specs.Flat.{saysOf}
+use Rattle.mailbox_flat.specs.Flat.{saysMailbox}
 use borrow.Author.Needs.{needs}
 use Rattle.mailbox_flat.proofs.flat.FlatMailbox.says.Statement.{statement}
 use Rattle.mailbox_flat.proofs.flat.FlatMailbox.says.Tie as tie
 
 pub says-spec : {M : Type 1} → statement M
-unfolding saysOf
+unfolding saysMailbox
 says-spec =
     tie.close
     (tie.spec

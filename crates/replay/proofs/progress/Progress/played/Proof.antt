@@ -17,15 +17,30 @@ played-spec =
     (λ c. search needs)
     (λ c. sym (length-take-le _ _ (c .before .before .before .before .pre .0)))
     (λ c κs. search needs)
-    (λ c. let g = c .before .before .before .before .before .before .before .before .before .args in let p = c .before .before .before .play in let w = play-within (g .self .mailbox) (take (g .filled) (now (g .buffer))) (now (g .out)) (p .result) _ (p .ensures) in omega (arith, w))
-    (λ c. let g = c .before .before .before .before .before .before .before .before .before .before .args in let p = c .before .before .before .before .play in let w = play-within (g .self .mailbox) (take (g .filled) (now (g .buffer))) (now (g .out)) (p .result) _ (p .ensures) in sym (length-take-le _ _ (omega (arith, w))))
+    (λ c. let atPlay = c .before .before .before in
+    let midway = atPlay .before .before .before .before in
+    let entry = midway .before .before in
+    let g = entry .args in let p = atPlay .play in let w = play-within (g .self .mailbox) (take (g .filled) (now (g .buffer))) (now (g .out)) (p .result) _ (p .ensures) in omega (arith, w))
+    (λ c. let atPlay = c .before .before .before .before in
+    let midway = atPlay .before .before .before .before in
+    let entry = midway .before .before in
+    let g = entry .args in let p = atPlay .play in let w = play-within (g .self .mailbox) (take (g .filled) (now (g .buffer))) (now (g .out)) (p .result) _ (p .ensures) in sym (length-take-le _ _ (omega (arith, w))))
     (λ c κs. search needs)
     (λ c κs. search needs)
     (λ c. search needs)
     (λ c. search needs)
     (λ c. (c .ended .ensures .0, λ e. absurd (true≢false (sym e ∙ c .ended .ensures .1))))
-    (λ c κs. let g = c .before .before .before .before .before .before .before .before .before .before .before .before .before .args in let p = c .before .before .before .before .before .before .before .play in let w = play-within (g .self .mailbox) (take (g .filled) (now (g .buffer))) (now (g .out)) (p .result) _ (p .ensures) in let l : length (take (g .filled) (now (g .buffer))) ≡ g .filled = length-take-le _ _ (c .before .before .before .before .before .before .before .before .before .before .before .before .before .pre .0) in (omega (arith, w, l), c .before .before .before .before .before .before .before .before .before .before .before .before .before .pre .0))
-    (λ c. let g = c .before .before .before .before .before .before .before .before .before .before .before .before .before .before .before .before .args in let p = c .before .before .before .before .before .before .before .before .before .before .play in let w = play-within (g .self .mailbox) (take (g .filled) (now (g .buffer))) (now (g .out)) (p .result) _ (p .ensures) in let l : length (take (g .filled) (now (g .buffer))) ≡ g .filled = length-take-le _ _ (c .before .before .before .before .before .before .before .before .before .before .before .before .before .before .before .before .pre .0) in omega (arith, w, l))
+    (λ c κs. let midway = c .before .before .before .before in
+    let atPlay = midway .before .before .before in
+    let midway2 = atPlay .before .before .before .before in
+    let entry = midway2 .before .before in
+    let g = entry .args in let p = atPlay .play in let w = play-within (g .self .mailbox) (take (g .filled) (now (g .buffer))) (now (g .out)) (p .result) _ (p .ensures) in let l : length (take (g .filled) (now (g .buffer))) ≡ g .filled = length-take-le _ _ (entry .pre .0) in (omega (arith, w, l), entry .pre .0))
+    (λ c. let midway = c .before .before .before .before in
+    let midway2 = midway .before .before .before .before in
+    let atPlay = midway2 .before .before in
+    let midway3 = atPlay .before .before .before .before in
+    let entry = midway3 .before .before in
+    let g = entry .args in let p = atPlay .play in let w = play-within (g .self .mailbox) (take (g .filled) (now (g .buffer))) (now (g .out)) (p .result) _ (p .ensures) in let l : length (take (g .filled) (now (g .buffer))) ≡ g .filled = length-take-le _ _ (entry .pre .0) in omega (arith, w, l))
     (λ c κs. search needs)
     (λ c κs. search needs)
     (λ c. search needs)
@@ -33,4 +48,9 @@ played-spec =
     (λ c. (c .closed .ensures .0, λ e. absurd (true≢false (sym e ∙ c .closed .ensures .1))))
     (λ c. search needs)
     (λ c. search needs)
-    (λ c. let g = c .before .before .before .before .before .before .before .before .before .before .before .before .before .before .before .before .before .before .args in let p = c .before .before .before .before .before .before .before .before .before .before .before .before .play in let l : length (take (g .filled) (now (g .buffer))) ≡ g .filled = length-take-le _ _ (c .before .before .before .before .before .before .before .before .before .before .before .before .before .before .before .before .before .before .pre .0) in let u = sym (c .before .is-unknown .ensures) ∙ c .if2 .left in let few = held-few (g .self .mailbox) (take (g .filled) (now (g .buffer))) (now (g .out)) (p .result) _ (p .ensures) (omega (arith, l, c .before .before .before .before .before .before .before .before .before .before .before .before .before .before .before .before .before .before .pre)) u in (omega (arith, few, l), λ _. carries (g .self .mailbox) (take (g .filled) (now (g .buffer))) (now (g .out)) (p .result) _ (p .ensures) (now (g .buffer)) _ (g .filled) refl (c .before .before .before .before .before .before .before .before .before .before .before .before .before .before .before .before .before .before .pre .0) (c .before .before .before .before .to-front .ensures))))
+    (λ c. let atFront = c .before .before .before .before in
+    let midway = atFront .before .before .before .before in
+    let atPlay = midway .before .before .before .before in
+    let midway2 = atPlay .before .before .before .before in
+    let entry = midway2 .before .before in
+    let g = entry .args in let p = atPlay .play in let l : length (take (g .filled) (now (g .buffer))) ≡ g .filled = length-take-le _ _ (entry .pre .0) in let u = sym (c .before .is-unknown .ensures) ∙ c .if2 .left in let few = held-few (g .self .mailbox) (take (g .filled) (now (g .buffer))) (now (g .out)) (p .result) _ (p .ensures) (omega (arith, l, entry .pre)) u in (omega (arith, few, l), λ _. carries (g .self .mailbox) (take (g .filled) (now (g .buffer))) (now (g .out)) (p .result) _ (p .ensures) (now (g .buffer)) _ (g .filled) refl (entry .pre .0) (atFront .to-front .ensures))))

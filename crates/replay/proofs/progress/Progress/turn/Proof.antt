@@ -33,4 +33,9 @@ turn-spec =
     (λ c κs. search needs)
     (λ c. search needs)
     (λ c. search needs)
-    (λ c. let g = c .before .before .before .before .before .before .before .before .before .before .before .before .before .before .before .before .before .before .args in let p = c .before .before .before .before .played in (p .ensures .0, λ e. onward (g .self .mailbox) (now (g .buffer)) _ (g .self .held) (c .before .before .before .before .before .before .before .count .result) (length (now (g .out))) (p .result) _ (take-at (take (g .self .held) (now (g .buffer))) _ (g .self .held) (length-take-le (g .self .held) (now (g .buffer)) (omega (arith, c .before .before .before .before .before .before .before .before .before .before .before .before .before .before .before .before .before .before .pre)))) (p .ensures .1 e))))
+    (λ c. let atPlayed = c .before .before .before .before in
+    let atCount = atPlayed .before .before .before in
+    let midway = atCount .before .before .before .before in
+    let midway2 = midway .before .before .before .before in
+    let entry = midway2 .before .before .before in
+    let g = entry .args in let p = atPlayed .played in (p .ensures .0, λ e. onward (g .self .mailbox) (now (g .buffer)) _ (g .self .held) (atCount .count .result) (length (now (g .out))) (p .result) _ (take-at (take (g .self .held) (now (g .buffer))) _ (g .self .held) (length-take-le (g .self .held) (now (g .buffer)) (omega (arith, entry .pre)))) (p .ensures .1 e))))
