@@ -129,13 +129,13 @@ module _ (count : ℕ) where
   fresh-counts = refl
 
   -- Any other count is 29, and what is returned beside it has no connector.
-  pub fresh-29-zero : count ≡ 0 → mailboxFreshOf count ≡ startReturns (freshMailbox 0) 29
-  unfolding mailboxFreshOf differ pick
-  fresh-29-zero e = rw (none-29 count e)
-
   pub fresh-29-above : 8 < count → mailboxFreshOf count ≡ startReturns (freshMailbox 0) 29
   unfolding mailboxFreshOf differ pick
   fresh-29-above h = rw (many-29 count h)
+
+  pub fresh-29-zero : count ≡ 0 → mailboxFreshOf count ≡ startReturns (freshMailbox 0) 29
+  unfolding mailboxFreshOf differ pick
+  fresh-29-zero e = rw (none-29 count e)
 
   pub fresh-is : Fresh (mailboxFreshOf count .mailbox)
   unfolding mailboxFreshOf

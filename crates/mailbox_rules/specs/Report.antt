@@ -24,6 +24,5 @@ successStepOf state length =
     (mailboxStep (withStatus state (Completed length)) Taken Filled))
 
 unfoldable pub failureStepOf : State → Step
-failureStepOf state =
-    pick (not (runsOf (state .status))) (refused state NothingRuns)
+failureStepOf state = pick (not (runsOf (state .status))) (refused state NothingRuns)
     (mailboxStep (withStatus state Failed) Taken ZeroedAtCompletion)
