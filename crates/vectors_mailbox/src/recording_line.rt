@@ -32,7 +32,7 @@ pub(crate) fn replay(words: &[u8]) -> Said {
     spelled(Asked::Replay, words, room)
 }
 
-// The bytes stand behind the room, the last of the numbers.
+// The bytes come after the room, which is the last of the numbers.
 fn spelled(asked: Asked, words: &[u8], room: Field) -> Said {
     if !room.known {
         return Said::not_understood();
