@@ -12,10 +12,10 @@ use Rattle.playing.proofs.part.play.Statement.{statement}
 use Rattle.playing.proofs.part.play.Tie as tie
 
 abbrev Inv-loop : tie.InvT-loop
-Inv-loop part out₀ stand₀ message₀ taken₀ written₀ out state message taken written = Mid (mailbox stand₀ message₀) part out₀ (mailbox state message) taken written out
+Inv-loop part out₀ state₀ message₀ taken₀ written₀ out state message taken written = Mid (mailbox state₀ message₀) part out₀ (mailbox state message) taken written out
 
 abbrev μ-loop : tie.MeasureT-loop
-μ-loop part out₀ stand₀ message₀ taken₀ written₀ out state message taken written = length part - taken
+μ-loop part out₀ state₀ message₀ taken₀ written₀ out state message taken written = length part - taken
 
 loop-holds : tie.Need-loop-holds Inv-loop μ-loop
 loop-holds c = let g = c .before .before .before .before .args in mid-begins (g .mailbox) (now (g .part)) (now (g .out))
