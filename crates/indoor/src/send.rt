@@ -11,7 +11,7 @@ ghost use lib.ListN.{length};
 ghost use Rattle.basis.specs.Left.{left};
 ghost use Rattle.wire.specs.Codes.{longest};
 ghost use Rattle.wire.specs.Written.{requestBytes};
-ghost use Rattle.lent.specs.Led.{returnsWritten};
+ghost use Rattle.lent.specs.Written.{returnsWritten};
 ghost use Rattle.indoor_rules.specs.Send.{blockBytes, sendsBytes, indoorBytesOf};
 
 pub(crate) fn send(out: &mut [u8], file: &[u8], plan: Plan, answer: Answer) -> usize

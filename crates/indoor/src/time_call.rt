@@ -12,7 +12,7 @@ ghost use mathlib.Core.Path.{_≡_};
 ghost use Prim.Native.Nat.{_≤_};
 ghost use lib.ListN.{length};
 ghost use Rattle.basis.specs.Left.{left};
-ghost use Rattle.lent.specs.Led.{returnsWritten};
+ghost use Rattle.lent.specs.Written.{returnsWritten};
 ghost use Rattle.wire.specs.Codes.{longest};
 ghost use Rattle.indoor_rules.specs.Tick.{indoorTickOf};
 ghost use Rattle.indoor_rules.specs.Send.{indoorBytesOf};

@@ -5,7 +5,7 @@ use mathlib.Core.List.{List}
 use native.Mathlib.Omega.{arith}
 use lib.ListN.{length}
 use Rattle.basis.specs.Left.{left}
-use Rattle.lent.specs.Led.{writtenInto}
+use Rattle.lent.specs.Written.{writtenInto}
 use Rattle.lent.specs.Put.{putOf}
 use Rattle.lent.specs.declared.Placed.the-variants.{Stored}
 use Rattle.lent.proofs.Laws.{two-written}

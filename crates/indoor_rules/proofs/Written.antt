@@ -6,7 +6,7 @@ use native.Mathlib.Omega.{arith}
 use lib.ListN.{length, take, drop, length-append, length-drop}
 use lib.Seq.{take-append-seam, drop-append-seam}
 use Rattle.basis.specs.Left.{Left}
-use Rattle.lent.specs.Led.{writtenInto}
+use Rattle.lent.specs.Written.{writtenInto}
 use Rattle.image.specs.Blocks.{blockAt}
 use Rattle.wire.proofs.Fits.{request-fits}
 use Rattle.wire.specs.Codes.{longest}

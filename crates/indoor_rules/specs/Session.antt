@@ -3,7 +3,7 @@ use Prim.Native.Nat.{ℕ}
 use mathlib.Core.List.{List}
 use lib.ListN.{length}
 use Rattle.basis.specs.Left.{Left, left}
-use Rattle.lent.specs.Led.{writtenInto}
+use Rattle.lent.specs.Written.{writtenInto}
 use Rattle.indoor_state.specs.declared.plan.Plan.{Plan}
 use Rattle.indoor_state.specs.declared.phase.State.{State}
 use Rattle.indoor_state.specs.declared.answer.Answer.{Answer}

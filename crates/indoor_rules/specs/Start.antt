@@ -5,7 +5,7 @@ use lib.Dec.{ltb, eqb}
 use lib.ListN.{length}
 use Rattle.basis.specs.Pick.{pick}
 use Rattle.basis.specs.Left.{Left, left}
-use Rattle.lent.specs.Led.{writtenInto}
+use Rattle.lent.specs.Written.{writtenInto}
 use Rattle.silence.specs.Settings.{settingsOf}
 use Rattle.silence.specs.declared.Settings as silence
 use Rattle.silence.specs.declared.Checked.{Checked}

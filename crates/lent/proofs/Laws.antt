@@ -11,7 +11,7 @@ use lib.Seq.{take-at, drop-at, length-take-le, drop-drop, take-append-seam, drop
 use Rattle.basis.specs.Pick.{tests, pick-all}
 use Rattle.basis.specs.Left.{Left, left}
 use Rattle.lent.specs.Put.{pasted, putOf}
-use Rattle.lent.specs.Led.{writtenInto}
+use Rattle.lent.specs.Written.{writtenInto}
 use Rattle.lent.specs.declared.Placed.{Placed}
 use Rattle.lent.specs.declared.Placed.the-variants.{Stored, NoRoom}
 

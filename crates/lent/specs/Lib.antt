@@ -1,3 +1,3 @@
 pub mod Put
-pub mod Led
+pub mod Written
 pub mod Sent

@@ -10,7 +10,7 @@ use lib.Dec.{eqb}
 use lib.ListN.{length, take}
 use Rattle.basis.specs.Pick.{pick}
 use Rattle.basis.specs.Left.{Left}
-use Rattle.lent.specs.Led.{writtenInto}
+use Rattle.lent.specs.Written.{writtenInto}
 use Rattle.lent.specs.Sent.{withSent}
 use Rattle.receiver_state.specs.Phase.{acceptedOf}
 use Rattle.receiver_state.specs.declared.phase.Phase.{Phase}

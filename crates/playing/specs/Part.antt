@@ -5,7 +5,7 @@ use lib.Dec.{ltb}
 use lib.ListN.{length}
 use Rattle.basis.specs.Pick.{pick}
 use Rattle.basis.specs.Left.{Left, left}
-use Rattle.lent.specs.Led.{writtenInto}
+use Rattle.lent.specs.Written.{writtenInto}
 use Rattle.printing.specs.Line.{lineIn}
 use Rattle.printing.specs.declared.text.Line.{Line}
 use Rattle.recording.specs.Apart.{Apart, apartOf}

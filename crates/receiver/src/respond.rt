@@ -12,7 +12,7 @@ ghost use Rattle.wire.specs.Codes.{longest};
 ghost use Rattle.wire.specs.Written.{responseBytes};
 ghost use Rattle.wire.specs.declared.response.Response.the-variants.{Data, Validate};
 ghost use Rattle.receiver_state.specs.Answer.{replyOf};
-ghost use Rattle.lent.specs.Led.{returnsWritten};
+ghost use Rattle.lent.specs.Written.{returnsWritten};
 ghost use Rattle.receiver_rules.specs.Respond.{replyBytes};
 
 pub(crate) fn respond(out: &mut [u8], identity: Identity, capacity: u32, answer: Answer) -> usize

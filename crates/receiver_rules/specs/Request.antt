@@ -4,7 +4,7 @@ use mathlib.Core.List.{List}
 use lib.Dec.{ltb}
 use lib.ListN.{length, drop}
 use Rattle.basis.specs.Pick.{pick, differ}
-use Rattle.lent.specs.Led.{writtenInto}
+use Rattle.lent.specs.Written.{writtenInto}
 use Rattle.image.specs.Blocks.{putBlockOf}
 use Rattle.wire.specs.Codes.{longest, dataHead}
 use Rattle.wire.specs.Request as message

@@ -5,7 +5,7 @@ use lib.Dec.{ltb}
 use lib.ListN.{length}
 use Rattle.basis.specs.Pick.{pick}
 use Rattle.basis.specs.Left.{Left, left}
-use Rattle.lent.specs.Led.{writtenInto}
+use Rattle.lent.specs.Written.{writtenInto}
 use Rattle.wire.specs.Codes.{longest}
 use Rattle.receiver_rules.specs.Tick.{receiverTickOf}
 use Rattle.receiver_state.specs.declared.answer.Answer.the-variants.{BufferShort}

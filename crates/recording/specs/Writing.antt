@@ -5,7 +5,7 @@ use lib.ListN.{length, replicate}
 use lib.Dec.{ltb}
 use Rattle.basis.specs.Pick.{pick}
 use Rattle.basis.specs.Left.{Left, left}
-use Rattle.lent.specs.Led.{writtenInto}
+use Rattle.lent.specs.Written.{writtenInto}
 use Rattle.recording.specs.Record.{controlBytes}
 use Rattle.recording.specs.declared.record.ControlBytes.{ControlBytes}
 use Rattle.recording.specs.declared.record.Record.{Record}

@@ -6,7 +6,7 @@ use native.Mathlib.Nat.{zero-add}
 use native.Mathlib.Omega.{arith}
 use lib.ListN.{length, getD, take, drop, set, length-drop, length-set}
 use lib.Seq.{paste, paste-zero, paste-suc, length-take-le, getD-append-add, getD-drop}
-use Rattle.lent.specs.Led.{writtenInto}
+use Rattle.lent.specs.Written.{writtenInto}
 
 -- The first i of them are there, and behind them all is as it was.
 pub record Front (before : List ℕ) (from to : ℕ) (buffer : List ℕ) (i : ℕ) : Type 0 where

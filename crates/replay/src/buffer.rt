@@ -2,7 +2,7 @@
 ghost use mathlib.Core.Path.{_≡_};
 ghost use Prim.Native.Nat.{_≤_, _-_};
 ghost use lib.ListN.{length, take, drop};
-ghost use Rattle.lent.specs.Led.{writtenInto};
+ghost use Rattle.lent.specs.Written.{writtenInto};
 
 // The bytes from `from` up to `to` come to the front. They go up in order, so that none is overwritten before it is moved.
 pub(crate) fn to_front(buffer: &mut [u8], from: usize, to: usize)

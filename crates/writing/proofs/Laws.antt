@@ -8,7 +8,7 @@ use lib.Dec.{ltb}
 use borrow.Author.Tests.{ltb-false}
 use Rattle.basis.specs.Pick.{tests, pick-all}
 use Rattle.basis.specs.Left.{Left, left}
-use Rattle.lent.specs.Led.{writtenInto}
+use Rattle.lent.specs.Written.{writtenInto}
 use Rattle.writing.specs.Message.{messageOf, sentOf, sendOf}
 use Rattle.writing.specs.declared.message.Message.{Message}
 use Rattle.writing.specs.declared.message.Sent.{Sent}

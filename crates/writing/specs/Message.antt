@@ -5,7 +5,7 @@ use lib.ListN.{length, take, replicate}
 use lib.Dec.{ltb}
 use Rattle.basis.specs.Pick.{pick}
 use Rattle.basis.specs.Left.{Left, left}
-use Rattle.lent.specs.Led.{writtenInto}
+use Rattle.lent.specs.Written.{writtenInto}
 use Rattle.wire.specs.Codes.{getFwIdResponseLength}
 use Rattle.writing.specs.declared.message.Message.{Message}
 use Rattle.writing.specs.declared.message.Sent.{Sent}
