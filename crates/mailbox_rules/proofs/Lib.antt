@@ -19,4 +19,9 @@ pub mod Laws
 pub mod Message
 pub mod Reached
 pub mod Shown
+pub mod Sizes
+pub mod ByClass
+pub mod Switch
+pub mod Taken
+pub mod Writes
 pub mod Sentences

@@ -37,3 +37,9 @@ unfolding markedOf
 unmarked w c j h =
     pick-all (λ (v : List Bool). getD v j false ≡ false) _ _ _ (λ y. h)
     (λ n. pick-all (λ (v : List Bool). getD v j false ≡ false) _ _ _ (λ y. h) (λ m. set-false w (c - 1) j h))
+
+-- Every other connector waits as it did; connector 0, which there is not, is not marked.
+pub marked-others : (w : List Bool) (c : ℕ) (b : Bool) (j : ℕ) → 1 ≤ j → (j ≡ c → ⊥) → getD (markedOf w c b) (j - 1) false ≡ getD w (j - 1) false
+unfolding markedOf pick
+marked-others w zero b j low h = refl
+marked-others w (suc c) b j low h = marked-other w (suc c) b (j - 1) (λ e. h (omega (arith, low, e)))

@@ -6,7 +6,7 @@ use mathlib.Core.Path.{_≡_, refl, _∙_, ap}
 use lib.ListN.{getD, set}
 use Rattle.mailbox_state.specs.declared.state.Changes.{Changes}
 use Rattle.mailbox_rules.specs.Changes.{lowestOf, nextShownOf}
-use Rattle.mailbox_rules.proofs.Marked.{marked-is, marked-other}
+use Rattle.mailbox_rules.proofs.Marked.{marked-is, marked-others}
 
 set-here : (w : List Bool) (i : ℕ) → getD (set w i false) i false ≡ false
 set-here [] i = refl
@@ -26,6 +26,6 @@ module _ (now : Changes) where
   next-waits-no-more low high =
       ap (λ (w : List Bool). getD w (lowest - 1) false) (marked-is (now .waiting) lowest false low high) ∙ set-here (now .waiting) (lowest - 1)
 
-  pub next-others : (j : ℕ) → (j ≡ lowest - 1 → ⊥) → getD (nextShownOf now .waiting) j false ≡ getD (now .waiting) j false
+  pub next-others : (j : ℕ) → 1 ≤ j → (j ≡ lowest → ⊥) → getD (nextShownOf now .waiting) (j - 1) false ≡ getD (now .waiting) (j - 1) false
   unfolding nextShownOf
-  next-others j h = marked-other (now .waiting) lowest false j h
+  next-others = marked-others (now .waiting) lowest false
