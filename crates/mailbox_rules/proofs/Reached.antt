@@ -5,6 +5,7 @@ use mathlib.Core.List.{List, [], _∷_, _++_}
 use mathlib.Core.Path.{_≡_, refl, sym, _∙_, ap, subst}
 use native.Mathlib.Omega.{arith}
 use Rattle.basis.specs.Pick.{pick-all, differ-true, differ-false}
+use Rattle.mailbox_state.specs.Answer.{mailboxNumberOf}
 use Rattle.mailbox_state.specs.Connectors.{connectorsNumberOf}
 use Rattle.mailbox_state.specs.Status.{runsOf}
 use Rattle.mailbox_state.proofs.Numbers.{counted-within}
@@ -16,20 +17,33 @@ use Rattle.mailbox_rules.proofs.Steps.{Steps, event-steps}
 use Rattle.mailbox_rules.proofs.Laws.{cci-outside}
 use Rattle.mailbox_rules.specs.Mailbox.{mailbox, freshMailbox, mailboxFreshOf, mailboxCciOf}
 use Rattle.mailbox_rules.specs.Events.{Event, eventStepOf, eventOf}
-use Rattle.mailbox_rules.specs.History.{historyFrom, historyOf, Reached}
+use Rattle.mailbox_rules.specs.History.{History, history, answeredOf, historyFrom, historyOf, Reached}
 
--- A history goes on: one more event.
-from-next : (m : Mailbox) (events : List Event) (e : Event) → historyFrom m (events ++ e ∷ []) .mailbox ≡ eventOf (historyFrom m events .mailbox) e .mailbox
+-- A history goes on: after the answers so far comes the event, with the number that it is answered and CCI afterwards.
+abbrev goesOn : History → Event → History
+goesOn h e =
+    history
+    (h .answered ++ record { event = e; number = mailboxNumberOf (eventOf (h .mailbox) e .answer); cci = mailboxCciOf (eventOf (h .mailbox) e .mailbox) } ∷ [])
+    (eventOf (h .mailbox) e .mailbox)
+
+pub history-next : (m : Mailbox) (events : List Event) (e : Event) → historyFrom m (events ++ e ∷ []) ≡ goesOn (historyFrom m events) e
 unfolding historyFrom
-from-next m [] e = refl
-from-next m (first ∷ events) e = from-next (eventOf m first .mailbox) events e
+history-next m [] e = refl
+history-next m (first ∷ events) e =
+    ap (λ (h : History). history (answeredOf first (eventOf m first) ∷ h .answered) (h .mailbox)) (history-next (eventOf m first .mailbox) events e)
+
+pub history-none : (m : Mailbox) → historyFrom m [] ≡ history [] m
+unfolding historyFrom
+history-none m = refl
 
 pub reached-next : (count : ℕ) (m : Mailbox) (e : Event) → Reached count m → Reached count (eventOf m e .mailbox)
 reached-next count m e r =
     record {
       made = r .made;
       events = r .events ++ e ∷ [];
-      ending = from-next (mailboxFreshOf count .mailbox) (r .events) e ∙ ap (λ (x : Mailbox). eventOf x e .mailbox) (r .ending);
+      ending =
+          ap (λ (h : History). h .mailbox) (history-next (mailboxFreshOf count .mailbox) (r .events) e)
+          ∙ ap (λ (x : Mailbox). eventOf x e .mailbox) (r .ending);
     }
 
 pub reached-fresh : (count : ℕ) → mailboxFreshOf count .number ≡ 0 → Reached count (mailboxFreshOf count .mailbox)

@@ -35,6 +35,7 @@ use Rattle.mailbox_rules.proofs.Bits.{reset-done-says, completed-says, 
 use Rattle.mailbox_rules.proofs.ByCode as code
 use Rattle.mailbox_rules.proofs.ByCode.{absent-zero, absent-above, other-row}
 use Rattle.mailbox_rules.proofs.Laws.{cci-in-run}
+use Rattle.mailbox_rules.proofs.Lowest.{First, lowest-first, lowest-waits, lowest-least, lowest-none}
 use Rattle.mailbox_rules.proofs.Next.{next-shows, next-waits-no-more, next-others}
 use Rattle.mailbox_rules.proofs.Pending.{due-still}
 use Rattle.mailbox_rules.proofs.Reached.{holds, made, reached-next}
@@ -188,8 +189,11 @@ module _ {count : ℕ} {m : Mailbox} (r : Reached count m) where
             let within = holds count (reached-next count m (writes control) r) .within .shown in
             let few = made count (r .made) .high in
             let e = ap (λ (now : Changes). now .shown) (next-is h) ∙ next-shows (state .changes) in
+            let first = subst (First 1 (state .changes .waiting)) (sym e) (lowest-first 1 (state .changes .waiting)) in
             record {
-              lowest = e;
+              waited = lowest-waits first;
+              lowest = lowest-least first;
+              none = lowest-none first;
               waitsNoMore =
                   λ low.
                   ap (λ (now : Changes). getD (now .waiting) (shown after - 1) false) (next-is h)

@@ -16,7 +16,6 @@ use Rattle.mailbox_state.specs.declared.status.CommandStatus.the-variants.{Busy
 use Rattle.mailbox_state.specs.declared.mailbox.Mailbox.{Mailbox}
 use Rattle.mailbox_rules.specs.Says.{Says}
 use Rattle.mailbox_rules.specs.Change.{meetsOf}
-use Rattle.mailbox_rules.specs.Changes.{lowestOf}
 use Rattle.mailbox_rules.specs.Mailbox.{mailboxFreshOf, messageInOf, mailboxCciOf}
 use Rattle.mailbox_rules.specs.Events.{Event, writes, succeeds, fails, changes, eventOf}
 use Rattle.mailbox_rules.specs.History.{Reached}
@@ -82,9 +81,12 @@ pub record Acknowledges (m : Mailbox) (e : Event) : Type 0 where
   pub gives : Gives m e 0 (29 ∷ []) (messageInOf m)
   pub ended : due (next m e) ≡ false
 
--- Then the lowest waiting one is shown (0 if none waits), and it waits no more; of all others, those wait that waited before.
+-- Then the lowest waiting one is shown: it waited, and none below it did; 0 if none waited. It waits no more; of all others, those wait
+-- that waited before.
 pub record ShowsLowest (m after : Mailbox) : Type 0 where
-  pub lowest : shown after ≡ lowestOf (m .state .changes .waiting)
+  pub waited : 1 ≤ shown after → waits m (shown after) ≡ true
+  pub lowest : (j : ℕ) → 1 ≤ j → j < shown after → waits m j ≡ false
+  pub none : shown after ≡ 0 → (j : ℕ) → waits m j ≡ false
   pub waitsNoMore : 1 ≤ shown after → waits after (shown after) ≡ false
   pub others : (j : ℕ) → 1 ≤ j → (j ≡ shown after → ⊥) → waits after j ≡ waits m j
 
