@@ -28,7 +28,7 @@ use Rattle.indoor_rules.proofs.Written.{response-leads, written-most, response-
 use Rattle.line.specs.Line.{Line, line, AtRest, up, down, Clean, delivers, carriedUp, carriedDown}
 use Rattle.line.proofs.Course.{safe}
 use Rattle.line.proofs.Sent.{sent-length}
-use Rattle.line.proofs.Ends.{most-requests, rests-done, rests-42, rests-43}
+use Rattle.line.proofs.Rest.{most-requests, rests-done, rests-42, rests-43}
 use Rattle.line.proofs.Demand3.{demand3}
 use Rattle.clean.specs.Run.{transferredOf, cleanCarriedOf}
 use Rattle.clean.specs.Turn.{endsUnderway, Answered, answered, answerOf, Turned, turned, deliveredOf, cleanTurnOf}

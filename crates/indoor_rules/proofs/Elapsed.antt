@@ -9,7 +9,7 @@ use Rattle.silence.specs.Expiry.{grownOf}
 use Rattle.silence.specs.declared.Grown.{Grown}
 use Rattle.silence.specs.declared.Event.{Event}
 use Rattle.silence.specs.declared.Event.the-variants.{Quiet, Resend, NoneLeft}
-use Rattle.silence.proofs.Laws.{below-quiet, left-resends, none-left-ends, limit-expires, many-limits}
+use Rattle.silence.proofs.Laws.{below-quiet, left-resends, none-left-expires, limit-expires, many-limits}
 use Rattle.indoor_state.specs.Phase.{indoorProgress, indoorState}
 use Rattle.indoor_state.specs.Step.{indoorStep}
 use Rattle.indoor_rules.specs.Step.{emptiedBy}
@@ -95,7 +95,7 @@ module _ (plan : Plan) (silence resends elapsed : ℕ) where
     -- .. with none left: 40.
     pub none-left-40 : plan .settings .limit ≤ silence + elapsed → plan .settings .resends ≤ resends → then phase ≡ failed Silence
     unfolding resendsOf resendOnEvent
-    none-left-40 h k = rw (listens phase again r, none-left-ends silence elapsed resends (plan .settings) h k)
+    none-left-40 h k = rw (listens phase again r, none-left-expires silence elapsed resends (plan .settings) h k)
 
   module _ (asked : ℕ) (emptied : Bool) where
     pub transfer-quiet : silence + elapsed < plan .settings .limit

@@ -33,19 +33,19 @@ abbrev pub hears : ℕ → Bool
 hears n = eqb n 0 || eqb n 21 || eqb n 41 || eqb n 42 || eqb n 43 || eqb n 44 || eqb n 45
 
 -- 40 to 45: Failed with that reason, and nothing else is left.
-abbrev pub Ends : Answer → State → Type 0
-Ends Ans.Identifying next = Unit
-Ends Ans.Initiating next = Unit
-Ends (Ans.Sending number) next = Unit
-Ends Ans.Validating next = Unit
-Ends Ans.Waiting next = Unit
-Ends Ans.Finished next = Unit
-Ends Ans.Passed next = Unit
-Ends Ans.Malformed next = Unit
-Ends Ans.Unexpected next = Unit
-Ends Ans.BufferShort next = Unit
-Ends Ans.FileLength next = Unit
-Ends (Ans.Failed reason) next = next ≡ indoorState (Failed reason) 0 0
+abbrev pub Fails : Answer → State → Type 0
+Fails Ans.Identifying next = Unit
+Fails Ans.Initiating next = Unit
+Fails (Ans.Sending number) next = Unit
+Fails Ans.Validating next = Unit
+Fails Ans.Waiting next = Unit
+Fails Ans.Finished next = Unit
+Fails Ans.Passed next = Unit
+Fails Ans.Malformed next = Unit
+Fails Ans.Unexpected next = Unit
+Fails Ans.BufferShort next = Unit
+Fails Ans.FileLength next = Unit
+Fails (Ans.Failed reason) next = next ≡ indoorState (Failed reason) 0 0
 
 -- Done and Failed stay.
 abbrev pub Stays : Phase → State → Step → Type 0
@@ -193,7 +193,7 @@ pub record Row (plan : Plan) (state : State) (r : Response) (s : Step) : Type 0 
   pub number : hears (indoorNumberOf (s .answer)) ≡ true
   pub passes : When (eqb (indoorNumberOf (s .answer)) 21) (s .state ≡ state)
   pub taken : When (eqb (indoorNumberOf (s .answer)) 0) ((s .state .silence ≡ 0) × (s .state .resends ≡ 0))
-  pub ends : Ends (s .answer) (s .state)
+  pub fails : Fails (s .answer) (s .state)
   pub stays : Stays (state .phase) state s
   pub enters : Enters plan (state .phase) r (s .state .phase)
   pub fit : Fit plan (state .phase) → Fit plan (s .state .phase)

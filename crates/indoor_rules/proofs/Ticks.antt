@@ -22,7 +22,7 @@ use Rattle.indoor_state.specs.declared.answer.Answer.the-variants as Ans
 use Rattle.indoor_state.specs.declared.step.Step.{Step}
 use Rattle.indoor_rules.proofs.Accepted.{emptied-stays, emptied-last}
 use Rattle.indoor_rules.proofs.Orders.{failed}
-use Rattle.indoor_rules.proofs.Owes.{Ends, Fit, Within, Empties, Still, Marks, later-empties}
+use Rattle.indoor_rules.proofs.Owes.{Fails, Fit, Within, Empties, Still, Marks, later-empties}
 
 -- Answered 0 or 40.
 abbrev pub ticks : ℕ → Bool
@@ -65,7 +65,7 @@ pub record Ticks (plan : Plan) (state : State) (elapsed : ℕ) (s : Step) : Type
   -- Time leads to no phase but Failed, and there only by an expiry.
   pub lasts : (order (s .state .phase) ≡ order (state .phase)) ⊎ ((s ≡ failed Silence) × Expires plan state elapsed)
   pub expired : When (eqb (indoorNumberOf (s .answer)) 40) (Expires plan state elapsed)
-  pub ends : Ends (s .answer) (s .state)
+  pub fails : Fails (s .answer) (s .state)
   -- A resend is counted only by an expiry, and one call is at most one.
   pub counted : (s .state .resends ≡ state .resends) ⊎ Expires plan state elapsed
   pub once : s .state .resends ≤ state .resends + 1

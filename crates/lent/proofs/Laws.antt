@@ -4,9 +4,9 @@ use mathlib.Core.Path.{_≡_, refl, _∙_}
 use mathlib.Core.List.{List, _++_}
 use native.Mathlib.Nat.{zero-add}
 use native.Mathlib.Omega.{arith}
-use borrow.Author.Tests.{leb-true}
+use borrow.Author.Tests.{ltb-false}
 use lib.ListN.{length, take, drop, length-append, length-take, length-drop}
-use lib.Dec.{leb}
+use lib.Dec.{ltb}
 use lib.Seq.{take-at, drop-at, length-take-le, drop-drop, take-append-seam, drop-append-add}
 use Rattle.basis.specs.Pick.{tests, pick-all}
 use Rattle.basis.specs.Left.{Left, left}
@@ -46,9 +46,9 @@ pasted-length d at s h = simp (length-append, length-take, length-drop) (omega a
 pub put-length : (d : List ℕ) (at : ℕ) (s : List ℕ) → length (putOf d at s .memory) ≡ length d
 unfolding putOf
 put-length d at s =
-    pick-all (λ (x : Left Placed). length (x .memory) ≡ length d) (leb (at + length s) (length d)) _ _
-    (λ t. pasted-length d at s (leb-true (at + length s) (length d) t))
+    pick-all (λ (x : Left Placed). length (x .memory) ≡ length d) (ltb (length d) (at + length s)) _ _
     (λ _. refl)
+    (λ f. pasted-length d at s (ltb-false (length d) (at + length s) f))
 
 -- A head, and then a block put behind it, are one message in the first bytes of the buffer.
 pub two-written : (h b d : List ℕ) → length h + length b ≤ length d → putOf (writtenInto h d) (length h) b ≡ left Stored (writtenInto (h ++ b) d)

@@ -2,7 +2,7 @@
 use Prim.Native.Nat.{ℕ, _+_}
 use mathlib.Core.List.{List, _++_}
 use lib.ListN.{length, take, drop}
-use lib.Dec.{leb}
+use lib.Dec.{ltb}
 use Rattle.basis.specs.Pick.{pick}
 use Rattle.basis.specs.Left.{Left, left}
 use Rattle.lent.specs.declared.Placed.{Placed}
@@ -12,6 +12,6 @@ use Rattle.lent.specs.declared.Placed.the-variants.{Stored, NoRoom}
 abbrev pub pasted : List ℕ → ℕ → List ℕ → List ℕ
 pasted d at s = take at d ++ s ++ drop (at + length s) d
 
--- Stored where all of s lies within d; else refused, and d is as it was.
+-- Refused where s passes the end of d, and d is as it was.
 unfoldable pub putOf : List ℕ → ℕ → List ℕ → Left Placed
-putOf d at s = pick (leb (at + length s) (length d)) (left Stored (pasted d at s)) (left NoRoom d)
+putOf d at s = pick (ltb (length d) (at + length s)) (left NoRoom d) (left Stored (pasted d at s))

@@ -76,9 +76,9 @@ module _ (file memory : List ℕ) (release : Release) (identity : Identity) wher
   truthful-on before next responses written out stays new old m h = old-or-new before next responses written out stays new old m (sent-or-new written out responses m h)
 
   module _ (wide : Wide release identity) (w : World) (s : Safe w) where
-    asked-safe : (request : List ℕ) → List·Memᴰ request (w .requests) → (readiness : ℕ) (verdict : Verdict) (out : List ℕ)
+    image-safe : (request : List ℕ) → List·Memᴰ request (w .requests) → (readiness : ℕ) (verdict : Verdict) (out : List ℕ)
         → Safe (afterRequest w (w .image) (inl refl) (receiverRequestOf (w .receiver) (w .image) request readiness verdict out))
-    asked-safe request h readiness verdict out =
+    image-safe request h readiness verdict out =
         let r = w .receiver in
         let same = carries wide w s request h in
         let x = receiverRequestOf r (w .image) request readiness verdict out in
@@ -122,7 +122,7 @@ module _ (file memory : List ℕ) (release : Release) (identity : Identity) wher
         → Safe (afterRequest w lent which (receiverRequestOf (w .receiver) lent request readiness verdict out))
     request-safe request h lent (inl same) readiness verdict out =
         subst (λ (x : List ℕ). Safe (afterRequest w (w .image) (inl refl) (receiverRequestOf (w .receiver) x request readiness verdict out))) (sym same)
-        (asked-safe request h readiness verdict out)
+        (image-safe request h readiness verdict out)
     request-safe request h lent (inr other) readiness verdict out = refused-safe request lent other readiness verdict out
 
     lent-same : (lent : List ℕ) → Lent file lent → length lent ≡ length file → lent ≡ file

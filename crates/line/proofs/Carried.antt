@@ -13,7 +13,7 @@ use Rattle.wire.specs.Codes.{longest}
 use Rattle.wire.specs.Request as message
 use Rattle.wire.specs.Response as answer
 use Rattle.wire.specs.declared.request.Request.{Request}
-use Rattle.wire.specs.declared.request.Parsed.the-variants as Asked
+use Rattle.wire.specs.declared.request.Parsed.the-variants as ReqPar
 use Rattle.wire.specs.declared.response.Response.{Response}
 use Rattle.wire.specs.declared.response.Parsed.the-variants as ResPar
 use Rattle.wire.specs.declared.response.Identity.{Identity}
@@ -90,7 +90,7 @@ module _ (file memory : List ℕ) (release : Release) (identity : Identity) wher
     abbrev pub call : List ℕ → Effect
     call request = receiverRequestOf (x .world .receiver) (x .world .image) request 0 Ver.Good out
 
-    done : (m : List ℕ) (p : receiver.Phase) (q : Request) (then : Step) → x .world .receiver .phase ≡ p → message.parsedRequestOf m ≡ Asked.Valid q
+    done : (m : List ℕ) (p : receiver.Phase) (q : Request) (then : Step) → x .world .receiver .phase ≡ p → message.parsedRequestOf m ≡ ReqPar.Valid q
         → receiverDecideOf p q (length memory) 0 Ver.Good ≡ then
         → call m ≡ requestDone (x .world .receiver) then (x .world .image) m out
     unfolding outOfRange verdictOutside pick
@@ -101,7 +101,7 @@ module _ (file memory : List ℕ) (release : Release) (identity : Identity) wher
 
     -- A request is delivered: the receiver goes on, and its answer is on its way.
     pub heard : (m : List ℕ) (p : receiver.Phase) (g : indoor.Phase) (q : Request) (then : Step) (count : ℕ) → At x p g (m ∷ []) [] count
-        → message.parsedRequestOf m ≡ Asked.Valid q → receiverDecideOf p q (length memory) 0 Ver.Good ≡ then
+        → message.parsedRequestOf m ≡ ReqPar.Valid q → receiverDecideOf p q (length memory) 0 Ver.Good ≡ then
         → (request : List ℕ) (later : List (List ℕ)) → x .up ≡ request ∷ later
         → At (carriedUp x later (call request)) (then .phase) g [] (one (says (then .answer))) count
     heard m p g q then count at r d request later e =
@@ -120,7 +120,7 @@ module _ (file memory : List ℕ) (release : Release) (identity : Identity) wher
 
     -- A request that puts no block leaves the image as it was.
     pub heard-lies : (m : List ℕ) (p : receiver.Phase) (q : Request) (then : Step) → x .world .receiver .phase ≡ p → x .up ≡ m ∷ []
-        → message.parsedRequestOf m ≡ Asked.Valid q → receiverDecideOf p q (length memory) 0 Ver.Good ≡ then → then .store ≡ Sto.Nowhere → x .world .image ≡ memory
+        → message.parsedRequestOf m ≡ ReqPar.Valid q → receiverDecideOf p q (length memory) 0 Ver.Good ≡ then → then .store ≡ Sto.Nowhere → x .world .image ≡ memory
         → (request : List ℕ) (later : List (List ℕ)) → x .up ≡ request ∷ later → call request .image ≡ memory
     unfolding imageAfter
     heard-lies m p q then e rising r d nowhere lies request later f =

@@ -13,7 +13,7 @@ use Rattle.indoor_rules.proofs.Beginning as indoor
 use Rattle.line.specs.Line.{World, Wide, Fresh, Promised, Demand3}
 use Rattle.line.proofs.AnyLine.{never-wrong, done-is-good}
 use Rattle.line.proofs.Clean.{clean-going, goes-on}
-use Rattle.line.proofs.Ends.{comes-to-rest, rests-done}
+use Rattle.line.proofs.Rest.{comes-to-rest, rests-done}
 
 module _ (file memory : List ℕ) (release : Release) (identity : Identity) where
   -- Both ends are made with these settings.
@@ -49,7 +49,7 @@ module _ (file memory : List ℕ) (release : Release) (identity : Identity) wher
     cleanBegins = both-made;
     cleanGoesOn = λ k l c. goes-on file memory release identity l;
     cleanRests = λ k l c. comes-to-rest file memory release identity wide c;
-    cleanEnds = λ k l c new fits rest.
+    cleanFinishes = λ k l c new fits rest.
         let r = rests-done file memory release identity wide c rest new fits in
         record { done = r .inPhase; requests = r .requests };
   }

@@ -4,5 +4,5 @@ pub mod AnyLine
 pub mod Clean
 pub mod Carried
 pub mod Course
-pub mod Ends
+pub mod Rest
 pub mod Demand3

@@ -185,7 +185,7 @@ module _ (file memory : List ℕ) (release : Release) (identity : Identity) wher
     pub cleanGoesOn : (k : ℕ) (l : Line) → Clean k l → AtRest l ⊎ ((then : Line) × Next l then)
     pub cleanRests : (k : ℕ) (l : Line) → Clean k l → 2 * (n + 4) ≤ k → AtRest l
     -- At rest, with a newer file that fits, the indoor end is done after exactly n + 4 requests.
-    pub cleanEnds : (k : ℕ) (l : Line) → Clean k l → newerOf release identity ≡ true → length file ≤ length memory → AtRest l → Finished l
+    pub cleanFinishes : (k : ℕ) (l : Line) → Clean k l → newerOf release identity ≡ true → length file ≤ length memory → AtRest l → Finished l
 
 -- Of every session.
 abbrev pub Demand3 : Type 0

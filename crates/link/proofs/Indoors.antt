@@ -8,7 +8,7 @@ use native.Mathlib.Omega.{arith}
 use borrow.Author.Tests.{eqb-false, ltb-false}
 use lib.Dec.{eqb, ltb}
 use lib.ListN.{length}
-use Rattle.basis.specs.Pick.{pick-yes, pick-no, pick-all}
+use Rattle.basis.specs.Pick.{pick-yes, pick-no, not-yes, not-no, pick-all}
 use Rattle.basis.specs.Left.{Left, left}
 use Rattle.silence.specs.Within.{Within}
 use Rattle.silence.specs.Settings as silent
@@ -115,11 +115,11 @@ module _ (f : FlatIndoor) (file message out : List ℕ) where
   pub response-through : isIndoorSession f ≡ true → harsolvekIndoorResponse f file message out
       ≡ left (indoorOutcome (indoorPackOf (heard .answer .session)) (heard .answer .written) (indoorNumberOf (heard .answer .answer))) (heard .memory)
   unfolding harsolvekIndoorResponse
-  response-through e = pick-yes _ _ _ e
+  response-through e = pick-no _ _ _ (not-no _ e)
 
   pub response-29 : isIndoorSession f ≡ false → harsolvekIndoorResponse f file message out ≡ left (indoorOutcome f 0 29) out
   unfolding harsolvekIndoorResponse
-  response-29 e = pick-no _ _ _ e
+  response-29 e = pick-yes _ _ _ (not-yes _ e)
 
   pub response-next : isIndoorSession f ≡ true → indoorUnpackOf (harsolvekIndoorResponse f file message out .answer .state) ≡ heard .answer .session
   response-next e = ap (λ x. indoorUnpackOf (x .answer .state)) (response-through e) ∙ unpack-pack (heard .answer .session)
@@ -135,11 +135,11 @@ module _ (f : FlatIndoor) (file : List ℕ) (elapsed : ℕ) (out : List ℕ) whe
   pub time-through : isIndoorSession f ≡ true → harsolvekIndoorTime f file elapsed out
       ≡ left (indoorOutcome (indoorPackOf (passed .answer .session)) (passed .answer .written) (indoorNumberOf (passed .answer .answer))) (passed .memory)
   unfolding harsolvekIndoorTime
-  time-through e = pick-yes _ _ _ e
+  time-through e = pick-no _ _ _ (not-no _ e)
 
   pub time-29 : isIndoorSession f ≡ false → harsolvekIndoorTime f file elapsed out ≡ left (indoorOutcome f 0 29) out
   unfolding harsolvekIndoorTime
-  time-29 e = pick-no _ _ _ e
+  time-29 e = pick-yes _ _ _ (not-yes _ e)
 
   pub time-next : isIndoorSession f ≡ true → indoorUnpackOf (harsolvekIndoorTime f file elapsed out .answer .state) ≡ passed .answer .session
   time-next e = ap (λ x. indoorUnpackOf (x .answer .state)) (time-through e) ∙ unpack-pack (passed .answer .session)

@@ -5,7 +5,7 @@ use mathlib.Core.Bool.{true, false}
 use mathlib.Core.Path.{_≡_, refl, sym, _∙_, ap, subst}
 use mathlib.Core.List.{List}
 use lib.ListN.{replicate}
-use Rattle.basis.specs.Pick.{pick-yes, pick-no}
+use Rattle.basis.specs.Pick.{pick-yes, pick-no, not-yes, not-no}
 use Rattle.mailbox_state.specs.Answer.{mailboxNumberOf}
 use Rattle.mailbox_state.specs.declared.mailbox.Mailbox.{Mailbox}
 use Rattle.mailbox_state.specs.declared.mailbox.Outcome.{Outcome}
@@ -32,10 +32,10 @@ module _ (f : FlatMailbox) (e : Event) where
   outcome = eventOf (mailboxUnpackOf f) e
 
   pub held-through : isMailbox f ≡ true → heldOf f e ≡ mailboxOutcome (mailboxPackOf (outcome .mailbox)) (mailboxNumberOf (outcome .answer))
-  held-through is = pick-yes _ _ _ is
+  held-through is = pick-no _ _ _ (not-no _ is)
 
   pub held-29 : isMailbox f ≡ false → heldOf f e ≡ mailboxOutcome f 29
-  held-29 is = pick-no _ _ _ is
+  held-29 is = pick-yes _ _ _ (not-yes _ is)
 
   pub held-next : isMailbox f ≡ true → mailboxUnpackOf (heldOf f e .state) ≡ outcome .mailbox
   held-next is = ap (λ x. mailboxUnpackOf (x .state)) (held-through is) ∙ unpack-pack (outcome .mailbox)
@@ -58,16 +58,16 @@ module _ (f : FlatMailbox) (is : isMailbox f ≡ true) where
 
 module _ (f : FlatMailbox) where
   pub cci-through : isMailbox f ≡ true → harsolvekMailboxCci f ≡ reads (mailboxCciOf (mailboxUnpackOf f)) 0
-  cci-through e = pick-yes _ _ _ e
+  cci-through e = pick-no _ _ _ (not-no _ e)
 
   pub cci-29 : isMailbox f ≡ false → harsolvekMailboxCci f ≡ reads 0 29
-  cci-29 e = pick-no _ _ _ e
+  cci-29 e = pick-yes _ _ _ (not-yes _ e)
 
   pub message-through : isMailbox f ≡ true → harsolvekMailboxMessageIn f ≡ carries (messageInOf (mailboxUnpackOf f)) 0
-  message-through e = pick-yes _ _ _ e
+  message-through e = pick-no _ _ _ (not-no _ e)
 
   pub message-29 : isMailbox f ≡ false → harsolvekMailboxMessageIn f ≡ carries (replicate 256 0) 29
-  message-29 e = pick-no _ _ _ e
+  message-29 e = pick-yes _ _ _ (not-yes _ e)
 
 -- A mailbox with no connector is all zero, which no call takes for a mailbox.
 zero-none : mailboxPackOf (freshMailbox 0) ≡ zeroMailbox

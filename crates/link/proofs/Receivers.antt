@@ -4,7 +4,7 @@ use Prim.Native.Nat.{ℕ, _≤_}
 use mathlib.Core.Bool.{true, false}
 use mathlib.Core.Path.{_≡_, refl, _∙_, ap}
 use mathlib.Core.List.{List}
-use Rattle.basis.specs.Pick.{pick-yes, pick-no}
+use Rattle.basis.specs.Pick.{pick-yes, pick-no, not-yes, not-no}
 use Rattle.basis.specs.Left.{Left, left}
 use Rattle.silence.specs.Within.{Within}
 use Rattle.silence.specs.declared.Settings.{Settings}
@@ -50,25 +50,25 @@ keeps-session f next e settings capacity =
     pack-session next (rw settings (w .within)) (rw capacity (w .room))
 
 module _ (f : FlatReceiver) (image message : List ℕ) (readiness verdict later : ℕ) (out : List ℕ) where
-  abbrev asked : inner.Effect
-  asked = inner.receiverRequestOf (receiverUnpackOf f) image message readiness (verdictOf verdict later) out
+  abbrev requested : inner.Effect
+  requested = inner.receiverRequestOf (receiverUnpackOf f) image message readiness (verdictOf verdict later) out
 
   pub request-through : isReceiverSession f ≡ true → harsolvekReceiverRequest f image message readiness verdict later out
-      ≡ receiverCalled (receiverOutcome (receiverPackOf (asked .outcome .session)) (asked .outcome .written) (receiverNumberOf (asked .outcome .answer))) (asked .image) (asked .out)
+      ≡ receiverCalled (receiverOutcome (receiverPackOf (requested .outcome .session)) (requested .outcome .written) (receiverNumberOf (requested .outcome .answer))) (requested .image) (requested .out)
   unfolding harsolvekReceiverRequest
-  request-through e = pick-yes _ _ _ e
+  request-through e = pick-no _ _ _ (not-no _ e)
 
   pub request-29 : isReceiverSession f ≡ false → harsolvekReceiverRequest f image message readiness verdict later out ≡ receiverCalled (receiverOutcome f 0 29) image out
   unfolding harsolvekReceiverRequest
-  request-29 e = pick-no _ _ _ e
+  request-29 e = pick-yes _ _ _ (not-yes _ e)
 
-  pub request-next : isReceiverSession f ≡ true → receiverUnpackOf (harsolvekReceiverRequest f image message readiness verdict later out .outcome .state) ≡ asked .outcome .session
-  request-next e = ap (λ c. receiverUnpackOf (c .outcome .state)) (request-through e) ∙ unpack-pack (asked .outcome .session)
+  pub request-next : isReceiverSession f ≡ true → receiverUnpackOf (harsolvekReceiverRequest f image message readiness verdict later out .outcome .state) ≡ requested .outcome .session
+  request-next e = ap (λ c. receiverUnpackOf (c .outcome .state)) (request-through e) ∙ unpack-pack (requested .outcome .session)
 
   pub request-session : isReceiverSession f ≡ true → isReceiverSession (harsolvekReceiverRequest f image message readiness verdict later out .outcome .state) ≡ true
   request-session e =
       let stays = settings-stay (receiverUnpackOf f) image message readiness (verdictOf verdict later) out in
-      ap (λ c. isReceiverSession (c .outcome .state)) (request-through e) ∙ keeps-session f (asked .outcome .session) e (stays .0) (stays .2)
+      ap (λ c. isReceiverSession (c .outcome .state)) (request-through e) ∙ keeps-session f (requested .outcome .session) e (stays .0) (stays .2)
 
 module _ (f : FlatReceiver) (elapsed : ℕ) (out : List ℕ) where
   abbrev passed : Left Outcome
@@ -77,11 +77,11 @@ module _ (f : FlatReceiver) (elapsed : ℕ) (out : List ℕ) where
   pub time-through : isReceiverSession f ≡ true → harsolvekReceiverTime f elapsed out
       ≡ left (receiverOutcome (receiverPackOf (passed .answer .session)) (passed .answer .written) (receiverNumberOf (passed .answer .answer))) (passed .memory)
   unfolding harsolvekReceiverTime
-  time-through e = pick-yes _ _ _ e
+  time-through e = pick-no _ _ _ (not-no _ e)
 
   pub time-29 : isReceiverSession f ≡ false → harsolvekReceiverTime f elapsed out ≡ left (receiverOutcome f 0 29) out
   unfolding harsolvekReceiverTime
-  time-29 e = pick-no _ _ _ e
+  time-29 e = pick-yes _ _ _ (not-yes _ e)
 
   pub time-next : isReceiverSession f ≡ true → receiverUnpackOf (harsolvekReceiverTime f elapsed out .answer .state) ≡ passed .answer .session
   time-next e = ap (λ x. receiverUnpackOf (x .answer .state)) (time-through e) ∙ unpack-pack (passed .answer .session)
@@ -95,11 +95,11 @@ module _ (f : FlatReceiver) (elapsed : ℕ) (out : List ℕ) where
 module _ (f : FlatReceiver) (image : List ℕ) where
   pub sum-through : isReceiverSession f ≡ true → harsolvekReceiverSum f image ≡ flatReceiverSummed (sum.receiverSumOf (receiverUnpackOf f) image)
   unfolding harsolvekReceiverSum
-  sum-through e = pick-yes _ _ _ e
+  sum-through e = pick-no _ _ _ (not-no _ e)
 
   pub sum-29 : isReceiverSession f ≡ false → harsolvekReceiverSum f image ≡ imageSum 0 29
   unfolding harsolvekReceiverSum
-  sum-29 e = pick-no _ _ _ e
+  sum-29 e = pick-yes _ _ _ (not-yes _ e)
 
 -- A sum is handed out as it is, and a refused one is 0.
 pub sum-rows : (s : ℕ) → (flatReceiverSummed (Sum s) ≡ imageSum s 0) × (flatReceiverSummed ImageLength ≡ imageSum 0 28)

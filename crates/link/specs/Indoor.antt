@@ -1,6 +1,7 @@
 -- What the indoor end's calls for C return and leave: the same as the session's own call on the unpacked state, and 29 where the numbers are
 -- no session's.
 use Prim.Native.Nat.{ℕ}
+use mathlib.Core.Bool.{not}
 use mathlib.Core.List.{List}
 use Rattle.basis.specs.Pick.{pick}
 use Rattle.basis.specs.Left.{Left, left}
@@ -49,7 +50,7 @@ abbrev pub flatIndoorLeft : Left Outcome → Left IndoorOutcome
 flatIndoorLeft x = left (flatIndoorOf (x .answer)) (x .memory)
 
 unfoldable pub harsolvekIndoorResponse : FlatIndoor → List ℕ → List ℕ → List ℕ → Left IndoorOutcome
-harsolvekIndoorResponse f file message out = pick (isIndoorSession f) (flatIndoorLeft (response.indoorResponseOf (indoorUnpackOf f) file message out)) (left (noIndoor f) out)
+harsolvekIndoorResponse f file message out = pick (not (isIndoorSession f)) (left (noIndoor f) out) (flatIndoorLeft (response.indoorResponseOf (indoorUnpackOf f) file message out))
 
 unfoldable pub harsolvekIndoorTime : FlatIndoor → List ℕ → ℕ → List ℕ → Left IndoorOutcome
-harsolvekIndoorTime f file elapsed out = pick (isIndoorSession f) (flatIndoorLeft (time.indoorTimeOf (indoorUnpackOf f) file elapsed out)) (left (noIndoor f) out)
+harsolvekIndoorTime f file elapsed out = pick (not (isIndoorSession f)) (left (noIndoor f) out) (flatIndoorLeft (time.indoorTimeOf (indoorUnpackOf f) file elapsed out))

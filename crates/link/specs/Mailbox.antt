@@ -1,6 +1,7 @@
 -- What the mailbox's calls for C return: what the mailbox's own do, on the state that the numbers say. Numbers that are no mailbox's state are
 -- answered 29.
 use Prim.Native.Nat.{ℕ}
+use mathlib.Core.Bool.{not}
 use mathlib.Core.List.{List}
 use lib.ListN.{replicate}
 use Rattle.basis.specs.Pick.{pick}
@@ -30,7 +31,7 @@ harsolvekMailboxFresh count = mailboxOutcome (mailboxPackOf (mailboxFreshOf coun
 
 -- An event of the mailbox that the numbers say.
 abbrev pub heldOf : FlatMailbox → Event → MailboxOutcome
-heldOf f e = pick (isMailbox f) (flatMailboxOf (eventOf (mailboxUnpackOf f) e)) (noMailbox f)
+heldOf f e = pick (not (isMailbox f)) (noMailbox f) (flatMailboxOf (eventOf (mailboxUnpackOf f) e))
 
 abbrev pub harsolvekMailboxWrite : FlatMailbox → List ℕ → MailboxOutcome
 harsolvekMailboxWrite f control = heldOf f (writes control)
@@ -48,10 +49,10 @@ abbrev pub reads : ℕ → ℕ → MailboxCci
 reads cci number = record { cci = cci; number = number }
 
 abbrev pub harsolvekMailboxCci : FlatMailbox → MailboxCci
-harsolvekMailboxCci f = pick (isMailbox f) (reads (mailboxCciOf (mailboxUnpackOf f)) 0) (reads 0 29)
+harsolvekMailboxCci f = pick (not (isMailbox f)) (reads 0 29) (reads (mailboxCciOf (mailboxUnpackOf f)) 0)
 
 abbrev pub holds : List ℕ → ℕ → MessageIn
 holds bytes number = record { bytes = bytes; number = number }
 
 abbrev pub harsolvekMailboxMessageIn : FlatMailbox → MessageIn
-harsolvekMailboxMessageIn f = pick (isMailbox f) (holds (messageInOf (mailboxUnpackOf f)) 0) (holds (replicate 256 0) 29)
+harsolvekMailboxMessageIn f = pick (not (isMailbox f)) (holds (replicate 256 0) 29) (holds (messageInOf (mailboxUnpackOf f)) 0)

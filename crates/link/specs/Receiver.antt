@@ -2,6 +2,7 @@
 -- session's.
 use Prim.Native.Nat.{ℕ}
 use mathlib.Core.Path.{_≡_}
+use mathlib.Core.Bool.{not}
 use mathlib.Core.List.{List}
 use Rattle.basis.specs.Pick.{pick}
 use Rattle.basis.specs.Left.{Left, left}
@@ -68,14 +69,14 @@ flatReceiverRequested e = receiverCalled (flatReceiverOf (e .outcome)) (e .image
 
 unfoldable pub harsolvekReceiverRequest : FlatReceiver → List ℕ → List ℕ → ℕ → ℕ → ℕ → List ℕ → ReceiverCalled
 harsolvekReceiverRequest f image message readiness verdict later out =
-    pick (isReceiverSession f) (flatReceiverRequested (request.receiverRequestOf (receiverUnpackOf f) image message readiness (verdictOf verdict later) out))
-    (receiverCalled (noReceiver f) image out)
+    pick (not (isReceiverSession f)) (receiverCalled (noReceiver f) image out)
+    (flatReceiverRequested (request.receiverRequestOf (receiverUnpackOf f) image message readiness (verdictOf verdict later) out))
 
 abbrev pub flatReceiverTimed : Left Outcome → Left ReceiverOutcome
 flatReceiverTimed x = left (flatReceiverOf (x .answer)) (x .memory)
 
 unfoldable pub harsolvekReceiverTime : FlatReceiver → ℕ → List ℕ → Left ReceiverOutcome
-harsolvekReceiverTime f elapsed out = pick (isReceiverSession f) (flatReceiverTimed (time.receiverTimeOf (receiverUnpackOf f) elapsed out)) (left (noReceiver f) out)
+harsolvekReceiverTime f elapsed out = pick (not (isReceiverSession f)) (left (noReceiver f) out) (flatReceiverTimed (time.receiverTimeOf (receiverUnpackOf f) elapsed out))
 
 -- A refused sum is 0.
 abbrev pub sumValueOf : Summed → ℕ
@@ -86,4 +87,4 @@ abbrev pub flatReceiverSummed : Summed → ImageSum
 flatReceiverSummed s = imageSum (sumValueOf s) (summing.imageSumNumberOf s)
 
 unfoldable pub harsolvekReceiverSum : FlatReceiver → List ℕ → ImageSum
-harsolvekReceiverSum f image = pick (isReceiverSession f) (flatReceiverSummed (sum.receiverSumOf (receiverUnpackOf f) image)) (imageSum 0 29)
+harsolvekReceiverSum f image = pick (not (isReceiverSession f)) (imageSum 0 29) (flatReceiverSummed (sum.receiverSumOf (receiverUnpackOf f) image))

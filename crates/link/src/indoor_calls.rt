@@ -98,12 +98,12 @@ pub extern "C" fn harsolvek_indoor_response(
 ) -> IndoorOutcome
     ensures { λ r. ⌜ left r (now (out .exit)) ≡ harsolvekIndoorResponse state (now (file .entry)) (now (response .entry)) (now (out .entry)) ⌝ }
 {
-    if state.is_session() {
-        let session = state.unpack();
-        let outcome = indoor::response(session, file, response, out);
-        return flat(outcome);
+    if !state.is_session() {
+        return no_session(state);
     }
-    no_session(state)
+    let session = state.unpack();
+    let outcome = indoor::response(session, file, response, out);
+    flat(outcome)
 }
 
 #[no_mangle]
@@ -115,10 +115,10 @@ pub extern "C" fn harsolvek_indoor_time(
 ) -> IndoorOutcome
     ensures { λ r. ⌜ left r (now (out .exit)) ≡ harsolvekIndoorTime state (now (file .entry)) elapsed (now (out .entry)) ⌝ }
 {
-    if state.is_session() {
-        let session = state.unpack();
-        let outcome = indoor::time(session, file, elapsed, out);
-        return flat(outcome);
+    if !state.is_session() {
+        return no_session(state);
     }
-    no_session(state)
+    let session = state.unpack();
+    let outcome = indoor::time(session, file, elapsed, out);
+    flat(outcome)
 }

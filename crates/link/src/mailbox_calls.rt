@@ -92,63 +92,63 @@ pub extern "C" fn harsolvek_mailbox_fresh(connectors: u8) -> MailboxOutcome
 pub extern "C" fn harsolvek_mailbox_write(state: FlatMailbox, control: &[u8]) -> MailboxOutcome
     ensures { λ r. ⌜ r ≡ harsolvekMailboxWrite state (now (control .entry)) ⌝ }
 {
-    if state.is_mailbox() {
-        let mailbox = state.unpack();
-        let step = mailbox::write_step(mailbox.state, control);
-        let answer = step.answer;
-        let number = mailbox_decide::answer_number(answer);
-        if number != 0 {
-            return MailboxOutcome { state, number };
-        }
-        let effect = step.effect;
-        if mailbox::keeps(effect) {
-            return kept(state, step);
-        }
-        return anew(step, b"");
+    if !state.is_mailbox() {
+        return no_mailbox(state);
     }
-    no_mailbox(state)
+    let mailbox = state.unpack();
+    let step = mailbox::write_step(mailbox.state, control);
+    let answer = step.answer;
+    let number = mailbox_decide::answer_number(answer);
+    if number != 0 {
+        return MailboxOutcome { state, number };
+    }
+    let effect = step.effect;
+    if mailbox::keeps(effect) {
+        return kept(state, step);
+    }
+    anew(step, b"")
 }
 
 #[no_mangle]
 pub extern "C" fn harsolvek_mailbox_success(state: FlatMailbox, bytes: &[u8]) -> MailboxOutcome
     ensures { λ r. ⌜ r ≡ harsolvekMailboxSuccess state (now (bytes .entry)) ⌝ }
 {
-    if state.is_mailbox() {
-        let mailbox = state.unpack();
-        let step = mailbox_decide::succeed(mailbox.state, bytes.len());
-        let answer = step.answer;
-        let number = mailbox_decide::answer_number(answer);
-        if number != 0 {
-            return MailboxOutcome { state, number };
-        }
-        let effect = step.effect;
-        if mailbox::keeps(effect) {
-            return kept(state, step);
-        }
-        return anew(step, bytes);
+    if !state.is_mailbox() {
+        return no_mailbox(state);
     }
-    no_mailbox(state)
+    let mailbox = state.unpack();
+    let step = mailbox_decide::succeed(mailbox.state, bytes.len());
+    let answer = step.answer;
+    let number = mailbox_decide::answer_number(answer);
+    if number != 0 {
+        return MailboxOutcome { state, number };
+    }
+    let effect = step.effect;
+    if mailbox::keeps(effect) {
+        return kept(state, step);
+    }
+    anew(step, bytes)
 }
 
 #[no_mangle]
 pub extern "C" fn harsolvek_mailbox_failure(state: FlatMailbox) -> MailboxOutcome
     ensures { λ r. ⌜ r ≡ harsolvekMailboxFailure state ⌝ }
 {
-    if state.is_mailbox() {
-        let mailbox = state.unpack();
-        let step = mailbox_decide::fail(mailbox.state);
-        let answer = step.answer;
-        let number = mailbox_decide::answer_number(answer);
-        if number != 0 {
-            return MailboxOutcome { state, number };
-        }
-        let effect = step.effect;
-        if mailbox::keeps(effect) {
-            return kept(state, step);
-        }
-        return anew(step, b"");
+    if !state.is_mailbox() {
+        return no_mailbox(state);
     }
-    no_mailbox(state)
+    let mailbox = state.unpack();
+    let step = mailbox_decide::fail(mailbox.state);
+    let answer = step.answer;
+    let number = mailbox_decide::answer_number(answer);
+    if number != 0 {
+        return MailboxOutcome { state, number };
+    }
+    let effect = step.effect;
+    if mailbox::keeps(effect) {
+        return kept(state, step);
+    }
+    anew(step, b"")
 }
 
 #[no_mangle]
@@ -159,44 +159,44 @@ pub extern "C" fn harsolvek_mailbox_change(
 ) -> MailboxOutcome
     ensures { λ r. ⌜ r ≡ harsolvekMailboxChange state connector reason ⌝ }
 {
-    if state.is_mailbox() {
-        let mailbox = state.unpack();
-        let step = mailbox_decide::change(mailbox.state, connector, reason);
-        let effect = step.effect;
-        if mailbox::keeps(effect) {
-            return kept(state, step);
-        }
-        return anew(step, b"");
+    if !state.is_mailbox() {
+        return no_mailbox(state);
     }
-    no_mailbox(state)
+    let mailbox = state.unpack();
+    let step = mailbox_decide::change(mailbox.state, connector, reason);
+    let effect = step.effect;
+    if mailbox::keeps(effect) {
+        return kept(state, step);
+    }
+    anew(step, b"")
 }
 
 #[no_mangle]
 pub extern "C" fn harsolvek_mailbox_cci(state: FlatMailbox) -> MailboxCci
     ensures { λ r. ⌜ r ≡ harsolvekMailboxCci state ⌝ }
 {
-    if state.is_mailbox() {
-        let mailbox = state.unpack();
-        let cci = mailbox::cci(mailbox);
-        return MailboxCci { cci, number: 0 };
+    if !state.is_mailbox() {
+        return MailboxCci {
+            cci: 0,
+            number: NO_SUCH_STATE,
+        };
     }
-    MailboxCci {
-        cci: 0,
-        number: NO_SUCH_STATE,
-    }
+    let mailbox = state.unpack();
+    let cci = mailbox::cci(mailbox);
+    MailboxCci { cci, number: 0 }
 }
 
 #[no_mangle]
 pub extern "C" fn harsolvek_mailbox_message_in(state: FlatMailbox) -> MessageIn
     ensures { λ r. ⌜ r ≡ harsolvekMailboxMessageIn state ⌝ }
 {
-    if state.is_mailbox() {
-        let mailbox = state.unpack();
-        let bytes = mailbox::message_in(mailbox);
-        return MessageIn { bytes, number: 0 };
+    if !state.is_mailbox() {
+        return MessageIn {
+            bytes: [0; 256],
+            number: NO_SUCH_STATE,
+        };
     }
-    MessageIn {
-        bytes: [0; 256],
-        number: NO_SUCH_STATE,
-    }
+    let mailbox = state.unpack();
+    let bytes = mailbox::message_in(mailbox);
+    MessageIn { bytes, number: 0 }
 }

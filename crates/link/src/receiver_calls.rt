@@ -102,13 +102,13 @@ pub extern "C" fn harsolvek_receiver_request(
 ) -> ReceiverOutcome
     ensures { λ r. ⌜ receiverCalled r (now (image .exit)) (now (out .exit)) ≡ harsolvekReceiverRequest state (now (image .entry)) (now (request .entry)) readiness verdict later (now (out .entry)) ⌝ }
 {
-    if state.is_session() {
-        let session = state.unpack();
-        let given = verdict_of(verdict, later);
-        let outcome = receiver::request(session, image, request, readiness, given, out);
-        return flat(state, outcome);
+    if !state.is_session() {
+        return no_session(state);
     }
-    no_session(state)
+    let session = state.unpack();
+    let given = verdict_of(verdict, later);
+    let outcome = receiver::request(session, image, request, readiness, given, out);
+    flat(state, outcome)
 }
 
 #[no_mangle]
@@ -119,29 +119,29 @@ pub extern "C" fn harsolvek_receiver_time(
 ) -> ReceiverOutcome
     ensures { λ r. ⌜ left r (now (out .exit)) ≡ harsolvekReceiverTime state elapsed (now (out .entry)) ⌝ }
 {
-    if state.is_session() {
-        let session = state.unpack();
-        let outcome = receiver::time(session, elapsed, out);
-        return flat(state, outcome);
+    if !state.is_session() {
+        return no_session(state);
     }
-    no_session(state)
+    let session = state.unpack();
+    let outcome = receiver::time(session, elapsed, out);
+    flat(state, outcome)
 }
 
 #[no_mangle]
 pub extern "C" fn harsolvek_receiver_sum(state: FlatReceiver, image: &[u8]) -> ImageSum
     ensures { λ r. ⌜ r ≡ harsolvekReceiverSum state (now (image .entry)) ⌝ }
 {
-    if state.is_session() {
-        let session = state.unpack();
-        let summed = receiver::sum(session, image);
-        let number = receiver::summed_number(summed);
-        let sum = value(summed);
-        return ImageSum { sum, number };
+    if !state.is_session() {
+        return ImageSum {
+            sum: 0,
+            number: NO_SUCH_STATE,
+        };
     }
-    ImageSum {
-        sum: 0,
-        number: NO_SUCH_STATE,
-    }
+    let session = state.unpack();
+    let summed = receiver::sum(session, image);
+    let number = receiver::summed_number(summed);
+    let sum = value(summed);
+    ImageSum { sum, number }
 }
 
 fn value(summed: Summed) -> u16

@@ -19,7 +19,7 @@ use Rattle.mailbox_state.specs.declared.status.CommandStatus.the-variants.{Noth
 use Rattle.mailbox_state.specs.declared.state.State.{State}
 use Rattle.mailbox_state.specs.declared.step.Step.{Step}
 use Rattle.mailbox_rules.specs.Refusal.{situationOf, refusalOf}
-use Rattle.mailbox_rules.specs.Until.{EndsDue, reset, acknowledged, EndsRun, byReset, byCancel}
+use Rattle.mailbox_rules.specs.Until.{ResetOrAcknowledge, reset, acknowledged, ResetOrCancel, byReset, byCancel}
 use Rattle.mailbox_rules.specs.Write.{judgedStepOf, controlStepOf}
 use Rattle.mailbox_rules.proofs.Answers.{off-2, running-3, due-4}
 use Rattle.mailbox_rules.proofs.Command.{StatusOf, zero-taken, write-takes}
@@ -36,7 +36,7 @@ due-still Cancelled e = refl
 due-still Acknowledged e = refl
 
 ending : (class : Class) (s : Situation) (off completed : Bool) (code : ℕ) → s .off ≡ off → s .completed ≡ completed → s .runs ≡ false → s .due ≡ true
-    → refusalOf class s ≡ Taken → Named code class → EndsDue code completed
+    → refusalOf class s ≡ Taken → Named code class → ResetOrAcknowledge code completed
 ending class.Reset s off completed code o c r d e h = reset h
 ending class.Acknowledge s true completed code o c r d e h = absurd (omega (arith, ap mailboxNumberOf (sym (off-2 s o .acknowledge) ∙ e)))
 ending class.Acknowledge s false true code o c r d e h = acknowledged h refl
@@ -59,10 +59,10 @@ module _ (state : State) (control : Control) where
   abbrev situation : Situation
   situation = situationOf state control
 
-  pub due-stays : dueOf (state .status) ≡ true → IsDue (controlStepOf state control) ⊎ EndsDue (control .code) (control .completed)
+  pub due-stays : dueOf (state .status) ≡ true → IsDue (controlStepOf state control) ⊎ ResetOrAcknowledge (control .code) (control .completed)
   unfolding judgedStepOf
   due-stays h =
-      pick-all (λ (s : Step). IsDue s ⊎ EndsDue (control .code) (control .completed)) _ _ _
+      pick-all (λ (s : Step). IsDue s ⊎ ResetOrAcknowledge (control .code) (control .completed)) _ _ _
       (λ y. inl h)
       (λ n.
       inr
@@ -70,7 +70,7 @@ module _ (state : State) (control : Control) where
       (zero-taken _ (differ-false (mailboxNumberOf (refusalOf class-of situation)) 0 n))
       (named (control .code))))
 
-stopping : (class : Class) (s : Situation) (off : Bool) (code : ℕ) → s .off ≡ off → s .runs ≡ true → refusalOf class s ≡ Taken → Named code class → EndsRun code
+stopping : (class : Class) (s : Situation) (off : Bool) (code : ℕ) → s .off ≡ off → s .runs ≡ true → refusalOf class s ≡ Taken → Named code class → ResetOrCancel code
 stopping class.Reset s off code o r e h = byReset h
 stopping class.Cancel s off code o r e h = byCancel h
 stopping class.Acknowledge s true code o r e h = absurd (omega (arith, ap mailboxNumberOf (sym (off-2 s o .acknowledge) ∙ e)))
@@ -81,10 +81,10 @@ stopping class.Run s false code o r e h = absurd (omega (arith, ap mailboxNumber
 stopping class.NotSupported s true code o r e h = absurd (omega (arith, ap mailboxNumberOf (sym (off-2 s o .notSupported) ∙ e)))
 stopping class.NotSupported s false code o r e h = absurd (omega (arith, ap mailboxNumberOf (sym (running-3 s r .notSupported o) ∙ e)))
 
-pub run-stays : (state : State) (control : Control) → runsOf (state .status) ≡ true → (controlStepOf state control .state .status ≡ state .status) ⊎ EndsRun (control .code)
+pub run-stays : (state : State) (control : Control) → runsOf (state .status) ≡ true → (controlStepOf state control .state .status ≡ state .status) ⊎ ResetOrCancel (control .code)
 unfolding judgedStepOf
 run-stays state control h =
-    pick-all (λ (s : Step). (s .state .status ≡ state .status) ⊎ EndsRun (control .code)) _ _ _
+    pick-all (λ (s : Step). (s .state .status ≡ state .status) ⊎ ResetOrCancel (control .code)) _ _ _
     (λ y. inl refl)
     (λ n.
     inr

@@ -75,10 +75,10 @@ module _ (started : Mailbox) (part before : List ℕ) (mailbox : Mailbox) (taken
       sym (ap (λ (p : Plays). leadsOf p before) (mid .run ∙ ap (after taken (take written out)) e)
       ∙ rw (add-zero taken, append-nil (take written out), l, ← mid .rest, take-append-drop written out))
 
-  pub mid-ends : (ending : Ending) → nextRecordOf part taken ≡ Ended ending
+  pub mid-done : (ending : Ending) → nextRecordOf part taken ≡ Ended ending
       → _≡_ {A = Left Played} (left (record { mailbox = mailbox; taken = taken; written = written; stop = Stop.Ended ending }) out) (playOf started part before)
   unfolding playsOf
-  mid-ends ending e = rests (Stop.Ended ending) (ap (partOf mailbox (length before - written)) (apart-at part taken ∙ ap (onward apartOf part) e))
+  mid-done ending e = rests (Stop.Ended ending) (ap (partOf mailbox (length before - written)) (apart-at part taken ∙ ap (onward apartOf part) e))
 
   pub mid-full : (r : Record) (next : ℕ) → nextRecordOf part taken ≡ Found r next → length out - written < length (printed (outcomeOf mailbox r))
       → _≡_ {A = Left Played} (left (record { mailbox = mailbox; taken = taken; written = written; stop = Stop.Full }) out) (playOf started part before)

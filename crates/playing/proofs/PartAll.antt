@@ -26,7 +26,7 @@ use Rattle.playing.specs.declared.part.Stop.{Stop}
 use Rattle.playing.specs.declared.part.Stop.the-variants as Stop
 
 module _ (P : Mailbox → ℕ → List ℕ → Plays → Type 0)
-    (ends : (m : Mailbox) (room : ℕ) (part : List ℕ) (ending : Ending) → nextRecordOf part 0 ≡ Ended ending → P m room part (plays m 0 [] (Stop.Ended ending)))
+    (ended : (m : Mailbox) (room : ℕ) (part : List ℕ) (ending : Ending) → nextRecordOf part 0 ≡ Ended ending → P m room part (plays m 0 [] (Stop.Ended ending)))
     (full : (m : Mailbox) (room : ℕ) (part : List ℕ) (r : Record) (next : ℕ) → nextRecordOf part 0 ≡ Found r next
     → room < length (printed (outcomeOf m r)) → P m room part (plays m 0 [] Stop.Full))
     (goes : (m : Mailbox) (room : ℕ) (part : List ℕ) (r : Record) (next : ℕ) (rest : Plays) → nextRecordOf part 0 ≡ Found r next
@@ -37,7 +37,7 @@ module _ (P : Mailbox → ℕ → List ℕ → Plays → Type 0)
       → (m : Mailbox) (room : ℕ) (part : List ℕ) → length part ≤ suc bytes → (x : Read) → nextRecordOf part 0 ≡ x → Past part 0 x
       → P m room part (partOf m room (onward apartOf part x))
   unfolding playsOf
-  reads bytes settled m room part h (Ended ending) e past = ends m room part ending e
+  reads bytes settled m room part h (Ended ending) e past = ended m room part ending e
   reads bytes settled m room part h (Found r next) e past =
       pick-all (P m room part) (ltb room (length (printed (outcomeOf m r)))) _ _
       (λ t. full m room part r next e (ltb-true room (length (printed (outcomeOf m r))) t))
@@ -49,7 +49,7 @@ module _ (P : Mailbox → ℕ → List ℕ → Plays → Type 0)
   unfolding playsOf
   within zero m room part h =
       let e = nothing-there part 0 h in
-      subst (λ (a : Apart). P m room part (partOf m room a)) (sym (apart-step part ∙ ap (onward apartOf part) e)) (ends m room part _ e)
+      subst (λ (a : Apart). P m room part (partOf m room a)) (sym (apart-step part ∙ ap (onward apartOf part) e)) (ended m room part _ e)
   within (suc bytes) m room part h =
       subst (λ (a : Apart). P m room part (partOf m room a)) (sym (apart-step part))
       (reads bytes (within bytes) m room part h (nextRecordOf part 0) refl (next-past part 0))

@@ -5,8 +5,8 @@ use mathlib.Core.Path.{_≡_, refl, sym, _∙_, ap}
 use mathlib.Core.List.{List, [], _∷_, _++_}
 use native.Mathlib.Nat.{le-of-suc-le-suc, not-suc-le-zero}
 use native.Mathlib.Omega.{arith}
-use borrow.Author.Tests.{leb-true}
-use lib.Dec.{leb}
+use borrow.Author.Tests.{ltb-false}
+use lib.Dec.{ltb}
 use lib.ListN.{length, take, drop, replicate, length-replicate, take-append-drop}
 use Rattle.basis.specs.Pick.{pick}
 use Rattle.basis.specs.Left.{Left}
@@ -31,11 +31,11 @@ all-zeros : (n k : ℕ) → n ≤ k → replicate {A = ℕ} n 0 ++ drop n (repli
 all-zeros n k h = ap (λ (t : List ℕ). t ++ drop n (replicate k 0)) (sym (take-replicate n k h)) ∙ take-append-drop n (replicate k 0)
 
 -- Zeros, as many as they are: those that fit are put over zeros, and others are not put there.
-filled-by : (n : ℕ) (fits : Bool) → leb (0 + length (replicate {A = ℕ} n 0)) (length (replicate {A = ℕ} 256 0)) ≡ fits → putOf (replicate 256 0) 0 (replicate n 0) .memory ≡ replicate 256 0
+filled-by : (n : ℕ) (passes : Bool) → ltb (length (replicate {A = ℕ} 256 0)) (0 + length (replicate {A = ℕ} n 0)) ≡ passes → putOf (replicate 256 0) 0 (replicate n 0) .memory ≡ replicate 256 0
 unfolding putOf pick
-filled-by n false e = rw e
-filled-by n true e =
-    let raw = leb-true (0 + length (replicate {A = ℕ} n 0)) (length (replicate {A = ℕ} 256 0)) e in
+filled-by n true e = rw e
+filled-by n false e =
+    let raw = ltb-false (length (replicate {A = ℕ} 256 0)) (0 + length (replicate {A = ℕ} n 0)) e in
     let few : length (replicate {A = ℕ} n 0) ≤ length (replicate {A = ℕ} 256 0) = omega (arith, raw) in
     let size : length (replicate {A = ℕ} n 0) ≡ n = length-replicate {A = ℕ} n 0 in
     ap (λ (x : Left Placed). x .memory) (put-leads (replicate n 0) (replicate 256 0) few) ∙ rw size (all-zeros n 256 (omega (arith, few, size)))

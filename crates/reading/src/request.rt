@@ -11,10 +11,10 @@ ghost use Rattle.wire.specs.Request.{parsedRequestOf, requestOfType, bareIn, in
 pub fn read_request(msg: &[u8]) -> Parsed
     ensures { λ r. ⌜ r ≡ parsedRequestOf (now (msg .entry)) ⌝ }
 {
-    if has_header(msg) {
-        return typed(msg, msg[1]);
+    if !has_header(msg) {
+        return Parsed::Malformed;
     }
-    Parsed::Malformed
+    typed(msg, msg[1])
 }
 
 fn typed(msg: &[u8], t: u8) -> Parsed
@@ -50,19 +50,19 @@ fn typed(msg: &[u8], t: u8) -> Parsed
 fn bare(msg: &[u8], request: Request) -> Parsed
     ensures { λ r. ⌜ r ≡ bareIn (now (msg .entry)) request ⌝ }
 {
-    if msg.len() == codes::HEADER {
-        return Parsed::Valid(request);
+    if msg.len() != codes::HEADER {
+        return Parsed::Malformed;
     }
-    Parsed::Malformed
+    Parsed::Valid(request)
 }
 
 fn initiate(msg: &[u8]) -> Parsed
     ensures { λ r. ⌜ r ≡ initiateIn (now (msg .entry)) ⌝ }
 {
-    if msg.len() == codes::INITIATE_LENGTH {
-        return Parsed::Valid(Request::Initiate(versions_at(msg, 2)));
+    if msg.len() != codes::INITIATE_LENGTH {
+        return Parsed::Malformed;
     }
-    Parsed::Malformed
+    Parsed::Valid(Request::Initiate(versions_at(msg, 2)))
 }
 
 fn block(msg: &[u8]) -> Parsed

@@ -16,10 +16,10 @@ ghost use Rattle.wire.specs.Response.{parsedResponseOf, responseOfType, identif
 pub fn read_response(msg: &[u8]) -> Parsed
     ensures { λ r. ⌜ r ≡ parsedResponseOf (now (msg .entry)) ⌝ }
 {
-    if has_header(msg) {
-        return typed(msg, msg[1]);
+    if !has_header(msg) {
+        return Parsed::Malformed;
     }
-    Parsed::Malformed
+    typed(msg, msg[1])
 }
 
 fn typed(msg: &[u8], t: u8) -> Parsed
@@ -49,12 +49,12 @@ fn typed(msg: &[u8], t: u8) -> Parsed
 fn identified(msg: &[u8]) -> Parsed
     ensures { λ r. ⌜ r ≡ identifiedIn (now (msg .entry)) ⌝ }
 {
-    if msg.len() == codes::GET_FW_ID_RESPONSE_LENGTH {
-        let status = msg[2];
-        let identity = cleared(identity_in(msg));
-        return Parsed::Valid(Response::GetFwId { status, identity });
+    if msg.len() != codes::GET_FW_ID_RESPONSE_LENGTH {
+        return Parsed::Malformed;
     }
-    Parsed::Malformed
+    let status = msg[2];
+    let identity = cleared(identity_in(msg));
+    Parsed::Valid(Response::GetFwId { status, identity })
 }
 
 // 001 T5-18.
@@ -82,40 +82,40 @@ fn identity_in(msg: &[u8]) -> Identity
 fn initiated(msg: &[u8]) -> Parsed
     ensures { λ r. ⌜ r ≡ initiatedIn (now (msg .entry)) ⌝ }
 {
-    if msg.len() == codes::INITIATE_RESPONSE_LENGTH {
-        let size = word_at(msg, 4) as u32 + 65536 * ((msg[6] % 16) as u32);
-        return Parsed::Valid(Response::Initiate {
-            status: msg[2],
-            wait: msg[3],
-            size,
-        });
+    if msg.len() != codes::INITIATE_RESPONSE_LENGTH {
+        return Parsed::Malformed;
     }
-    Parsed::Malformed
+    let size = word_at(msg, 4) as u32 + 65536 * ((msg[6] % 16) as u32);
+    Parsed::Valid(Response::Initiate {
+        status: msg[2],
+        wait: msg[3],
+        size,
+    })
 }
 
 fn receipt(msg: &[u8]) -> Parsed
     ensures { λ r. ⌜ r ≡ receiptIn (now (msg .entry)) ⌝ }
 {
-    if msg.len() == codes::DATA_RESPONSE_LENGTH {
-        let number = word_at(msg, 5);
-        return Parsed::Valid(Response::Data {
-            status: msg[2],
-            wait: msg[3],
-            number,
-        });
+    if msg.len() != codes::DATA_RESPONSE_LENGTH {
+        return Parsed::Malformed;
     }
-    Parsed::Malformed
+    let number = word_at(msg, 5);
+    Parsed::Valid(Response::Data {
+        status: msg[2],
+        wait: msg[3],
+        number,
+    })
 }
 
 fn validated(msg: &[u8]) -> Parsed
     ensures { λ r. ⌜ r ≡ validatedIn (now (msg .entry)) ⌝ }
 {
-    if msg.len() == codes::VALIDATE_RESPONSE_LENGTH {
-        return Parsed::Valid(Response::Validate {
-            status: msg[2],
-            wait: msg[3],
-            success: msg[4] % 2 == 1,
-        });
+    if msg.len() != codes::VALIDATE_RESPONSE_LENGTH {
+        return Parsed::Malformed;
     }
-    Parsed::Malformed
+    Parsed::Valid(Response::Validate {
+        status: msg[2],
+        wait: msg[3],
+        success: msg[4] % 2 == 1,
+    })
 }

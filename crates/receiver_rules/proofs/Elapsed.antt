@@ -4,7 +4,7 @@ use mathlib.Core.Path.{_≡_, refl}
 use native.Mathlib.Omega.{arith}
 use Rattle.silence.specs.Expiry.{grownOf}
 use Rattle.silence.specs.declared.Grown.{Grown}
-use Rattle.silence.proofs.Laws.{below-quiet, left-resends, none-left-ends, one-expiry, many-limits}
+use Rattle.silence.proofs.Laws.{below-quiet, left-resends, none-left-expires, one-expiry, many-limits}
 use Rattle.silence.specs.declared.Settings.{Settings}
 use Rattle.silence.specs.declared.Event.{Event}
 use Rattle.silence.specs.declared.Event.the-variants.{Quiet, Resend, NoneLeft}
@@ -53,18 +53,18 @@ module _ (silence elapsed made : ℕ) (settings : Settings) where
     await-repeats a = wait-again (Await a) (Closed (a .blocks))
 
   module _ (limit : settings .limit ≤ silence + elapsed) (none : settings .resends ≤ made) where
-    wait-ends : (phase : Phase) (again : Answer) → receiverSilenceOf phase again (grownOf silence elapsed made settings) ≡ tick Idle 0 made Passed
+    silence-idle : (phase : Phase) (again : Answer) → receiverSilenceOf phase again (grownOf silence elapsed made settings) ≡ tick Idle 0 made Passed
     unfolding receiverSilenceOf receiverOnEvent
-    wait-ends phase again = rw (none-left-ends silence elapsed made settings limit none)
+    silence-idle phase again = rw (none-left-expires silence elapsed made settings limit none)
 
     -- With none left: Idle.
-    pub transfer-ends : (p : Progress) → then (Transfer p) ≡ tick Idle 0 made Passed
+    pub transfer-idle : (p : Progress) → then (Transfer p) ≡ tick Idle 0 made Passed
     unfolding receiverTickOf
-    transfer-ends p = wait-ends (Transfer p) _
+    transfer-idle p = silence-idle (Transfer p) _
 
-    pub await-ends : (a : Accepted) → then (Await a) ≡ tick Idle 0 made Passed
+    pub await-idle : (a : Accepted) → then (Await a) ≡ tick Idle 0 made Passed
     unfolding receiverTickOf
-    await-ends a = wait-ends (Await a) _
+    await-idle a = silence-idle (Await a) _
 
   -- In Idle and Good nothing changes.
   pub idle-still : then Idle ≡ tick Idle silence made Passed

@@ -22,7 +22,7 @@ use Rattle.receiver_rules.proofs.Laws.{next}
 -- Await, and a VALIDATE with a good verdict.
 pub record Validated (before : Phase) (request : List ℕ) (verdict : Verdict) (a : Accepted) : Type 0 where
   pub awaited : before ≡ Await a
-  pub asked : message.parsedRequestOf request ≡ Valid Req.Validate
+  pub parsed : message.parsedRequestOf request ≡ Valid Req.Validate
   pub good : verdict ≡ Ver.Good
 
 -- Transfer with at least one block accepted, and the empty block that is due.
@@ -30,7 +30,7 @@ pub record Closes (before : Phase) (request : List ℕ) (a : Accepted) : Type 0 
   pub progress : Progress
   pub transfer : before ≡ Transfer progress
   pub same : a ≡ progress .accepted
-  pub asked : message.parsedRequestOf request ≡ Valid (Req.Data (a .blocks) 0)
+  pub parsed : message.parsedRequestOf request ≡ Valid (Req.Data (a .blocks) 0)
   pub some : 0 < a .blocks
 
 module _ (request : List ℕ) (q : Request) (e : message.parsedRequestOf request ≡ Valid q) (a : Accepted) where
@@ -38,12 +38,12 @@ module _ (request : List ℕ) (q : Request) (e : message.parsedRequestOf request
   from-good Idle verdict h = absurd h
   from-good (Transfer p) verdict h = absurd h
   from-good (Await b) verdict h =
-      inr (record { awaited = ap (λ x. Await x) (sym (h .0)); asked = e ∙ ap (λ x. Valid x) (h .1); good = h .2 })
+      inr (record { awaited = ap (λ x. Await x) (sym (h .0)); parsed = e ∙ ap (λ x. Valid x) (h .1); good = h .2 })
   from-good (Good b) verdict h = inl (ap (λ x. Good x) (sym h))
 
   from-await : (before : Phase) → ToAwait before q a → (before ≡ Await a) ⊎ Closes before request a
   from-await Idle h = absurd h
-  from-await (Transfer p) h = inr (record { progress = p; transfer = refl; same = h .0; asked = e ∙ ap (λ x. Valid x) (h .1); some = h .2 })
+  from-await (Transfer p) h = inr (record { progress = p; transfer = refl; same = h .0; parsed = e ∙ ap (λ x. Valid x) (h .1); some = h .2 })
   from-await (Await b) h = inl (ap (λ x. Await x) (sym h))
   from-await (Good b) h = absurd h
 

@@ -20,7 +20,7 @@ module _ (m : List ℕ) (valid : Request) (capacity : ℕ) (e : message.parsedRe
   put-has : (before then : Phase) (s : Store) → Puts before valid capacity then s → HasBlock s m
   put-has before then Nowhere h = tt
   put-has Idle then (At number) h = absurd h
-  put-has (Transfer p) then (At number) h = request-sized m (Req.Data number (h .size)) (e ∙ ap (λ x. Valid x) (h .asked)) .0
+  put-has (Transfer p) then (At number) h = request-sized m (Req.Data number (h .size)) (e ∙ ap (λ x. Valid x) (h .is-data)) .0
   put-has (Await a) then (At number) h = absurd h
   put-has (Good a) then (At number) h = absurd h
 

@@ -7,7 +7,7 @@ use Rattle.basis.specs.Pick.{when-met}
 use Rattle.wire.specs.declared.request.Request.{Request}
 use Rattle.receiver_state.specs.Answer.{receiverNumberOf}
 use Rattle.receiver_rules.specs.Decide.{receiverDecideOf}
-use Rattle.receiver_rules.proofs.Owes.{keepsAll, keepsPhase, endsIdle, Stays, Row, decide-row}
+use Rattle.receiver_rules.proofs.Owes.{keepsAll, keepsPhase, goesIdle, Stays, Row, decide-row}
 use Rattle.receiver_state.specs.declared.phase.Accepted.{Accepted}
 use Rattle.receiver_state.specs.declared.phase.Phase.{Phase}
 use Rattle.receiver_state.specs.declared.phase.Phase.the-variants.{Idle, Good}
@@ -62,16 +62,16 @@ module _ (r : Receiver) (image request : List ℕ) (readiness : ℕ) (verdict : 
       (k .0, nowhere-keeps (step q .store) image request (k .1)))
 
   -- 23, 24 and 25 end in Idle and keep the image.
-  pub idle-ended : endsIdle number ≡ true → (next .phase ≡ Idle) × (after .image ≡ image)
+  pub idle-ended : goesIdle number ≡ true → (next .phase ≡ Idle) × (after .image ≡ image)
   idle-ended =
       request-walk r image request readiness verdict out
-      (λ e. endsIdle (receiverNumberOf (e .outcome .answer)) ≡ true → (e .outcome .session .phase ≡ Idle) × (e .image ≡ image))
+      (λ e. goesIdle (receiverNumberOf (e .outcome .answer)) ≡ true → (e .outcome .session .phase ≡ Idle) × (e .image ≡ image))
       (λ h. absurd (true≢false (sym h)))
       (λ h. absurd (true≢false (sym h)))
       (λ h. absurd (true≢false (sym h)))
       (λ h. absurd (true≢false (sym h)))
       (λ q _ _ _ h.
-      let k = when-met (endsIdle (receiverNumberOf (step q .answer))) (row q .ends) h in
+      let k = when-met (goesIdle (receiverNumberOf (step q .answer))) (row q .goes-idle) h in
       (k .0, nowhere-keeps (step q .store) image request (k .1)))
 
   -- A well-formed request sets silence and resends to zero.

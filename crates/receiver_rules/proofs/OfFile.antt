@@ -153,7 +153,7 @@ module _ (file : List ℕ) where
 
       from-await : (a : Accepted) → (r .phase ≡ Await a) ⊎ Closes (r .phase) request a → length file ≤ 256 * a .blocks
       from-await a (inl e) = closed-at (r .phase) (Await a) e (h .closed)
-      from-await a (inr c) = empty-closes request (a .blocks) same (c .asked)
+      from-await a (inr c) = empty-closes request (a .blocks) same (c .parsed)
 
       from-good : (a : Accepted) → (r .phase ≡ Good a) ⊎ Validated (r .phase) request verdict a → length file ≤ 256 * a .blocks
       from-good a (inl e) = closed-at (r .phase) (Good a) e (h .closed)
@@ -196,7 +196,7 @@ module _ (file : List ℕ) where
       → drop (length file) image′ ≡ drop (length file) image
   stored-behind r image request image′ then same (inl e) = rw e
   stored-behind r image request image′ then same (inr s) =
-      let size = ap length (same (s .number) (s .size) (s .asked)) in
+      let size = ap length (same (s .number) (s .size) (s .parsed)) in
       let long = block-length file (s .number) in
       let sized = s .sized in
       let some = s .some in

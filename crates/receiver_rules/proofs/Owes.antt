@@ -30,8 +30,8 @@ keepsAll n = eqb n 20 || eqb n 26 || eqb n 27 || eqb n 28
 abbrev pub keepsPhase : ℕ → Bool
 keepsPhase n = eqb n 21 || eqb n 22
 
-abbrev pub endsIdle : ℕ → Bool
-endsIdle n = eqb n 23 || eqb n 24 || eqb n 25
+abbrev pub goesIdle : ℕ → Bool
+goesIdle n = eqb n 23 || eqb n 24 || eqb n 25
 
 -- Good ends only with a new session.
 abbrev pub Stays : Phase → Phase → Type 0
@@ -63,7 +63,7 @@ Enters before q verdict (Good a) = ToGood before q verdict a
 -- The block that a step puts into the image: the one that is due, not empty, not behind a short one, within the capacity; and it is counted.
 pub record Taken (p : Progress) (q : Request) (capacity number : ℕ) (next : Phase) : Type 0 where
   pub size : ℕ
-  pub asked : q ≡ Req.Data number size
+  pub is-data : q ≡ Req.Data number size
   pub due : number ≡ p .accepted .blocks
   pub whole : p .short ≡ false
   pub some : 0 < size
@@ -81,7 +81,7 @@ Puts (Good a) q capacity next (At number) = ⊥
 pub record Row (before : Phase) (q : Request) (capacity : ℕ) (verdict : Verdict) (s : Step) : Type 0 where
   pub heard : keepsAll (receiverNumberOf (s .answer)) ≡ false
   pub keeps : When (keepsPhase (receiverNumberOf (s .answer))) ((s .phase ≡ before) × (s .store ≡ Nowhere))
-  pub ends : When (endsIdle (receiverNumberOf (s .answer))) ((s .phase ≡ Idle) × (s .store ≡ Nowhere))
+  pub goes-idle : When (goesIdle (receiverNumberOf (s .answer))) ((s .phase ≡ Idle) × (s .store ≡ Nowhere))
   pub stays : Stays before (s .phase)
   pub enters : Enters before q verdict (s .phase)
   pub puts : Puts before q capacity (s .phase) (s .store)
@@ -110,11 +110,11 @@ module _ (capacity : ℕ) (verdict : Verdict) where
       record {
         heard = refl;
         keeps = tt;
-        ends = tt;
+        goes-idle = tt;
         stays = tt;
         enters = tt;
         success = tt;
-        puts = record { size = size; asked = refl; due = due; whole = whole; some = some; low = w .0; fits = w .1; counted = refl };
+        puts = record { size = size; is-data = refl; due = due; whole = whole; some = some; low = w .0; fits = w .1; counted = refl };
       }
 
   close-row : (p : Progress) (number : ℕ) → number ≡ p .accepted .blocks → Row (Transfer p) (Req.Data number 0) capacity verdict (closeTransferOf (p .accepted))
@@ -123,7 +123,7 @@ module _ (capacity : ℕ) (verdict : Verdict) where
       pick-all (Row (Transfer p) (Req.Data number 0) capacity verdict) (eqb (p .accepted .blocks) 0) _ _ (λ _. search)
       (λ t.
       let some = eqb-false (p .accepted .blocks) 0 t in
-      record { heard = refl; keeps = tt; ends = tt; stays = tt; enters = (refl, rw due, omega arith); puts = tt; success = tt })
+      record { heard = refl; keeps = tt; goes-idle = tt; stays = tt; enters = (refl, rw due, omega arith); puts = tt; success = tt })
 
   transfer-row : (p : Progress) (number size readiness : ℕ) → Row (Transfer p) (Req.Data number size) capacity verdict (receiverTransferOf p number size capacity readiness)
   unfolding receiverTransferOf

@@ -16,7 +16,7 @@ use Rattle.receiver_state.specs.declared.phase.Phase.the-variants.{Idle, Transf
 use Rattle.receiver_state.specs.declared.verdict.Verdict.{Verdict}
 use Rattle.receiver_rules.specs.Request.{receiverRequestOf}
 use Rattle.receiver_rules.specs.Time.{receiverTimeOf}
-use Rattle.receiver_rules.specs.History.{blockAnswered, acceptsBlock, forgets, Asked, takenBy, takenAfter, Reached, starts, asks, passes}
+use Rattle.receiver_rules.specs.History.{blockAnswered, acceptsBlock, forgets, RequestCall, takenBy, takenAfter, Reached, starts, asks, passes}
 use Rattle.receiver_state.specs.declared.session.Receiver.{Receiver}
 use Rattle.receiver_rules.proofs.Walk.{request-walk}
 use Rattle.receiver_rules.proofs.Laws.{settings-stay}
@@ -57,7 +57,7 @@ abbrev Holds : Receiver → List ℕ → List (List ℕ) → Type 0
 Holds r image taken = Held (r .capacity) image taken (r .phase)
 
 -- A request that is refused and leaves the phase as it was.
-abbrev pub refusedAs : Receiver → List ℕ → ℕ → Asked
+abbrev pub refusedAs : Receiver → List ℕ → ℕ → RequestCall
 refusedAs r request answered = record {
   before = r .phase;
   message = message.parsedRequestOf request;

@@ -30,5 +30,5 @@ module _ (before : Phase) (request image₀ image : List ℕ) (r : Receiver) (ta
   pub repeated-22 : (readiness : ℕ) (verdict : Verdict) (out : List ℕ) → length image ≡ r .capacity → 260 ≤ length out → outOfRange readiness verdict ≡ false
       → receiverRequestOf r image request readiness verdict out ≡ requestDone r (goesTo (r .phase) (NotDue (taken .number + 1))) image request out
   repeated-22 readiness verdict out lent room range =
-      answers-step r image request readiness verdict out lent room (Req.Data (taken .number) (taken .size)) range (taken .asked)
+      answers-step r image request readiness verdict out lent room (Req.Data (taken .number) (taken .size)) range (taken .parsed)
       ∙ ap (λ s. requestDone r s image request out) (counted-22 (taken .number) (taken .size) (r .capacity) readiness verdict (r .phase) _ _ (taken .counted))

@@ -33,7 +33,7 @@ pub record Stored (before : Phase) (capacity : ℕ) (request image image′ : Li
   pub transfer : before ≡ Transfer p
   pub number : ℕ
   pub size : ℕ
-  pub asked : message.parsedRequestOf request ≡ Valid (Req.Data number size)
+  pub parsed : message.parsedRequestOf request ≡ Valid (Req.Data number size)
   pub sized : length (drop 4 request) ≡ size
   pub due : number ≡ p .accepted .blocks
   pub whole : p .short ≡ false
@@ -51,8 +51,8 @@ module _ (image request : List ℕ) (capacity : ℕ) (room : length image ≡ ca
       → Stored (Transfer p) capacity request image (imageAfter (At number) image request) then
   unfolding imageAfter
   taken-stored p q number then e t =
-      let asked : message.parsedRequestOf request ≡ Valid (Req.Data number (t .size)) = e ∙ ap (λ x. Valid x) (t .asked) in
-      let size = request-sized request (Req.Data number (t .size)) asked in
+      let parsed : message.parsedRequestOf request ≡ Valid (Req.Data number (t .size)) = e ∙ ap (λ x. Valid x) (t .is-data) in
+      let size = request-sized request (Req.Data number (t .size)) parsed in
       let fits = t .fits in
       let at : 256 * number ≤ length image = omega arith in
       let put = ap (λ x. x .memory) (put-fits image (256 * number) (drop 4 request) (omega arith)) in
@@ -62,7 +62,7 @@ module _ (image request : List ℕ) (capacity : ℕ) (room : length image ≡ ca
         transfer = refl;
         number = number;
         size = t .size;
-        asked = asked;
+        parsed = parsed;
         sized = size .1;
         due = t .due;
         whole = t .whole;

@@ -4,7 +4,7 @@ use mathlib.Core.Bool.{true, true≢false}
 use mathlib.Core.Path.{_≡_, refl, sym, ap, _∙_}
 use mathlib.Core.List.{List}
 use lib.ListN.{take}
-use Rattle.basis.specs.Pick.{pick}
+use Rattle.basis.specs.Pick.{pick, differ}
 use Rattle.wire.specs.Header.{headed}
 use Rattle.wire.specs.Response.{identifiedIn, initiatedIn, receiptIn, validatedIn, responseOfType, parsedResponseOf}
 use Rattle.wire.specs.Written.{responseBytes, identifiedBytes, initiatedBytes, receiptBytes, validatedBytes}
@@ -47,7 +47,7 @@ Truthful phase m = Succeeds (parsedResponseOf m) → IsGood phase
 
 module _ (r : Receiver) (phase : Phase) where
   bytes-truthful : (answer : Answer) → GoodIfSuccess answer phase → Truthful phase (receiverBytesOf r answer)
-  unfolding replyBytes replyOf getFwIdReply initiateReply dataReply validateReply responseBytes identifiedBytes initiatedBytes receiptBytes validatedBytes parsedResponseOf headed responseOfType identifiedIn initiatedIn receiptIn validatedIn pick
+  unfolding replyBytes replyOf getFwIdReply initiateReply dataReply validateReply responseBytes identifiedBytes initiatedBytes receiptBytes validatedBytes parsedResponseOf headed responseOfType identifiedIn initiatedIn receiptIn validatedIn pick differ
   bytes-truthful Identified h e = absurd e
   bytes-truthful (Offered wait) h e = absurd e
   bytes-truthful (Asking wait number) h e = absurd e

@@ -50,7 +50,7 @@ forgets (Good a) taken = taken
 
 -- One request call: the phase before it, what a reader finds in the request, the request from its fifth byte on, the number that was answered,
 -- and the phase after it.
-pub record Asked : Type 0 where
+pub record RequestCall : Type 0 where
   pub before : Phase
   pub message : Parsed
   pub block : List ℕ
@@ -58,7 +58,7 @@ pub record Asked : Type 0 where
   pub after : Phase
 
 -- The accepted blocks after a request call, the newest first; `taken` are those before it.
-abbrev pub takenBy : Asked → List (List ℕ) → List (List ℕ)
+abbrev pub takenBy : RequestCall → List (List ℕ) → List (List ℕ)
 takenBy call taken = forgets (call .after) (pick (acceptsBlock (call .before) (call .message) (call .answered)) (call .block ∷ taken) taken)
 
 abbrev pub takenAfter : Receiver → List ℕ → Outcome → List (List ℕ) → List (List ℕ)

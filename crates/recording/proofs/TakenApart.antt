@@ -82,24 +82,24 @@ one-way rs rs′ rest rest′ b b′ e =
 pub record Rebuilt (s : List ℕ) (a : Apart) : Type 0 where
   pub rest : List ℕ
   pub whole : s ≡ writtenOf (a .records) ++ rest
-  pub ends : nextRecordOf rest 0 ≡ Ended (a .ending)
+  pub ended : nextRecordOf rest 0 ≡ Ended (a .ending)
 
 -- The first record has been read, and the rest is rebuilt.
 again : (bytes : ℕ) → ((t : List ℕ) → length t ≤ bytes → Bytes t → Rebuilt t (apartOf t))
     → (s : List ℕ) → length s ≤ suc bytes → Bytes s → (x : Read) → nextRecordOf s 0 ≡ x → Past s 0 x → Consumes s 0 x → Rebuilt s (onward apartOf s x)
-again bytes ih s h b (Ended ending) e past eats = record { rest = s; whole = refl; ends = e }
+again bytes ih s h b (Ended ending) e past eats = record { rest = s; whole = refl; ended = e }
 again bytes ih s h b (Found r next) e past eats =
     let t = ih (drop next s) (simp length-drop (omega (arith, past))) (λ i. rw (getD-drop next s i 0) (b (next + i))) in
     record {
       rest = t .rest;
       whole = eats ∙ ap (λ (l : List ℕ). recordBytesOf r ++ l) (t .whole) ∙ sym (append-assoc (recordBytesOf r) (writtenOf (apartOf (drop next s) .records)) (t .rest));
-      ends = t .ends;
+      ended = t .ended;
     }
 
 rebuild : (bytes : ℕ) (s : List ℕ) → length s ≤ bytes → Bytes s → Rebuilt s (apartOf s)
 rebuild zero s h b =
     let e = nothing-there s 0 h in
-    subst (Rebuilt s) (sym (apart-step s ∙ ap (onward apartOf s) e)) (record { rest = s; whole = refl; ends = e })
+    subst (Rebuilt s) (sym (apart-step s ∙ ap (onward apartOf s) e)) (record { rest = s; whole = refl; ended = e })
 rebuild (suc bytes) s h b = subst (Rebuilt s) (sym (apart-step s)) (again bytes (rebuild bytes) s h b (nextRecordOf s 0) refl (next-past s 0) (consumed s 0 b))
 
 pub rebuilt : (s : List ℕ) → Bytes s → Rebuilt s (apartOf s)

@@ -43,8 +43,8 @@ module _ (before : List ℕ) (from to : ℕ) (low : from ≤ to) (high : to ≤ 
         bound = omega arith;
       }
 
-  pub front-ends : (buffer : List ℕ) (i : ℕ) → Front before from to buffer i → to - from ≤ i → buffer ≡ writtenInto (take (to - from) (drop from before)) before
-  front-ends buffer i f h =
+  pub front-done : (buffer : List ℕ) (i : ℕ) → Front before from to buffer i → to - from ≤ i → buffer ≡ writtenInto (take (to - from) (drop from before)) before
+  front-done buffer i f h =
       let s = drop from before in
       let long : length s ≡ length before - from = length-drop from before in
       let all : i ≡ to - from = omega (arith, f .bound) in

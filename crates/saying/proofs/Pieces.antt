@@ -4,8 +4,8 @@ use mathlib.Core.Bool.{Bool, true, false}
 use mathlib.Core.List.{List}
 use mathlib.Core.Path.{_≡_, refl, sym, _∙_, ap}
 use native.Mathlib.Omega.{arith}
-use borrow.Author.Tests.{leb-true}
-use lib.Dec.{leb}
+use borrow.Author.Tests.{ltb-false}
+use lib.Dec.{ltb}
 use lib.ListN.{length}
 use Rattle.basis.specs.Pick.{pick}
 use Rattle.basis.specs.Left.{Left, left}
@@ -15,30 +15,30 @@ use Rattle.lent.specs.declared.Placed.the-variants.{Stored, NoRoom}
 use Rattle.saying.specs.Said.{said, appendedOf}
 use Rattle.saying.specs.declared.said.Said.{Said}
 
-differ : Stored ≡ NoRoom → ⊥
-differ h = let z : _≡_ {A = ℕ} 0 1 = cc in omega arith
+stored-apart : Stored ≡ NoRoom → ⊥
+stored-apart h = let z : _≡_ {A = ℕ} 0 1 = cc in omega arith
 
 module _ (d : List ℕ) (at : ℕ) (s : List ℕ) where
   abbrev put : Bool → Left Placed
-  put room = pick room (left Stored (pasted d at s)) (left NoRoom d)
+  put passes = pick passes (left NoRoom d) (left Stored (pasted d at s))
 
   abbrev text : Bool → Said
-  text room = pick room (said (at + length s) (pasted d at s)) (said at d)
+  text passes = pick passes (said at d) (said (at + length s) (pasted d at s))
 
-  has-room : (room : Bool) → put room .answer ≡ Stored → room ≡ true
+  has-room : (passes : Bool) → put passes .answer ≡ Stored → passes ≡ false
   unfolding pick
-  has-room true e = refl
-  has-room false e = absurd (differ (sym e))
+  has-room true e = absurd (stored-apart (sym e))
+  has-room false e = refl
 
-  added : (room : Bool) → put room .answer ≡ Stored → said (at + length s) (put room .memory) ≡ text room
+  added : (passes : Bool) → put passes .answer ≡ Stored → said (at + length s) (put passes .memory) ≡ text passes
   unfolding pick
-  added true e = refl
-  added false e = absurd (differ (sym e))
+  added true e = absurd (stored-apart (sym e))
+  added false e = refl
 
-  kept : (room : Bool) → put room .answer ≡ NoRoom → said at (put room .memory) ≡ text room
+  kept : (passes : Bool) → put passes .answer ≡ NoRoom → said at (put passes .memory) ≡ text passes
   unfolding pick
-  kept true e = absurd (differ e)
-  kept false e = refl
+  kept true e = refl
+  kept false e = absurd (stored-apart e)
 
   module _ (x : Left Placed) (is : x ≡ putOf d at s) where
     answer : x .answer ≡ putOf d at s .answer
@@ -49,12 +49,12 @@ module _ (d : List ℕ) (at : ℕ) (s : List ℕ) where
 
     pub stored-fits : x .answer ≡ Stored → at + length s ≤ length d
     unfolding putOf
-    stored-fits e = leb-true (at + length s) (length d) (has-room (leb (at + length s) (length d)) (sym answer ∙ e))
+    stored-fits e = ltb-false (length d) (at + length s) (has-room (ltb (length d) (at + length s)) (sym answer ∙ e))
 
     pub text-added : x .answer ≡ Stored → said (at + length s) (x .memory) ≡ appendedOf (said at d) s
     unfolding putOf appendedOf
-    text-added e = ap (said (at + length s)) memory ∙ added (leb (at + length s) (length d)) (sym answer ∙ e)
+    text-added e = ap (said (at + length s)) memory ∙ added (ltb (length d) (at + length s)) (sym answer ∙ e)
 
     pub text-kept : x .answer ≡ NoRoom → said at (x .memory) ≡ appendedOf (said at d) s
     unfolding putOf appendedOf
-    text-kept e = ap (said at) memory ∙ kept (leb (at + length s) (length d)) (sym answer ∙ e)
+    text-kept e = ap (said at) memory ∙ kept (ltb (length d) (at + length s)) (sym answer ∙ e)

@@ -3,11 +3,11 @@ use Prim.Native.Nat.{ℕ, zero, suc, _+_, _/_, _%_, _^_, _<_, _≤_}
 use mathlib.Core.List.{List, [], _∷_, _++_}
 use mathlib.Core.Path.{_≡_, refl, subst, sym, _∙_, ap}
 use native.Mathlib.Omega.{arith}
-use borrow.Author.Tests.{le-leb, ne-eqb, eqb-true, eqb-false}
-use lib.Dec.{eqb, leb}
+use borrow.Author.Tests.{le-ltb, ne-eqb, eqb-true, eqb-false}
+use lib.Dec.{eqb, ltb}
 use lib.ListN.{length}
 use Rattle.basis.specs.Bytes.{byteAt}
-use Rattle.basis.specs.Pick.{pick, pick-yes, pick-no, pick-all}
+use Rattle.basis.specs.Pick.{pick, pick-no, pick-all}
 use Rattle.lent.proofs.Laws.{pasted-there}
 use Rattle.lent.specs.Put.{pasted}
 use Rattle.printing.specs.Digits.{figure, digitsBehind, numberIn}
@@ -20,7 +20,7 @@ use Rattle.saying.proofs.Decimals.{less-left, digits-all}
 pub text-behind : (t : Said) (s : List ℕ) → t .len + length s ≤ length (t .bytes) → saidTextOf (appendedOf t s) ≡ saidTextOf t ++ s
 unfolding appendedOf
 text-behind t s room =
-    ap saidTextOf (pick-yes (leb (t .len + length s) (length (t .bytes))) (said (t .len + length s) (pasted (t .bytes) (t .len) s)) t (le-leb (t .len + length s) (length (t .bytes)) room))
+    ap saidTextOf (pick-no (ltb (length (t .bytes)) (t .len + length s)) t (said (t .len + length s) (pasted (t .bytes) (t .len) s)) (le-ltb (length (t .bytes)) (t .len + length s) room))
     ∙ pasted-there (t .bytes) (t .len) s (omega arith)
 
 last-read : (n : ℕ) (cs : List ℕ) → digitsBehind 10 (n / 10) (figure (n % 10) ∷ cs) ≡ digitsBehind 10 n cs

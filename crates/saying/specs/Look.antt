@@ -5,7 +5,7 @@ use mathlib.Core.List.{List}
 use lib.Dec.{leb}
 use lib.ListN.{length, take, drop}
 use Rattle.basis.specs.Pick.{pick}
-use Rattle.script.specs.Fields.{fieldsBegun, nextFieldOf, fieldsEndOf}
+use Rattle.script.specs.Fields.{fieldsBegun, nextFieldOf, isLastField}
 use Rattle.script.specs.Spelling.{spelledRoom}
 use Rattle.script.specs.declared.field.Field.{Field}
 use Rattle.saying.specs.Said.{emptyText, notUnderstood}
@@ -24,7 +24,7 @@ lookFromOf words memory = drop (lookPlaceOf words memory .value) memory
 -- Whether the line has these two numbers alone, and the memory has that many bytes from the place on.
 unfoldable pub lookFitsOf : List ℕ → List ℕ → Bool
 lookFitsOf words memory =
-    pick (fieldsEndOf (lookCountOf words memory) words)
+    pick (isLastField (lookCountOf words memory) words)
     (leb (lookCountOf words memory .value) (length (lookFromOf words memory)))
     false
 

@@ -1,7 +1,7 @@
 -- A text that is put together piece by piece.
 use Prim.Native.Nat.{ℕ, _+_}
 use mathlib.Core.List.{List, [], _∷_, foldl}
-use lib.Dec.{eqb, leb}
+use lib.Dec.{eqb, ltb}
 use lib.ListN.{length, take, replicate}
 use Rattle.basis.specs.Pick.{pick}
 use Rattle.lent.specs.Put.{pasted}
@@ -24,8 +24,8 @@ emptyText = said 0 (replicate saidRoom 0)
 -- A piece that has no room is left out.
 unfoldable pub appendedOf : Said → List ℕ → Said
 appendedOf t s =
-    pick (leb (t .len + length s) (length (t .bytes))) (said (t .len + length s) (pasted (t .bytes) (t .len) s))
-    t
+    pick (ltb (length (t .bytes)) (t .len + length s)) t
+    (said (t .len + length s) (pasted (t .bytes) (t .len) s))
 
 abbrev pub hyphen : ℕ
 hyphen = 0x2D

@@ -10,7 +10,7 @@ pub fn look(words: &[u8], memory: &[u8]) -> Said
 {
     let place = Field::none().next(words, memory.len());
     let count = place.next(words, script::ROOM);
-    if !count.ends(words) {
+    if !count.is_last(words) {
         return Said::not_understood();
     }
     let behind = script::from(memory, place.value);

@@ -43,9 +43,9 @@ module _ (words bytes : List ℕ) (len at : ℕ) (mid : Mid words bytes len at) 
       let len-is = mid .is-len in
       rw (mid .is-bytes) (simp (length-append, length-drop) (omega arith))
 
-  pub mid-ends : length words ≤ at → _≡_ {A = Spelled} (record { known = true; len = len; bytes = bytes }) (spellOf words)
+  pub mid-done : length words ≤ at → _≡_ {A = Spelled} (record { known = true; len = len; bytes = bytes }) (spellOf words)
   unfolding spelledIn
-  mid-ends h =
+  mid-done h =
       let none : length (drop at words) ≡ 0 = simp length-drop (omega arith) in
       rw (mid .is-bytes, mid .is-len) (sym (behind-end (drop at words) (mid .read) none) ∙ mid .run)
 

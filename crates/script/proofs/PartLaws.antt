@@ -13,8 +13,8 @@ pub from-behind : (s : List ℕ) (at : ℕ) → length s < at → take (length s
 from-behind s at h = rw (tail-all (length s) s, drop-of-length-le s (le-refl (length s)), drop-of-length-le s {i = at} (omega arith))
 
 -- What is lent of a memory is at most all of it: `&memory[..n]` asks for this.
-pub part-counts : (n asked : ℕ) (memory : List ℕ) → n ≡ min asked (length memory) → n ≡ length (take n memory)
-part-counts n asked memory e = sym (length-take-le n memory (omega arith))
+pub part-counts : (n wanted : ℕ) (memory : List ℕ) → n ≡ min wanted (length memory) → n ≡ length (take n memory)
+part-counts n wanted memory e = sym (length-take-le n memory (omega arith))
 
 pub upto-all : (s : List ℕ) (n : ℕ) → length s < n → s ≡ take n s
 upto-all s n h = sym (take-all n s (omega arith))

@@ -6,7 +6,7 @@ use mathlib.Core.Path.{_≡_}
 use lib.ListN.{drop, take, length}
 use Rattle.basis.specs.Only.{only}
 use Rattle.script.specs.Decimal.{decimalReadOf}
-use Rattle.script.specs.Fields.{fieldsBegun, nextFieldOf, fieldByteOf, fieldWordOf, fieldsEndOf}
+use Rattle.script.specs.Fields.{fieldsBegun, nextFieldOf, fieldByteOf, fieldWordOf, isLastField}
 use Rattle.script.specs.Heading.{asksOf}
 use Rattle.script.specs.Spelling.{spellOf}
 use Rattle.script.specs.Words.{firstWordOf, afterFirstWordOf}
@@ -38,11 +38,11 @@ pub one-word : (self : Field) (r r′ : ℕ)
     → r ≡ r′
 one-word self r r′ is is′ = only is is′
 
-pub one-ends : (self : Field) (words : List ℕ) (r r′ : Bool)
-    → r ≡ fieldsEndOf self words
-    → r′ ≡ fieldsEndOf self words
+pub one-is-last : (self : Field) (words : List ℕ) (r r′ : Bool)
+    → r ≡ isLastField self words
+    → r′ ≡ isLastField self words
     → r ≡ r′
-one-ends self words r r′ is is′ = only is is′
+one-is-last self words r r′ is is′ = only is is′
 
 pub one-asks : (line : List ℕ) (r r′ : Bool)
     → r ≡ asksOf line
@@ -68,11 +68,11 @@ pub one-upto : (s : List ℕ) (n : ℕ) (r r′ : List ℕ)
     → r ≡ r′
 one-upto s n r r′ is is′ = only is is′
 
-pub one-part-of : (memory : List ℕ) (asked r r′ : ℕ)
-    → r ≡ min asked (length memory)
-    → r′ ≡ min asked (length memory)
+pub one-part-of : (memory : List ℕ) (wanted r r′ : ℕ)
+    → r ≡ min wanted (length memory)
+    → r′ ≡ min wanted (length memory)
     → r ≡ r′
-one-part-of memory asked r r′ is is′ = only is is′
+one-part-of memory wanted r r′ is is′ = only is is′
 
 pub one-spell : (words : List ℕ) (r r′ : Spelled)
     → r ≡ spellOf words

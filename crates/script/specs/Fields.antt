@@ -30,10 +30,10 @@ nextFieldOf f words most =
     pick (leb (length words) (f .end)) (numberField false 0 (f .end))
     (fieldBehind f (scriptWordAt words (f .end)) (decimalReadOf (scriptWordAt words (f .end)) most))
 
-unfoldable pub fieldsEndOf : Field → List ℕ → Bool
-fieldsEndOf f words = bothKnown (f .known) (eqb (f .end) (length words))
+unfoldable pub isLastField : Field → List ℕ → Bool
+isLastField f words = bothKnown (f .known) (eqb (f .end) (length words))
 
--- The value of a number that was asked for with at most 8 bits, and with at most 16.
+-- The value of a number that was read with at most 8 bits, and with at most 16.
 abbrev pub fieldByteOf : Field → ℕ
 fieldByteOf f = f .value % 256
 

@@ -4,7 +4,7 @@ use crate::words::word_at;
 ghost use mathlib.Core.Path.{_≡_};
 ghost use mathlib.Core.Bool.{false};
 ghost use Rattle.basis.specs.Pick.{pick};
-ghost use Rattle.script.specs.Fields.{fieldsBegun, nextFieldOf, fieldsEndOf, fieldByteOf, fieldWordOf};
+ghost use Rattle.script.specs.Fields.{fieldsBegun, nextFieldOf, isLastField, fieldByteOf, fieldWordOf};
 
 // A word's number, where the word ends, and whether this word and all before it are numbers.
 pub struct Field {
@@ -46,14 +46,14 @@ impl Field {
         }
     }
 
-    // The value of a number that was asked for with at most 8 bits.
+    // The value of a number that was read with at most 8 bits.
     pub fn byte(self) -> u8
         ensures { λ r. ⌜ r ≡ fieldByteOf self ⌝ }
     {
         (self.value % 256) as u8
     }
 
-    // The value of a number that was asked for with at most 16 bits.
+    // The value of a number that was read with at most 16 bits.
     pub fn word(self) -> u16
         ensures { λ r. ⌜ r ≡ fieldWordOf self ⌝ }
     {
@@ -61,8 +61,8 @@ impl Field {
     }
 
     // Whether this is the line's last word, and all its words are numbers.
-    pub fn ends(self, words: &[u8]) -> bool
-        ensures { λ r. ⌜ r ≡ fieldsEndOf self (now (words .entry)) ⌝ }
+    pub fn is_last(self, words: &[u8]) -> bool
+        ensures { λ r. ⌜ r ≡ isLastField self (now (words .entry)) ⌝ }
     {
         both(self.known, self.end == words.len())
     }

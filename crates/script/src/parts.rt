@@ -1,4 +1,4 @@
-// Parts of a slice, whatever place and count are asked for: what is not there is left out.
+// Parts of a slice, whatever place and count are wanted: what is not there is left out.
 ghost use mathlib.Core.Path.{_≡_};
 ghost use Prim.Native.Nat.{min};
 ghost use lib.ListN.{length, take, drop};
@@ -22,12 +22,12 @@ pub fn upto(s: &[u8], n: usize) -> &[u8]
     &s[..n]
 }
 
-// How much of a memory a call borrows: as much as was asked for, at most all of it.
-pub fn part_of(memory: &[u8], asked: usize) -> usize
-    ensures { λ r. ⌜ r ≡ min asked (length (now (memory .entry))) ⌝ }
+// How much of a memory a call borrows: as much as is wanted, at most all of it.
+pub fn part_of(memory: &[u8], wanted: usize) -> usize
+    ensures { λ r. ⌜ r ≡ min wanted (length (now (memory .entry))) ⌝ }
 {
-    if asked < memory.len() {
-        return asked;
+    if wanted < memory.len() {
+        return wanted;
     }
     memory.len()
 }

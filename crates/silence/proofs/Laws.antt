@@ -14,7 +14,7 @@ use Rattle.silence.specs.declared.Checked.the-variants.{Made, Refused}
 use Rattle.silence.specs.declared.Grown.{Grown}
 use Rattle.silence.specs.declared.Event.the-variants.{Quiet, Resend, NoneLeft}
 
--- Settings within the limits are made as they were asked for; settings outside these: 29.
+-- Settings within the limits are made as they were given; settings outside these: 29.
 pub within-made : (limit resends : ℕ) → Within limit resends → settingsOf limit resends ≡ Made (record { limit = limit; resends = resends })
 unfolding settingsOf pick
 within-made limit resends h =
@@ -77,8 +77,8 @@ module _ (silence elapsed made : ℕ) (settings : Settings) where
   pub left-resends : settings .limit ≤ silence + elapsed → made < settings .resends → after ≡ grown 0 (made + 1) Resend
   left-resends = grown-all (λ g. settings .limit ≤ silence + elapsed → made < settings .resends → g ≡ grown 0 (made + 1) Resend) (λ t h _. absurd (omega arith)) (λ _ _ _ _. refl) (λ _ g _ h. absurd (omega arith))
 
-  pub none-left-ends : settings .limit ≤ silence + elapsed → settings .resends ≤ made → after ≡ grown 0 made NoneLeft
-  none-left-ends = grown-all (λ g. settings .limit ≤ silence + elapsed → settings .resends ≤ made → g ≡ grown 0 made NoneLeft) (λ t h _. absurd (omega arith)) (λ _ t _ h. absurd (omega arith)) (λ _ _ _ _. refl)
+  pub none-left-expires : settings .limit ≤ silence + elapsed → settings .resends ≤ made → after ≡ grown 0 made NoneLeft
+  none-left-expires = grown-all (λ g. settings .limit ≤ silence + elapsed → settings .resends ≤ made → g ≡ grown 0 made NoneLeft) (λ t h _. absurd (omega arith)) (λ _ t _ h. absurd (omega arith)) (λ _ _ _ _. refl)
 
   -- An expiry sets silence to zero.
   pub expiry-zero : (after .event ≡ Quiet → ⊥) → after .silence ≡ 0

@@ -76,7 +76,7 @@ fn spelled(
 // The next whole blocks, as many as the line says. Only the last one's answer is printed.
 fn blocks(words: &[u8], receiver: Receiver, image: &mut [u8], buffer: &mut [u8]) -> Called {
     let count = Field::none().next(words, 9999);
-    if !count.ends(words) {
+    if !count.is_last(words) {
         return Called::NotUnderstood;
     }
     if count.value == 0 {
@@ -109,7 +109,7 @@ fn block(receiver: Receiver, image: &mut [u8], buffer: &mut [u8]) -> Outcome {
 
 fn time(words: &[u8], receiver: Receiver, buffer: &mut [u8]) -> Called {
     let elapsed = Field::none().next(words, 65535);
-    if !elapsed.ends(words) {
+    if !elapsed.is_last(words) {
         return Called::NotUnderstood;
     }
     Called::Ended(receiver::time(receiver, elapsed.word(), buffer))

@@ -17,7 +17,7 @@ pub(crate) fn answer(words: &[u8], file: &[u8], image: &mut [u8]) -> Said {
     let vendor = length.next(words, 65535);
     let product = vendor.next(words, 65535);
     let version = product.next(words, 65535);
-    if !version.ends(words) {
+    if !version.is_last(words) {
         return Said::not_understood();
     }
     let release = Release {

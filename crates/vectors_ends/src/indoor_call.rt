@@ -39,7 +39,7 @@ fn start(words: &[u8], file: &[u8], buffer: &mut [u8]) -> Called {
     let second = first.next(words, 65535);
     let third = second.next(words, 65535);
     let fourth = third.next(words, 65535);
-    if !fourth.ends(words) {
+    if !fourth.is_last(words) {
         return Called::NotUnderstood;
     }
     let release = Release {
@@ -80,7 +80,7 @@ fn response(words: &[u8], indoor: Indoor, file: &[u8], buffer: &mut [u8]) -> Cal
 fn blocks(words: &[u8], indoor: Indoor, file: &[u8], buffer: &mut [u8]) -> Called {
     let first = Field::none().next(words, 65535);
     let last = first.next(words, 65535);
-    if !last.ends(words) {
+    if !last.is_last(words) {
         return Called::NotUnderstood;
     }
     if last.value < first.value {
@@ -90,15 +90,15 @@ fn blocks(words: &[u8], indoor: Indoor, file: &[u8], buffer: &mut [u8]) -> Calle
 }
 
 fn row(indoor: Indoor, first: u16, last: u16, file: &[u8], buffer: &mut [u8]) -> Outcome {
-    let mut outcome = asked(indoor, first, file, buffer);
+    let mut outcome = ask_for(indoor, first, file, buffer);
     for number in first..last {
         let session = outcome.session;
-        outcome = asked(session, number + 1, file, buffer);
+        outcome = ask_for(session, number + 1, file, buffer);
     }
     outcome
 }
 
-fn asked(indoor: Indoor, number: u16, file: &[u8], buffer: &mut [u8]) -> Outcome {
+fn ask_for(indoor: Indoor, number: u16, file: &[u8], buffer: &mut [u8]) -> Outcome {
     let mut response = [0u8; codes::DATA_RESPONSE_LENGTH];
     response[0] = codes::VERSION;
     response[1] = codes::DATA_RESPONSE;
@@ -109,7 +109,7 @@ fn asked(indoor: Indoor, number: u16, file: &[u8], buffer: &mut [u8]) -> Outcome
 
 fn time(words: &[u8], indoor: Indoor, file: &[u8], buffer: &mut [u8]) -> Called {
     let elapsed = Field::none().next(words, 65535);
-    if !elapsed.ends(words) {
+    if !elapsed.is_last(words) {
         return Called::NotUnderstood;
     }
     Called::Ended(indoor::time(indoor, file, elapsed.word(), buffer))

@@ -25,8 +25,8 @@ pub(crate) fn start_text(started: Started, buffer: &[u8]) -> Said {
 fn left(said: Said, session: Indoor, written: usize, buffer: &[u8]) -> Said {
     let state = session.state;
     let phase = state.phase;
-    let asked = request(said.text(b" :"), script::upto(buffer, written));
-    indoor_phase::add(asked.text(b" :"), phase)
+    let with_request = request(said.text(b" :"), script::upto(buffer, written));
+    indoor_phase::add(with_request.text(b" :"), phase)
         .text(b" :")
         .number(state.silence as u64)
         .number(state.resends as u64)

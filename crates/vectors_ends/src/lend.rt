@@ -12,7 +12,7 @@ pub(crate) enum Lending {
 pub(crate) fn lent_of(words: &[u8]) -> Lending {
     let memory = Field::none().next(words, bench::MEMORY);
     let buffer = memory.next(words, bench::BUFFER);
-    if !buffer.ends(words) {
+    if !buffer.is_last(words) {
         return Lending::Other;
     }
     Lending::Of(Lent {

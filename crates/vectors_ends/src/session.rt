@@ -59,7 +59,7 @@ fn start(words: &[u8], outdoors: Outdoors) -> Outdoors {
     let limit = Field::none().next(words, 65535);
     let resends = limit.next(words, 255);
     let capacity = resends.next(words, 9999999);
-    if !capacity.ends(words) {
+    if !capacity.is_last(words) {
         return outdoors.says(Said::not_understood());
     }
     let session = receiver::start(limit.word(), resends.byte(), identity(), capacity.value);

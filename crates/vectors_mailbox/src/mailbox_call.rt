@@ -48,7 +48,7 @@ fn failure(words: &[u8], held: Held) -> Held {
 fn change(words: &[u8], held: Held) -> Held {
     let connector = Field::none().next(words, 255);
     let reason = connector.next(words, 65535);
-    if !reason.ends(words) {
+    if !reason.is_last(words) {
         return held.says(Said::not_understood());
     }
     let mailbox = held.mailbox;

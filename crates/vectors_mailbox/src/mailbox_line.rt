@@ -22,7 +22,7 @@ pub(crate) fn run(words: &[u8], held: Held) -> Held {
 // The mailbox before it ends, also where the new one is refused (29): then there is none.
 fn new(words: &[u8], held: Held) -> Held {
     let count = Field::none().next(words, 255);
-    if !count.ends(words) {
+    if !count.is_last(words) {
         return held.says(Said::not_understood());
     }
     let fresh = mailbox::fresh(count.byte());

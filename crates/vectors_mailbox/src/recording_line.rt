@@ -14,7 +14,7 @@ const OUTPUT: usize = 4000;
 const PLACE_MOST: usize = 1048576;
 
 // The record at a place is read, or all are played.
-enum Asked {
+enum Query {
     Record { at: usize },
     Replay,
 }
@@ -23,17 +23,17 @@ enum Asked {
 pub(crate) fn record(words: &[u8]) -> Said {
     let place = Field::none().next(words, PLACE_MOST);
     let room = place.next(words, script::ROOM);
-    spelled(Asked::Record { at: place.value }, words, room)
+    spelled(Query::Record { at: place.value }, words, room)
 }
 
 // The room for the lines that are printed.
 pub(crate) fn replay(words: &[u8]) -> Said {
     let room = Field::none().next(words, OUTPUT);
-    spelled(Asked::Replay, words, room)
+    spelled(Query::Replay, words, room)
 }
 
 // The bytes come after the room, which is the last of the numbers.
-fn spelled(asked: Asked, words: &[u8], room: Field) -> Said {
+fn spelled(query: Query, words: &[u8], room: Field) -> Said {
     if !room.known {
         return Said::not_understood();
     }
@@ -42,14 +42,14 @@ fn spelled(asked: Asked, words: &[u8], room: Field) -> Said {
         return Said::not_understood();
     }
     let bytes = spelled.bytes;
-    shown(asked, script::upto(&bytes, spelled.len), room.value)
+    shown(query, script::upto(&bytes, spelled.len), room.value)
 }
 
-fn shown(asked: Asked, recording: &[u8], room: usize) -> Said {
+fn shown(query: Query, recording: &[u8], room: usize) -> Said {
     let mut output = [UNWRITTEN; OUTPUT];
     let lent = script::part_of(&output, room);
-    match asked {
-        Asked::Record { at } => record::show(recording, at, &mut output[..lent]),
-        Asked::Replay => played::show(recording, &mut output[..lent]),
+    match query {
+        Query::Record { at } => record::show(recording, at, &mut output[..lent]),
+        Query::Replay => played::show(recording, &mut output[..lent]),
     }
 }

@@ -6,7 +6,7 @@ use mathlib.Core.Path.{_≡_, refl}
 use mathlib.Core.List.{List, _++_}
 use native.Mathlib.Omega.{arith}
 use lib.ListN.{length}
-use Rattle.basis.specs.Pick.{pick}
+use Rattle.basis.specs.Pick.{pick, differ}
 use Rattle.wire.specs.Header.{headed}
 use Rattle.wire.specs.Identity.{cleared}
 use Rattle.wire.specs.Request as request
@@ -16,19 +16,19 @@ use Rattle.wire.specs.Fields.{Words, BuiltRequest, BuiltResponse, Sendab
 use Rattle.wire.specs.declared.request.Versions.{Versions}
 use Rattle.wire.specs.declared.request.Request.{Request}
 use Rattle.wire.specs.declared.request.Request.the-variants as Req
-use Rattle.wire.specs.declared.request.Parsed.the-variants as Asked
+use Rattle.wire.specs.declared.request.Parsed.the-variants as ReqPar
 use Rattle.wire.specs.declared.response.Identity.{Identity}
 use Rattle.wire.specs.declared.response.Response.{Response}
 use Rattle.wire.specs.declared.response.Response.the-variants as Res
 use Rattle.wire.specs.declared.response.Parsed.the-variants as ResPar
 use Rattle.wire.proofs.Halves.{word-back, size-back, upper-twice, rest-twice}
 
-initiate-back : (v : Versions) → Words v → request.parsedRequestOf (initiateBytes v) ≡ Asked.Valid (Req.Initiate v)
-unfolding request.parsedRequestOf headed initiateBytes request.requestOfType request.initiateIn pick
+initiate-back : (v : Versions) → Words v → request.parsedRequestOf (initiateBytes v) ≡ ReqPar.Valid (Req.Initiate v)
+unfolding request.parsedRequestOf headed initiateBytes request.requestOfType request.initiateIn pick differ
 initiate-back v w = rw (word-back (v .first) (w .0), word-back (v .second) (w .1), word-back (v .third) (w .2), word-back (v .fourth) (w .3))
 
-data-back : (n : ℕ) (b : List ℕ) → n < 65536 → length b ≤ 256 → request.parsedRequestOf (headBytes n ++ b) ≡ Asked.Valid (Req.Data n (length b))
-unfolding request.parsedRequestOf headed headBytes request.requestOfType request.dataIn pick
+data-back : (n : ℕ) (b : List ℕ) → n < 65536 → length b ≤ 256 → request.parsedRequestOf (headBytes n ++ b) ≡ ReqPar.Valid (Req.Data n (length b))
+unfolding request.parsedRequestOf headed headBytes request.requestOfType request.dataIn pick differ
 data-back n b h k =
     let shortest : 2 ≤ length (headBytes n ++ b) = omega arith in
     let longest : length (headBytes n ++ b) ≤ 260 = omega arith in
@@ -36,8 +36,8 @@ data-back n b h k =
     let rest : length (headBytes n ++ b) - 4 ≡ length b = omega arith in
     simp (le-ltb _ _ shortest, le-ltb _ _ longest, le-ltb _ _ head, rest, word-back n h)
 
-pub request-back : (r : Request) (block : List ℕ) → BuiltRequest r → Sendable r block → request.parsedRequestOf (requestBytes r ++ block) ≡ Asked.Valid r
-unfolding requestBytes bareBytes initiateBytes request.parsedRequestOf headed request.requestOfType request.bareIn pick
+pub request-back : (r : Request) (block : List ℕ) → BuiltRequest r → Sendable r block → request.parsedRequestOf (requestBytes r ++ block) ≡ ReqPar.Valid r
+unfolding requestBytes bareBytes initiateBytes request.parsedRequestOf headed request.requestOfType request.bareIn pick differ
 request-back Req.GetFwId b _ e = rw e
 request-back (Req.Initiate v) b _ h = rw (h .0) (initiate-back v (h .1))
 request-back (Req.Data n size) b _ h = rw (← (h .1)) (data-back n b (h .0) (rw (h .1) (h .2)))
@@ -46,7 +46,7 @@ request-back Req.Abort b _ e = rw e
 request-back Req.NotBuilt b h _ = absurd h
 
 identity-back : (st : ℕ) (i : Identity) → Answerable (Res.GetFwId st i) → response.parsedResponseOf (identifiedBytes st i) ≡ ResPar.Valid (Res.GetFwId st (cleared i))
-unfolding response.parsedResponseOf headed identifiedBytes response.responseOfType response.identifiedIn pick
+unfolding response.parsedResponseOf headed identifiedBytes response.responseOfType response.identifiedIn pick differ
 identity-back st i h =
     let v = i .versions in
     let w = h .2 in
@@ -64,7 +64,7 @@ identity-back st i h =
     )
 
 pub response-back : (r : Response) → BuiltResponse r → Answerable r → response.parsedResponseOf (responseBytes r) ≡ ResPar.Valid (asRead r)
-unfolding responseBytes initiatedBytes receiptBytes validatedBytes response.parsedResponseOf headed response.responseOfType response.initiatedIn response.receiptIn response.validatedIn pick
+unfolding responseBytes initiatedBytes receiptBytes validatedBytes response.parsedResponseOf headed response.responseOfType response.initiatedIn response.receiptIn response.validatedIn pick differ
 response-back (Res.GetFwId st i) _ h = identity-back st i h
 response-back (Res.Initiate st w size) _ h = rw (size-back size h)
 response-back (Res.Data st w n) _ h = rw (word-back n h)

@@ -8,7 +8,7 @@ use Rattle.basis.specs.Table.{tabulate}
 use Rattle.wire.specs.Request as request
 use Rattle.wire.specs.Response as response
 use Rattle.wire.specs.declared.request.Request.the-variants as Req
-use Rattle.wire.specs.declared.request.Parsed.the-variants as Asked
+use Rattle.wire.specs.declared.request.Parsed.the-variants as ReqPar
 use Rattle.wire.specs.declared.response.Response.the-variants as Res
 use Rattle.wire.specs.declared.response.Parsed.the-variants as ResPar
 
@@ -23,21 +23,21 @@ module _ (m : List ℕ) where
       ≡ request.bareIn m Req.GetFwId
       ∷ request.initiateIn m
       ∷ request.dataIn m
-      ∷ Asked.Valid Req.NotBuilt
+      ∷ ReqPar.Valid Req.NotBuilt
       ∷ request.bareIn m Req.Validate
       ∷ request.bareIn m Req.Abort
-      ∷ Asked.Valid Req.NotBuilt
-      ∷ Asked.Valid Req.NotBuilt
+      ∷ ReqPar.Valid Req.NotBuilt
+      ∷ ReqPar.Valid Req.NotBuilt
       ∷ []
   unfolding request.requestOfType pick
   request-types = refl
 
   -- 00h to 7Fh are responses' and 80h is reserved; so are 88h to FEh
-  pub request-types-low : map (request.requestOfType m) (from 0x00 129) ≡ replicate 129 Asked.Malformed
+  pub request-types-low : map (request.requestOfType m) (from 0x00 129) ≡ replicate 129 ReqPar.Malformed
   unfolding request.requestOfType pick
   request-types-low = refl
 
-  pub request-types-high : map (request.requestOfType m) (from 0x88 119) ≡ replicate 119 Asked.Malformed
+  pub request-types-high : map (request.requestOfType m) (from 0x88 119) ≡ replicate 119 ReqPar.Malformed
   unfolding request.requestOfType pick
   request-types-high = refl
 

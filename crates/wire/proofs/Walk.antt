@@ -1,14 +1,14 @@
 -- What holds of every message that a byte string can be read as, from what holds along each way that the reader takes.
 -- Requests and responses are read alike, so it is said once: R is the message, P the reader's answer.
-use borrow.Author.Tests.{ltb-false, eqb-true}
+use borrow.Author.Tests.{ltb-false, eqb-true, not-false}
 use Prim.Native.Nat.{ℕ, _≤_}
-use mathlib.Core.Bool.{Bool, true, false}
+use mathlib.Core.Bool.{Bool, true, false, not}
 use mathlib.Core.Path.{_≡_}
 use mathlib.Core.List.{List}
 use native.Mathlib.Omega.{arith}
 use lib.ListN.{length}
 use lib.Dec.{eqb, ltb}
-use Rattle.basis.specs.Pick.{pick, pick-all}
+use Rattle.basis.specs.Pick.{pick, pick-all, differ, differ-false}
 use Rattle.wire.specs.Header.{headed}
 use Rattle.basis.specs.Bytes.{byteAt}
 
@@ -46,11 +46,11 @@ module _ {R P : Type 0} (k : Reader R P) (Q : R → Type 0) where
   unfolding HoldsOf
   valid-holds q h r e = rw (← (k .inner q r e)) h
 
-  pub of-length : (m : List ℕ) (n : ℕ) (q : R) → (length m ≡ n → Q q) → HoldsOf k Q (pick (eqb (length m) n) (k .valid q) (k .malformed))
-  of-length m n q f = pick-all (HoldsOf k Q) (eqb (length m) n) _ _ (λ t. valid-holds q (f (eqb-true (length m) n t))) (λ _. refused)
+  pub of-length : (m : List ℕ) (n : ℕ) (q : R) → (length m ≡ n → Q q) → HoldsOf k Q (pick (differ (length m) n) (k .malformed) (k .valid q))
+  of-length m n q f = pick-all (HoldsOf k Q) (differ (length m) n) _ _ (λ _. refused) (λ t. valid-holds q (f (differ-false (length m) n t)))
 
   pub of-type : (t c : ℕ) (p rest : P) → (t ≡ c → HoldsOf k Q p) → HoldsOf k Q rest → HoldsOf k Q (pick (eqb t c) p rest)
   of-type t c p rest f g = pick-all (HoldsOf k Q) (eqb t c) p rest (λ e. f (eqb-true t c e)) (λ _. g)
 
-  pub with-header : (m : List ℕ) (p : P) → (Headed m → HoldsOf k Q p) → HoldsOf k Q (pick (headed m) p (k .malformed))
-  with-header m p f = pick-all (HoldsOf k Q) (headed m) _ _ (λ t. f (header-says m t)) (λ _. refused)
+  pub with-header : (m : List ℕ) (p : P) → (Headed m → HoldsOf k Q p) → HoldsOf k Q (pick (not (headed m)) (k .malformed) p)
+  with-header m p f = pick-all (HoldsOf k Q) (not (headed m)) _ _ (λ _. refused) (λ t. f (header-says m (not-false (headed m) t)))

@@ -1,10 +1,11 @@
--- What a response says: its header, its type and the length of that type decide, in this order; else it is malformed.
+-- What a response says. It is malformed if its length, version, type or body length is wrong, in this order (01, Numbers we answer: 20).
 -- Reserved bits are ignored (001 section 1.4.2.8).
 use Prim.Native.Nat.{ℕ, _+_, _*_, _%_}
+use mathlib.Core.Bool.{not}
 use mathlib.Core.List.{List}
 use lib.ListN.{length}
 use lib.Dec.{eqb}
-use Rattle.basis.specs.Pick.{pick}
+use Rattle.basis.specs.Pick.{pick, differ}
 use Rattle.wire.specs.Codes.{getFwIdResponse, initiateResponse, dataResponse, validateResponse, dataPauseResponse, vendorSpecificResponse, getFwIdResponseLength, initiateResponseLength, dataResponseLength, validateResponseLength}
 use Rattle.wire.specs.Header.{headed}
 use Rattle.basis.specs.Bytes.{byteAt}
@@ -16,21 +17,21 @@ use Rattle.wire.specs.declared.response.Parsed.the-variants.{Valid, Malf
 
 -- 001 T5-18
 unfoldable pub identifiedIn : List ℕ → Parsed
-identifiedIn m = pick (eqb (length m) getFwIdResponseLength) (Valid (GetFwId (byteAt m 2) (cleared (identityIn m)))) Malformed
+identifiedIn m = pick (differ (length m) getFwIdResponseLength) Malformed (Valid (GetFwId (byteAt m 2) (cleared (identityIn m))))
 
 -- 001 T5-20: MaxImageSize is its bits 19:0
 unfoldable pub initiatedIn : List ℕ → Parsed
-initiatedIn m = pick (eqb (length m) initiateResponseLength) (Valid (Initiate (byteAt m 2) (byteAt m 3) (wordAt m 4 + 65536 * (byteAt m 6 % 16)))) Malformed
+initiatedIn m = pick (differ (length m) initiateResponseLength) Malformed (Valid (Initiate (byteAt m 2) (byteAt m 3) (wordAt m 4 + 65536 * (byteAt m 6 % 16))))
 
 -- 001 T5-22: NumDataNR is not looked at
 unfoldable pub receiptIn : List ℕ → Parsed
-receiptIn m = pick (eqb (length m) dataResponseLength) (Valid (Data (byteAt m 2) (byteAt m 3) (wordAt m 5))) Malformed
+receiptIn m = pick (differ (length m) dataResponseLength) Malformed (Valid (Data (byteAt m 2) (byteAt m 3) (wordAt m 5)))
 
 -- 001 T5-24: success is bit 0 of Flags
 unfoldable pub validatedIn : List ℕ → Parsed
-validatedIn m = pick (eqb (length m) validateResponseLength) (Valid (Validate (byteAt m 2) (byteAt m 3) (eqb (byteAt m 4 % 2) 1))) Malformed
+validatedIn m = pick (differ (length m) validateResponseLength) Malformed (Valid (Validate (byteAt m 2) (byteAt m 3) (eqb (byteAt m 4 % 2) 1)))
 
--- 001 T5-16
+-- 001 T5-16: any other type is wrong
 unfoldable pub responseOfType : List ℕ → ℕ → Parsed
 responseOfType m t =
     pick (eqb t getFwIdResponse) (identifiedIn m)
@@ -41,4 +42,4 @@ responseOfType m t =
     (pick (eqb t vendorSpecificResponse) (Valid NotBuilt) Malformed)))))
 
 unfoldable pub parsedResponseOf : List ℕ → Parsed
-parsedResponseOf m = pick (headed m) (responseOfType m (byteAt m 1)) Malformed
+parsedResponseOf m = pick (not (headed m)) Malformed (responseOfType m (byteAt m 1))

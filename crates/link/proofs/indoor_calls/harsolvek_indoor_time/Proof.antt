@@ -12,14 +12,14 @@ harsolvek-indoor-time-spec =
     (tie.spec
     (λ c κs. search needs)
     (λ c κs. search needs)
+    (λ c. rw (c .no-session .ensures, ← (c .before .before .is-session .ensures), c .before .if1 .taken))
+    (λ c κs. search needs)
     (λ c κs. search needs)
     (λ c κs. search needs)
     (λ c. search needs)
     (λ c.
     let afterTime = c .before .before .before in
     let afterUnpack = afterTime .before .before in
-    let then1 = afterUnpack .before in
-    let afterIsSession = then1 .before in
-    rw (c .flat .ensures, ← (afterIsSession .is-session .ensures), then1 .if1 .taken, ← (afterUnpack .unpack .ensures)) (ap flatIndoorLeft (afterTime .time .ensures)))
-    (λ c κs. search needs)
-    (λ c. rw (c .no-session .ensures, ← (c .before .before .is-session .ensures), c .before .if1 .left)))
+    let afterTest = afterUnpack .before in
+    let afterIsSession = afterTest .before in
+    rw (c .flat .ensures, ← (afterIsSession .is-session .ensures), afterTest .if1 .left, ← (afterUnpack .unpack .ensures)) (ap flatIndoorLeft (afterTime .time .ensures))))

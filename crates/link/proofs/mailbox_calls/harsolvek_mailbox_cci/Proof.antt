@@ -9,7 +9,7 @@ harsolvek-mailbox-cci-spec =
     tie.close
     (tie.spec
     (λ c κs. search needs)
+    (λ c. rw (← (c .before .is-mailbox .ensures), c .if1 .taken))
     (λ c κs. search needs)
     (λ c κs. search needs)
-    (λ c. rw (← (c .before .before .before .is-mailbox .ensures), c .before .before .if1 .taken, c .cci .ensures, c .before .unpack .ensures))
-    (λ c. rw (← (c .before .is-mailbox .ensures), c .if1 .left)))
+    (λ c. rw (← (c .before .before .before .is-mailbox .ensures), c .before .before .if1 .left, c .cci .ensures, c .before .unpack .ensures)))

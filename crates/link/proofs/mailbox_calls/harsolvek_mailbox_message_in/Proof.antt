@@ -9,7 +9,7 @@ harsolvek-mailbox-message-in-spec =
     tie.close
     (tie.spec
     (λ c κs. search needs)
+    (λ c. rw (← (c .before .is-mailbox .ensures), c .if1 .taken))
     (λ c κs. search needs)
     (λ c κs. search needs)
-    (λ c. rw (← (c .before .before .before .is-mailbox .ensures), c .before .before .if1 .taken, c .message-in .ensures, c .before .unpack .ensures))
-    (λ c. rw (← (c .before .is-mailbox .ensures), c .if1 .left)))
+    (λ c. rw (← (c .before .before .before .is-mailbox .ensures), c .before .before .if1 .left, c .message-in .ensures, c .before .unpack .ensures)))

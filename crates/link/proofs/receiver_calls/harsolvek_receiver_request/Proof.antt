@@ -14,6 +14,8 @@ harsolvek-receiver-request-spec =
     (tie.spec
     (λ c κs. search needs)
     (λ c κs. search needs)
+    (λ c. rw (c .no-session .ensures, ← (c .before .before .is-session .ensures), c .before .if1 .taken))
+    (λ c κs. search needs)
     (λ c κs. search needs)
     (λ c κs. search needs)
     (λ c κs.
@@ -27,8 +29,6 @@ harsolvek-receiver-request-spec =
     let afterRequest = afterImage .before in
     let afterVerdictOf = afterRequest .before .before .before in
     let afterUnpack = afterVerdictOf .before in
-    let then1 = afterUnpack .before in
-    let afterIsSession = then1 .before in
-    rw (c .flat .ensures, ← (afterIsSession .is-session .ensures), then1 .if1 .taken, ← (afterUnpack .unpack .ensures), ← (afterVerdictOf .verdict-of .ensures)) (ap flatReceiverRequested (afterRequest .request .ensures)))
-    (λ c κs. search needs)
-    (λ c. rw (c .no-session .ensures, ← (c .before .before .is-session .ensures), c .before .if1 .left)))
+    let afterTest = afterUnpack .before in
+    let afterIsSession = afterTest .before in
+    rw (c .flat .ensures, ← (afterIsSession .is-session .ensures), afterTest .if1 .left, ← (afterUnpack .unpack .ensures), ← (afterVerdictOf .verdict-of .ensures)) (ap flatReceiverRequested (afterRequest .request .ensures))))

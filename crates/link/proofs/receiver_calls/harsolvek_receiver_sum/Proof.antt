@@ -10,12 +10,12 @@ harsolvek-receiver-sum-spec =
     tie.close
     (tie.spec
     (λ c κs. search needs)
+    (λ c. rw (← (c .before .is-session .ensures), c .if1 .taken))
     (λ c κs. search needs)
     (λ c κs. search needs)
     (λ c κs. search needs)
     (λ c κs. search needs)
     (λ c.
-    let then1 = c .before .before .before .before in
-    let afterIsSession = then1 .before in
-    rw (← (afterIsSession .is-session .ensures), then1 .if1 .taken, c .value .ensures, c .before .summed-number .ensures, c .before .before .sum .ensures, c .before .before .before .unpack .ensures))
-    (λ c. rw (← (c .before .is-session .ensures), c .if1 .left)))
+    let afterTest = c .before .before .before .before in
+    let afterIsSession = afterTest .before in
+    rw (← (afterIsSession .is-session .ensures), afterTest .if1 .left, c .value .ensures, c .before .summed-number .ensures, c .before .before .sum .ensures, c .before .before .before .unpack .ensures)))

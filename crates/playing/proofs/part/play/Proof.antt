@@ -5,7 +5,7 @@ use native.Mathlib.Omega.{arith}
 use denote.Ref.{now}
 use mathlib.Core.Path.{refl, sym, _∙_}
 use Rattle.mailbox_rules.specs.Mailbox.{mailbox}
-use Rattle.playing.proofs.Mid.{Mid, mid-begins, mid-ends, mid-full, mid-turn, line-len, line-fits}
+use Rattle.playing.proofs.Mid.{Mid, mid-begins, mid-done, mid-full, mid-turn, line-len, line-fits}
 use Rattle.playing.proofs.Steps.{turn-is}
 use Rattle.recording.proofs.Cases.{found-past}
 use Rattle.playing.proofs.part.play.Statement.{statement}
@@ -35,7 +35,7 @@ returns c =
     let atLoop = atNext .before in
     let midway = atLoop .before .before .before .before in
     let entry = midway .before in
-    let g = entry .args in let l = atLoop .loop in mid-ends (g .mailbox) (now (g .part)) (now (g .out)) (mailbox (l .state) (l .message)) (l .taken) (l .written) (l .out) (l .inv) _ (sym (atNext .next .ensures) ∙ c .before .read .given .1)
+    let g = entry .args in let l = atLoop .loop in mid-done (g .mailbox) (now (g .part)) (now (g .out)) (mailbox (l .state) (l .message)) (l .taken) (l .written) (l .out) (l .inv) _ (sym (atNext .next .ensures) ∙ c .before .read .given .1)
 
 enum-known-read-2 : tie.Need-enum-known-read-2 Inv-loop μ-loop
 enum-known-read-2 c = search needs

@@ -9,6 +9,6 @@ unfolding initiateIn
 initiate-spec =
     tie.close
     (tie.spec
+    (λ c. search (tests, c .if1 .taken))
     (λ c κs. search needs)
-    (λ c. search (tests, c .versions-at .ensures, c .before .if1 .taken))
-    (λ c. search (tests, c .if1 .left)))
+    (λ c. search (tests, c .versions-at .ensures, c .before .if1 .left)))

@@ -1,6 +1,5 @@
-use Rattle.basis.specs.Pick.{tests}
+use Rattle.basis.specs.Pick.{tests, eq-differ}
 use Rattle.wire.specs.Response.{identifiedIn}
-use borrow.Author.Tests.{eq-eqb}
 use borrow.Author.Needs.{needs}
 use Rattle.reading.proofs.response.identified.Statement.{statement}
 use Rattle.reading.proofs.response.identified.Tie as tie
@@ -10,8 +9,8 @@ unfolding identifiedIn
 identified-spec =
     tie.close
     (tie.spec
+    (λ c. search (tests, c .if1 .taken))
     (λ c. search needs)
     (λ c κs. search needs)
     (λ c κs. search needs)
-    (λ c. simp (tests, c .cleared .ensures, c .before .identity-in .ensures, eq-eqb _ _ (c .before .before .before .if1 .taken)))
-    (λ c. search (tests, c .if1 .left)))
+    (λ c. simp (tests, c .cleared .ensures, c .before .identity-in .ensures, eq-differ _ _ (c .before .before .before .if1 .left))))

@@ -9,6 +9,7 @@ unfolding initiatedIn
 initiated-spec =
     tie.close
     (tie.spec
+    (λ c. search (tests, c .if1 .taken))
     (λ c κs. search needs)
     (λ c. search needs)
     (λ c. search needs)
@@ -17,5 +18,4 @@ initiated-spec =
     (λ c. search needs)
     (λ c. search needs)
     (λ c. search needs)
-    (λ c. search (tests, c .before .before .before .word-at .ensures, c .before .before .before .before .if1 .taken))
-    (λ c. search (tests, c .if1 .left)))
+    (λ c. search (tests, c .before .before .before .word-at .ensures, c .before .before .before .before .if1 .left)))

@@ -4,6 +4,7 @@ use Rattle.wire.proofs.Walk.{header-says}
 use mathlib.Core.Path.{_∙_, sym}
 use denote.Ref.{now}
 use borrow.Author.Needs.{needs}
+use borrow.Author.Tests.{not-false}
 use Rattle.reading.proofs.response.read_response.Statement.{statement}
 use Rattle.reading.proofs.response.read_response.Tie as tie
 
@@ -13,7 +14,7 @@ read-response-spec =
     tie.close
     (tie.spec
     (λ c κs. search needs)
-    (λ c. header-says (now (c .before .before .before .before .args .msg)) (sym (c .before .before .has-header .ensures) ∙ c .before .if1 .taken) .long)
+    (λ c. rw (← (c .before .has-header .ensures), c .if1 .taken))
+    (λ c. header-says (now (c .before .before .before .before .args .msg)) (sym (c .before .before .has-header .ensures) ∙ not-false _ (c .before .if1 .left)) .long)
     (λ c κs. search needs)
-    (λ c. rw (← (c .before .before .before .has-header .ensures), c .before .before .if1 .taken) (c .typed .ensures))
-    (λ c. rw (← (c .before .has-header .ensures), c .if1 .left)))
+    (λ c. rw (← (c .before .before .before .has-header .ensures), c .before .before .if1 .left) (c .typed .ensures)))

@@ -9,8 +9,8 @@ unfolding receiptIn
 receipt-spec =
     tie.close
     (tie.spec
+    (λ c. search (tests, c .if1 .taken))
     (λ c κs. search needs)
     (λ c. search needs)
     (λ c. search needs)
-    (λ c. search (tests, c .before .before .word-at .ensures, c .before .before .before .if1 .taken))
-    (λ c. search (tests, c .if1 .left)))
+    (λ c. search (tests, c .before .before .word-at .ensures, c .before .before .before .if1 .left)))

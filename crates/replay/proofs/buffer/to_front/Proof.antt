@@ -1,7 +1,7 @@
 use denote.Ref.{now}
 use Prim.Native.Nat.{_-_}
 use borrow.Author.Needs.{needs}
-use Rattle.replay.proofs.Front.{Front, front-begins, front-more, front-ends}
+use Rattle.replay.proofs.Front.{Front, front-begins, front-more, front-done}
 use Rattle.replay.proofs.buffer.to_front.Statement.{statement}
 use Rattle.replay.proofs.buffer.to_front.Tie as tie
 
@@ -39,7 +39,7 @@ same-length : tie.Need-same-length Inv-loop μ-loop
 same-length c = search needs
 
 returns : tie.Need-returns Inv-loop μ-loop
-returns c = let g = c .before .before .args in let l = c .before .loop in front-ends (now (g .buffer)) (g .from) (g .to) (c .before .before .pre .0) (c .before .before .pre .1) (l .buffer) (l .i) (l .inv) (c .loop-test .left)
+returns c = let g = c .before .before .args in let l = c .before .loop in front-done (now (g .buffer)) (g .from) (g .to) (c .before .before .pre .0) (c .before .before .pre .1) (l .buffer) (l .i) (l .inv) (c .loop-test .left)
 
 pub to-front-spec : {M : Type 1} → statement M
 to-front-spec =

@@ -3,7 +3,7 @@ use mathlib.Core.Path.{sym, _∙_, ap}
 use denote.Ref.{now}
 use lib.ListN.{length}
 use Rattle.script.specs.Runs.{byteRunOf}
-use Rattle.script.proofs.Mid.{Mid, mid-begins, mid-room, mid-ends, mid-other, mid-more}
+use Rattle.script.proofs.Mid.{Mid, mid-begins, mid-room, mid-done, mid-other, mid-more}
 use borrow.Author.Needs.{needs}
 use Rattle.script.proofs.spelling.spell.Statement.{statement}
 use Rattle.script.proofs.spelling.spell.Tie as tie
@@ -57,4 +57,4 @@ spell-spec =
     (λ c.
     let l = c .before in
     let a = l .before .before .before .args in
-    mid-ends (now (a .words)) (l .loop .bytes) (l .loop .len) (l .loop .at) (l .loop .inv) (c .loop-test .left)))
+    mid-done (now (a .words)) (l .loop .bytes) (l .loop .len) (l .loop .at) (l .loop .inv) (c .loop-test .left)))
