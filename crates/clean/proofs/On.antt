@@ -74,8 +74,8 @@ module _ (file memory : List ℕ) (release : Release) (identity : Identity) (e :
     fits = omega arith;
   }
 
-  told : (x .outcome .written ≡ 0 → ⊥) → Clean file memory release identity (suc (suc (on .deliveries))) (carriedDown (carriedUp (cleanLineOf e image upper (on .requests) (on .responses)) [] x) [] y)
-  told more = delivers heard _ (down (take (x .outcome .written) (x .out)) [] (one-goes (x .outcome .written) (x .out) more) upper (let long = on .room in omega arith))
+  delivered-down : (x .outcome .written ≡ 0 → ⊥) → Clean file memory release identity (suc (suc (on .deliveries))) (carriedDown (carriedUp (cleanLineOf e image upper (on .requests) (on .responses)) [] x) [] y)
+  delivered-down more = delivers heard _ (down (take (x .outcome .written) (x .out)) [] (one-goes (x .outcome .written) (x .out) more) upper (let long = on .room in omega arith))
 
   answers : (x .outcome .written ≡ 0 → ⊥) → Then (answered (endsUnderway (x .outcome .session) (y .answer .session) (y .answer .written)) (y .memory))
   answers more = record {
@@ -83,7 +83,7 @@ module _ (file memory : List ℕ) (release : Release) (identity : Identity) (e :
     deliveries = suc (suc (on .deliveries));
     requests = withSent (y .answer .written) (y .memory) (on .requests);
     responses = withSent (x .outcome .written) (x .out) (on .responses);
-    clean = told more;
+    clean = delivered-down more;
     count = sent-length (eqb (y .answer .written) 0) (take (y .answer .written) (y .memory)) (on .requests)
         ∙ ap (λ (c : ℕ). c + length (withSent (y .answer .written) (y .memory) [])) delivered-one;
     room = response-length (e .indoor) file (take (x .outcome .written) (x .out)) upper ∙ on .room;

@@ -32,8 +32,8 @@ pub delivers : (e : Ends) (file image up down : List ℕ) (heard : Outcome) (ima
     → (e′ : Ends) (up′ : List ℕ) → answered e′ up′ ≡ answerOf (heard .session) (e .indoor) file up down′ (heard .written)
     → turned e′ image′ up′ down′ ≡ deliveredOf e file image up down
 unfolding deliveredOf
-delivers e file image up down heard image′ down′ did e′ up′ told =
-    ap (turnedOf (effect heard image′ down′)) told
+delivers e file image up down heard image′ down′ did e′ up′ answers =
+    ap (turnedOf (effect heard image′ down′)) answers
     ∙ ap (λ (x : Effect). turnedOf x (answerOf (x .outcome .session) (e .indoor) file up (x .out) (x .outcome .written))) did
 
 none-read : (q : Request) → message.parsedRequestOf [] ≡ Valid q → ⊥

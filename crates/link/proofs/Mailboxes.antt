@@ -22,51 +22,51 @@ use Rattle.mailbox_flat.specs.Waiting.{waitingBytesOf}
 use Rattle.mailbox_flat.specs.Status.{flatStatusOf}
 use Rattle.mailbox_flat.specs.declared.flat.FlatMailbox.{FlatMailbox}
 use Rattle.mailbox_flat.proofs.Inverse.{unpack-pack, pack-unpack, pack-mailbox}
-use Rattle.link.specs.Mailbox.{mailboxOutcome, flatMailboxOf, heldOf, harsolvekMailboxFresh, harsolvekMailboxWrite, harsolvekMailboxSuccess, harsolvekMailboxFailure, harsolvekMailboxChange, reads, harsolvekMailboxCci, holds as carries, harsolvekMailboxMessageIn}
+use Rattle.link.specs.Mailbox.{mailboxOutcome, flatMailboxOf, flatEventOf, harsolvekMailboxFresh, harsolvekMailboxWrite, harsolvekMailboxSuccess, harsolvekMailboxFailure, harsolvekMailboxChange, flatCci, harsolvekMailboxCci, flatMessageIn, harsolvekMailboxMessageIn}
 use Rattle.link.specs.declared.mailbox_calls.MailboxOutcome.{MailboxOutcome}
 use Rattle.link.specs.Handed.{HandedMailbox, starts, writes, succeeds, fails, changes}
 
--- Of every event: `heldOf` is what each of the four calls is.
+-- Each of the four calls that take an event is `flatEventOf`.
 module _ (f : FlatMailbox) (e : Event) where
   abbrev outcome : Outcome
   outcome = eventOf (mailboxUnpackOf f) e
 
-  pub held-through : isMailbox f ≡ true → heldOf f e ≡ mailboxOutcome (mailboxPackOf (outcome .mailbox)) (mailboxNumberOf (outcome .answer))
-  held-through is = pick-no _ _ _ (not-no _ is)
+  pub event-through : isMailbox f ≡ true → flatEventOf f e ≡ mailboxOutcome (mailboxPackOf (outcome .mailbox)) (mailboxNumberOf (outcome .answer))
+  event-through is = pick-no _ _ _ (not-no _ is)
 
-  pub held-29 : isMailbox f ≡ false → heldOf f e ≡ mailboxOutcome f 29
-  held-29 is = pick-yes _ _ _ (not-yes _ is)
+  pub event-29 : isMailbox f ≡ false → flatEventOf f e ≡ mailboxOutcome f 29
+  event-29 is = pick-yes _ _ _ (not-yes _ is)
 
-  pub held-next : isMailbox f ≡ true → mailboxUnpackOf (heldOf f e .state) ≡ outcome .mailbox
-  held-next is = ap (λ x. mailboxUnpackOf (x .state)) (held-through is) ∙ unpack-pack (outcome .mailbox)
+  pub event-next : isMailbox f ≡ true → mailboxUnpackOf (flatEventOf f e .state) ≡ outcome .mailbox
+  event-next is = ap (λ x. mailboxUnpackOf (x .state)) (event-through is) ∙ unpack-pack (outcome .mailbox)
 
 module _ (f : FlatMailbox) (is : isMailbox f ≡ true) where
   abbrev through : Outcome → MailboxOutcome
   through o = mailboxOutcome (mailboxPackOf (o .mailbox)) (mailboxNumberOf (o .answer))
 
   pub write-through : (control : List ℕ) → harsolvekMailboxWrite f control ≡ through (eventOf (mailboxUnpackOf f) (event.writes control))
-  write-through control = held-through f (event.writes control) is
+  write-through control = event-through f (event.writes control) is
 
   pub success-through : (bytes : List ℕ) → harsolvekMailboxSuccess f bytes ≡ through (eventOf (mailboxUnpackOf f) (event.succeeds bytes))
-  success-through bytes = held-through f (event.succeeds bytes) is
+  success-through bytes = event-through f (event.succeeds bytes) is
 
   pub failure-through : harsolvekMailboxFailure f ≡ through (eventOf (mailboxUnpackOf f) event.fails)
-  failure-through = held-through f event.fails is
+  failure-through = event-through f event.fails is
 
   pub change-through : (connector reason : ℕ) → harsolvekMailboxChange f connector reason ≡ through (eventOf (mailboxUnpackOf f) (event.changes connector reason))
-  change-through connector reason = held-through f (event.changes connector reason) is
+  change-through connector reason = event-through f (event.changes connector reason) is
 
 module _ (f : FlatMailbox) where
-  pub cci-through : isMailbox f ≡ true → harsolvekMailboxCci f ≡ reads (mailboxCciOf (mailboxUnpackOf f)) 0
+  pub cci-through : isMailbox f ≡ true → harsolvekMailboxCci f ≡ flatCci (mailboxCciOf (mailboxUnpackOf f)) 0
   cci-through e = pick-no _ _ _ (not-no _ e)
 
-  pub cci-29 : isMailbox f ≡ false → harsolvekMailboxCci f ≡ reads 0 29
+  pub cci-29 : isMailbox f ≡ false → harsolvekMailboxCci f ≡ flatCci 0 29
   cci-29 e = pick-yes _ _ _ (not-yes _ e)
 
-  pub message-through : isMailbox f ≡ true → harsolvekMailboxMessageIn f ≡ carries (messageInOf (mailboxUnpackOf f)) 0
+  pub message-through : isMailbox f ≡ true → harsolvekMailboxMessageIn f ≡ flatMessageIn (messageInOf (mailboxUnpackOf f)) 0
   message-through e = pick-no _ _ _ (not-no _ e)
 
-  pub message-29 : isMailbox f ≡ false → harsolvekMailboxMessageIn f ≡ carries (replicate 256 0) 29
+  pub message-29 : isMailbox f ≡ false → harsolvekMailboxMessageIn f ≡ flatMessageIn (replicate 256 0) 29
   message-29 e = pick-yes _ _ _ (not-yes _ e)
 
 -- A mailbox with no connector is all zero, which no call takes for a mailbox.
@@ -103,9 +103,9 @@ module _ (count : ℕ) where
         reached = subst (Reached count) (sym (unpack-pack m)) r;
       }
 
-  goes-on : (f : FlatMailbox) (e : Event) → Reaches f → Reaches (heldOf f e .state)
+  goes-on : (f : FlatMailbox) (e : Event) → Reaches f → Reaches (flatEventOf f e .state)
   goes-on f e r =
-      subst (λ x. Reaches (x .state)) (sym (held-through f e (r .is)))
+      subst (λ x. Reaches (x .state)) (sym (event-through f e (r .is)))
       (reaches (eventOf (mailboxUnpackOf f) e .mailbox) (reached-next count (mailboxUnpackOf f) e (r .reached)))
 
   pub handed-reached : {f : FlatMailbox} → HandedMailbox count f → Reaches f

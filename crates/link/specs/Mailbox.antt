@@ -30,29 +30,29 @@ abbrev pub harsolvekMailboxFresh : ℕ → MailboxOutcome
 harsolvekMailboxFresh count = mailboxOutcome (mailboxPackOf (mailboxFreshOf count .mailbox)) (mailboxFreshOf count .number)
 
 -- An event of the mailbox that the numbers say.
-abbrev pub heldOf : FlatMailbox → Event → MailboxOutcome
-heldOf f e = pick (not (isMailbox f)) (noMailbox f) (flatMailboxOf (eventOf (mailboxUnpackOf f) e))
+abbrev pub flatEventOf : FlatMailbox → Event → MailboxOutcome
+flatEventOf f e = pick (not (isMailbox f)) (noMailbox f) (flatMailboxOf (eventOf (mailboxUnpackOf f) e))
 
 abbrev pub harsolvekMailboxWrite : FlatMailbox → List ℕ → MailboxOutcome
-harsolvekMailboxWrite f control = heldOf f (writes control)
+harsolvekMailboxWrite f control = flatEventOf f (writes control)
 
 abbrev pub harsolvekMailboxSuccess : FlatMailbox → List ℕ → MailboxOutcome
-harsolvekMailboxSuccess f bytes = heldOf f (succeeds bytes)
+harsolvekMailboxSuccess f bytes = flatEventOf f (succeeds bytes)
 
 abbrev pub harsolvekMailboxFailure : FlatMailbox → MailboxOutcome
-harsolvekMailboxFailure f = heldOf f fails
+harsolvekMailboxFailure f = flatEventOf f fails
 
 abbrev pub harsolvekMailboxChange : FlatMailbox → ℕ → ℕ → MailboxOutcome
-harsolvekMailboxChange f connector reason = heldOf f (changes connector reason)
+harsolvekMailboxChange f connector reason = flatEventOf f (changes connector reason)
 
-abbrev pub reads : ℕ → ℕ → MailboxCci
-reads cci number = record { cci = cci; number = number }
+abbrev pub flatCci : ℕ → ℕ → MailboxCci
+flatCci cci number = record { cci = cci; number = number }
 
 abbrev pub harsolvekMailboxCci : FlatMailbox → MailboxCci
-harsolvekMailboxCci f = pick (not (isMailbox f)) (reads 0 29) (reads (mailboxCciOf (mailboxUnpackOf f)) 0)
+harsolvekMailboxCci f = pick (not (isMailbox f)) (flatCci 0 29) (flatCci (mailboxCciOf (mailboxUnpackOf f)) 0)
 
-abbrev pub holds : List ℕ → ℕ → MessageIn
-holds bytes number = record { bytes = bytes; number = number }
+abbrev pub flatMessageIn : List ℕ → ℕ → MessageIn
+flatMessageIn bytes number = record { bytes = bytes; number = number }
 
 abbrev pub harsolvekMailboxMessageIn : FlatMailbox → MessageIn
-harsolvekMailboxMessageIn f = pick (not (isMailbox f)) (holds (replicate 256 0) 29) (holds (messageInOf (mailboxUnpackOf f)) 0)
+harsolvekMailboxMessageIn f = pick (not (isMailbox f)) (flatMessageIn (replicate 256 0) 29) (flatMessageIn (messageInOf (mailboxUnpackOf f)) 0)

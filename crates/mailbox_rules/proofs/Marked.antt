@@ -31,7 +31,7 @@ set-false (x ∷ w) zero (suc j) h = h
 set-false (x ∷ w) (suc i) zero h = h
 set-false (x ∷ w) (suc i) (suc j) h = set-false w i j h
 
--- Whoever does not wait does not wait after one waits no more.
+-- A connector that does not wait still does not once one is marked as waiting no more.
 pub unmarked : (w : List Bool) (c j : ℕ) → getD w j false ≡ false → getD (markedOf w c false) j false ≡ false
 unfolding markedOf
 unmarked w c j h =

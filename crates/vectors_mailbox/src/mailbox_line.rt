@@ -19,7 +19,7 @@ pub(crate) fn run(words: &[u8], held: Held) -> Held {
     }
 }
 
-// The mailbox before it ends, also where the new one is refused (29): then there is none.
+// The new mailbox takes the place of the one before, also where it is refused (29): then there is none.
 fn new(words: &[u8], held: Held) -> Held {
     let count = Field::none().next(words, 255);
     if !count.is_last(words) {
