@@ -17,6 +17,7 @@ use Rattle.mailbox_state.specs.declared.answer.Answer.the-variants.{ControlLeng
 use Rattle.mailbox_state.specs.declared.state.Notifications.the-variants.{Off}
 use Rattle.mailbox_state.specs.declared.state.State.{State}
 use Rattle.mailbox_state.specs.declared.status.CommandStatus.{CommandStatus}
+use Rattle.mailbox_state.specs.declared.status.CommandStatus.the-variants.{Nothing}
 use Rattle.mailbox_state.specs.declared.step.Step.{Step}
 use Rattle.mailbox_state.specs.declared.mailbox.Mailbox.{Mailbox}
 use Rattle.mailbox_state.specs.declared.mailbox.Outcome.{Outcome}
@@ -106,17 +107,17 @@ module _ (m : Mailbox) (c reason : ℕ) where
   pub change-cci-in-run : runsOf (m .state .status) ≡ true → mailboxCciOf changed ≡ mailboxCciOf m
   change-cci-in-run e = cci-in-run changed (ap runsOf (change-altered m c reason .status) ∙ e) ∙ sym (cci-in-run m e)
 
--- A fresh mailbox: CCI 0, notifications off, MESSAGE_IN zero, none shown and none waiting.
+-- A fresh mailbox: CCI 0, notifications off, MESSAGE_IN zero, nothing running, none shown and none waiting.
 pub record Fresh (m : Mailbox) : Type 0 where
   pub cci : mailboxCciOf m ≡ 0
   pub notifications : m .state .notifications ≡ Off
   pub message : m .message ≡ replicate 256 0
-  pub shown : m .state .changes .shown ≡ 0
-  pub waiting : m .state .changes .waiting ≡ replicate 8 false
+  pub status : m .state .status ≡ Nothing
+  pub changes : m .state .changes ≡ record { shown = 0; waiting = replicate 8 false }
 
 fresh : (count : ℕ) → Fresh (freshMailbox count)
 unfolding freshMailbox zeroMessageIn cciBitsOf
-fresh count = record { cci = refl; notifications = refl; message = refl; shown = refl; waiting = refl }
+fresh count = record { cci = refl; notifications = refl; message = refl; status = refl; changes = refl }
 
 -- A count from 1 to 8 makes a fresh mailbox with so many connectors.
 module _ (count : ℕ) where

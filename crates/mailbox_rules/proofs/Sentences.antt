@@ -1,5 +1,5 @@
 -- Document 01's sentences on the mailbox, proved of every mailbox that a history leads to (01, The mailbox; 01, Numbers we answer).
-use Prim.Native.Nat.{ℕ, _-_, _≤_, _<_}
+use Prim.Native.Nat.{ℕ, zero, suc, _-_, _≤_, _<_}
 use mathlib.Core.Bool.{true, false}
 use mathlib.Core.List.{List, [], _∷_, _++_}
 use mathlib.Core.Logic.{_⊎_, inl, inr}
@@ -8,7 +8,7 @@ use native.Mathlib.Omega.{arith}
 use lib.ListN.{length, getD, replicate}
 use Rattle.mailbox_state.specs.Answer.{mailboxNumberOf}
 use Rattle.mailbox_state.specs.State.{offOf}
-use Rattle.mailbox_state.specs.Status.{dueOf}
+use Rattle.mailbox_state.specs.Status.{runsOf, dueOf}
 use Rattle.mailbox_state.specs.Step.{mailboxStep}
 use Rattle.mailbox_state.specs.declared.answer.Answer.the-variants.{Taken}
 use Rattle.mailbox_state.specs.declared.mailbox.Fresh as start
@@ -21,12 +21,13 @@ use Rattle.mailbox_state.specs.declared.step.MessageEffect.the-variants.{Kept, 
 use Rattle.mailbox_state.specs.declared.step.Step.{Step}
 use Rattle.mailbox_rules.specs.Change.{meetsOf, changeStepOf}
 use Rattle.mailbox_rules.specs.Changes.{notedOf}
-use Rattle.mailbox_rules.specs.Events.{succeeds, fails, changes, stepReturns}
+use Rattle.mailbox_rules.specs.Events.{writes, succeeds, fails, changes, stepReturns}
 use Rattle.mailbox_rules.specs.History.{Reached}
+use Rattle.mailbox_rules.specs.Mailbox.{freshMailbox, startReturns, mailboxFreshOf}
 use Rattle.mailbox_rules.specs.MessageIn.{zeroMessageIn, settledOf}
-use Rattle.mailbox_rules.specs.Sentences.{answers, next, runs, shown, waits, Completes, zeros, Start, Sentences, MailboxKeeps}
+use Rattle.mailbox_rules.specs.Sentences.{answers, next, runs, shown, waits, NoChange, Completes, zeros, Start, Sentences, MailboxKeeps}
 use Rattle.mailbox_rules.proofs.Bits.{completed-says, failed-says}
-use Rattle.mailbox_rules.proofs.Laws.{control-1, refused-keeps, cci-in-run, change-cci-high, change-cci-low, change-cci-in-run, fresh-made, fresh-29-zero, fresh-29-above, fresh-is}
+use Rattle.mailbox_rules.proofs.Laws.{control-1, refused-keeps, cci-in-run, change-cci-high, change-cci-low, change-cci-in-run, change-altered, fresh-made, fresh-counts, fresh-29-zero, fresh-29-above, fresh-is}
 use Rattle.mailbox_rules.proofs.Marked.{marked, marked-others}
 use Rattle.mailbox_rules.proofs.Message.{filled}
 use Rattle.mailbox_rules.proofs.Noted.{altering, change-9-zero, change-9-above, change-off, change-dropped, change-recorded, noted-none, noted-waits}
@@ -37,6 +38,18 @@ use Rattle.mailbox_rules.proofs.Sizes.{reached-eight, reached-256}
 use Rattle.mailbox_rules.proofs.Switch.{event-mask}
 use Rattle.mailbox_rules.proofs.Taken.{numbered, fixed, completes}
 use Rattle.mailbox_rules.proofs.Writes.{reset-step, reset-gives, reset-still, enable-step, enable-completes, cancel-completes, capability-starts, connector-reset-starts, connector-capability-starts, connector-status-starts, absent-completes, other-completes, six, completion-acked, change-acked, none-shown-number, neither-number, nothing-due-number, two, three, four}
+
+none-in : (n i : ℕ) → getD (replicate n false) i false ≡ false
+none-in zero i = refl
+none-in (suc n) zero = refl
+none-in (suc n) (suc i) = none-in n i
+
+no-change : (m : Mailbox) → m .state .changes ≡ record { shown = 0; waiting = replicate 8 false } → NoChange m
+no-change m e =
+    record {
+      noneShown = ap (λ (now : Changes). now .shown) e;
+      noneWaits = λ c. ap (λ (now : Changes). getD (now .waiting) (c - 1) false) e ∙ none-in 8 (c - 1);
+    }
 
 module _ {count : ℕ} {m : Mailbox} (r : Reached count m) where
   abbrev state : State
@@ -121,7 +134,7 @@ module _ {count : ℕ} {m : Mailbox} (r : Reached count m) where
         fixed = fixed r;
         messageInSize = reached-256 r;
         reset = reset-gives r;
-        resetChanges = λ control c. ap (λ (s : Step). s .state .changes) (reset-step r control c);
+        resetChanges = λ control c. no-change (next m (writes control)) (ap (λ (s : Step). s .state .changes) (reset-step r control c));
         resetOff = λ control c. ap (λ (s : Step). s .state .notifications) (reset-step r control c);
         resetStill = reset-still r;
         enable = λ still none control c. enable-completes r control still none c;
@@ -147,11 +160,13 @@ module _ {count : ℕ} {m : Mailbox} (r : Reached count m) where
         changeHigh = change-cci-high m;
         changeLow = change-cci-low m;
         changeInRun = change-cci-in-run m;
+        changeStatus = λ c reason. change-altered m c reason .status;
+        changeMessageIn = λ c reason. change-altered m c reason .message;
         kept = λ e h. ap (λ (o : Outcome). o .mailbox) (refused-keeps m e h);
         one = λ control h. ap (λ (o : Outcome). mailboxNumberOf (o .answer)) (control-1 m control h);
         two = λ o code h1 h5 control c. two r control code c h1 o h5;
-        three = λ on running code h1 h2 control c. three r control code c h1 on running h2;
-        four = λ on d code h1 control c h. four r control code c h1 on d h;
+        three = λ running code h1 h2 enabling control c. three r control code c h1 enabling running h2;
+        four = λ d code h1 enabling control c h. four r control code c h1 enabling d h;
         fiveNeither = λ ready control c b k. neither-number r control ready c b k;
         fiveNothingDue = λ ready control c k. nothing-due-number r control ready c k;
         fiveNoneShown = λ on still z control c b k. none-shown-number r control c on still b k z;
@@ -162,16 +177,21 @@ module _ {count : ℕ} {m : Mailbox} (r : Reached count m) where
       }
 
 start-keeps : (count : ℕ) → Start count
-unfolding offOf
+unfolding offOf runsOf dueOf
 start-keeps count =
     record {
       counts = λ low high. ap (λ (f : start.Fresh). f .number) (fresh-made count low high);
-      none = λ e. ap (λ (f : start.Fresh). f .number) (fresh-29-zero count e);
-      many = λ h. ap (λ (f : start.Fresh). f .number) (fresh-29-above count h);
+      others = λ h. (ap (λ (f : start.Fresh). f .number) (beside h), ap (λ (f : start.Fresh). f .mailbox .state .connectors) (beside h) ∙ fresh-counts 0);
       cci = fresh-is count .cci;
       off = ap offOf (fresh-is count .notifications);
       messageIn = fresh-is count .message;
+      still = (ap runsOf (fresh-is count .status), ap dueOf (fresh-is count .status));
+      noChange = no-change (mailboxFreshOf count .mailbox) (fresh-is count .changes);
     }
+  where
+    beside : (count ≡ 0) ⊎ (8 < count) → mailboxFreshOf count ≡ startReturns (freshMailbox 0) 29
+    beside (inl e) = fresh-29-zero count e
+    beside (inr h) = fresh-29-above count h
 
 pub sentences : MailboxKeeps
 sentences count = (start-keeps count, λ m r. every r)

@@ -75,7 +75,7 @@ history-eight m (e ∷ events) eight = history-eight (eventOf m e .mailbox) even
 pub reached-eight : {count : ℕ} {m : Mailbox} → Reached count m → Eight (m .state .changes)
 reached-eight {count} r =
     subst (λ (x : Mailbox). Eight (x .state .changes)) (r .ending)
-    (history-eight (mailboxFreshOf count .mailbox) (r .events) (ap (length {A = Bool}) (fresh-is count .waiting)))
+    (history-eight (mailboxFreshOf count .mailbox) (r .events) (ap (λ (now : Changes). length (now .waiting)) (fresh-is count .changes)))
 
 -- MESSAGE_IN is always 256 bytes.
 zeros-256 : length zeros ≡ 256

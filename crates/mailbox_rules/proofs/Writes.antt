@@ -27,10 +27,10 @@ use Rattle.mailbox_rules.specs.Changes.{nextShownOf}
 use Rattle.mailbox_rules.specs.Events.{writes, eventStepOf}
 use Rattle.mailbox_rules.specs.History.{Reached}
 use Rattle.mailbox_rules.specs.MessageIn.{zeroMessageIn, settledOf}
-use Rattle.mailbox_rules.specs.Refusal.{situationOf}
+use Rattle.mailbox_rules.specs.Refusal.{situationOf, refusalOf}
 use Rattle.mailbox_rules.specs.Sentences.{answers, next, off, runs, due, shown, Command, Ready, Gives, Completes, Starts, Acknowledges, ShowsLowest, zeros, NeedsConnector, Other}
 use Rattle.mailbox_rules.specs.Write.{withStatus, resets, enables, controlStepOf}
-use Rattle.mailbox_rules.proofs.Answers.{free}
+use Rattle.mailbox_rules.proofs.Answers.{running-3, due-4, free}
 use Rattle.mailbox_rules.proofs.Bits.{reset-done-says, completed-says, failed-says, not-supported-says, cancelled-says, acknowledged-says}
 use Rattle.mailbox_rules.proofs.ByCode as code
 use Rattle.mailbox_rules.proofs.ByCode.{absent-zero, absent-above, other-row}
@@ -234,9 +234,21 @@ module _ {count : ℕ} {m : Mailbox} (r : Reached count m) where
       pub two : off m ≡ true → (code ≡ 0x05 → ⊥) → answers m (writes control) ≡ 2
       two o h = refuses m control (c .eight) 1 (off-number (situationOf state fields) code not-reset _ o h class-named)
 
-      pub three : off m ≡ false → runs m ≡ true → (code ≡ 0x02 → ⊥) → answers m (writes control) ≡ 3
-      three on running h = refuses m control (c .eight) 2 (run-number (situationOf state fields) code not-reset on _ running h class-named)
+      -- With notifications off 0x05 alone comes to 3 and 4.
+      module _ (enabling : off m ≡ true → code ≡ 0x05) where
+        enabled : off m ≡ true → entryOf (fields .code) ≡ entry class.Enable false
+        enabled o = ap entryOf (c .coded ∙ enabling o) ∙ rows .enable
 
-      pub four : off m ≡ false → due m ≡ true → (code ≡ 0x04 → fields .completed ≡ false) → answers m (writes control) ≡ 4
-      four on d h =
-          refuses m control (c .eight) 3 (due-number (situationOf state fields) code not-reset on _ (due-still (state .status) d) d h class-named)
+        pub three : runs m ≡ true → (code ≡ 0x02 → ⊥) → answers m (writes control) ≡ 3
+        three running h = refuses m control (c .eight) 2 (by (off m) refl)
+          where
+            by : (o : Bool) → off m ≡ o → mailboxNumberOf (refusalOf (entryOf (fields .code) .class) (situationOf state fields)) ≡ 3
+            by true o = rw (enabled o) (ap mailboxNumberOf (running-3 (situationOf state fields) running .enable))
+            by false on = run-number (situationOf state fields) code not-reset on _ running h class-named
+
+        pub four : due m ≡ true → (code ≡ 0x04 → fields .completed ≡ false) → answers m (writes control) ≡ 4
+        four d h = refuses m control (c .eight) 3 (by (off m) refl)
+          where
+            by : (o : Bool) → off m ≡ o → mailboxNumberOf (refusalOf (entryOf (fields .code) .class) (situationOf state fields)) ≡ 4
+            by true o = rw (enabled o) (ap mailboxNumberOf (due-4 (situationOf state fields) (due-still (state .status) d) d .enable))
+            by false on = due-number (situationOf state fields) code not-reset on _ (due-still (state .status) d) d h class-named

@@ -8,7 +8,7 @@ use mathlib.Core.Path.{_≡_}
 use lib.ListN.{length, getD, replicate}
 use Rattle.commands.specs.Control.{fieldsOf}
 use Rattle.mailbox_state.specs.Answer.{mailboxNumberOf}
-use Rattle.mailbox_state.specs.State.{offOf, noChanges}
+use Rattle.mailbox_state.specs.State.{offOf}
 use Rattle.mailbox_state.specs.Status.{runsOf, dueOf}
 use Rattle.mailbox_state.specs.declared.state.Notifications.the-variants.{Off, On}
 use Rattle.mailbox_state.specs.declared.status.Command as port
@@ -43,6 +43,11 @@ shown m = m .state .changes .shown
 
 abbrev pub waits : Mailbox → ℕ → Bool
 waits m c = getD (m .state .changes .waiting) (c - 1) false
+
+-- No connector is shown, and none waits.
+pub record NoChange (m : Mailbox) : Type 0 where
+  pub noneShown : shown m ≡ 0
+  pub noneWaits : (c : ℕ) → waits m c ≡ false
 
 -- A write of 8 bytes with this command code.
 pub record Command (code : ℕ) (control : List ℕ) : Type 0 where
@@ -109,14 +114,16 @@ MaySwitch (succeeds bytes) = ⊥
 MaySwitch fails = ⊥
 MaySwitch (changes c reason) = ⊥
 
--- There are 1 to 8 connectors; other counts: 29, no mailbox. A fresh mailbox has CCI 0 and notifications off.
+-- There are 1 to 8 connectors; other counts: 29, no mailbox, and what is returned beside it has no connector. A fresh mailbox has CCI 0 and
+-- notifications off; nothing runs, no acknowledgement is due, and no change is shown or waits.
 pub record Start (count : ℕ) : Type 0 where
   pub counts : 1 ≤ count → count ≤ 8 → mailboxFreshOf count .number ≡ 0
-  pub none : count ≡ 0 → mailboxFreshOf count .number ≡ 29
-  pub many : 8 < count → mailboxFreshOf count .number ≡ 29
+  pub others : (count ≡ 0) ⊎ (8 < count) → (mailboxFreshOf count .number ≡ 29) × (mailboxFreshOf count .mailbox .state .connectors ≡ 0)
   pub cci : mailboxCciOf (mailboxFreshOf count .mailbox) ≡ 0
   pub off : off (mailboxFreshOf count .mailbox) ≡ true
   pub messageIn : messageInOf (mailboxFreshOf count .mailbox) ≡ zeros
+  pub still : (runs (mailboxFreshOf count .mailbox) ≡ false) × (due (mailboxFreshOf count .mailbox) ≡ false)
+  pub noChange : NoChange (mailboxFreshOf count .mailbox)
 
 pub record Sentences (count : ℕ) (m : Mailbox) : Type 0 where
   -- 1 to 8 connectors, fixed at the start.
@@ -128,7 +135,7 @@ pub record Sentences (count : ℕ) (m : Mailbox) : Type 0 where
   -- PPM_RESET: accepted always; CCI only bit 27, MESSAGE_IN zero, changes and mask cleared, notifications off, nothing running, no
   -- acknowledgement due.
   pub reset : (control : List ℕ) → Command 0x01 control → Gives m (writes control) 0 (27 ∷ []) zeros
-  pub resetChanges : (control : List ℕ) → Command 0x01 control → next m (writes control) .state .changes ≡ noChanges
+  pub resetChanges : (control : List ℕ) → Command 0x01 control → NoChange (next m (writes control))
   pub resetOff : (control : List ℕ) → Command 0x01 control → next m (writes control) .state .notifications ≡ Off
   pub resetStill : (control : List ℕ) → Command 0x01 control → (runs (next m (writes control)) ≡ false) × (due (next m (writes control)) ≡ false)
   -- SET_NOTIFICATION_ENABLE: takes the mask, notifications on, completes at once (mask 0 too).
@@ -175,18 +182,20 @@ pub record Sentences (count : ℕ) (m : Mailbox) : Type 0 where
       → (shown m ≡ 0 → ⊥)
       → (answers m (changes c reason) ≡ 0) × (shown (next m (changes c reason)) ≡ shown m) × (waits (next m (changes c reason)) c ≡ true)
       × ((j : ℕ) → 1 ≤ j → (j ≡ c → ⊥) → waits (next m (changes c reason)) j ≡ waits m j)
-  -- A change alters only bits 1 to 7, and in a run none.
+  -- A change alters only bits 1 to 7, and in a run none; what runs or is due, and MESSAGE_IN, stay as they are.
   pub changeHigh : (c reason : ℕ) → mailboxCciOf (next m (changes c reason)) / 2 ^ 8 ≡ mailboxCciOf m / 2 ^ 8
   pub changeLow : (c reason : ℕ) → mailboxCciOf (next m (changes c reason)) % 2 ≡ mailboxCciOf m % 2
   pub changeInRun : (c reason : ℕ) → runs m ≡ true → mailboxCciOf (next m (changes c reason)) ≡ mailboxCciOf m
+  pub changeStatus : (c reason : ℕ) → next m (changes c reason) .state .status ≡ m .state .status
+  pub changeMessageIn : (c reason : ℕ) → messageInOf (next m (changes c reason)) ≡ messageInOf m
   -- Kept: nothing changes.
   pub kept : (e : Event) → (answers m e ≡ 0 → ⊥) → next m e ≡ m
-  -- 1, PPM_RESET, 2, 3, 4, 5, 6; reports 7, 8; changes 9.
+  -- 1, PPM_RESET, 2, 3, 4, 5, 6; reports 7, 8; changes 9. With notifications off 0x05 alone comes to 3 and 4.
   pub one : (control : List ℕ) → (length control ≡ 8 → ⊥) → answers m (writes control) ≡ 1
   pub two : off m ≡ true → (code : ℕ) → (code ≡ 0x01 → ⊥) → (code ≡ 0x05 → ⊥) → (control : List ℕ) → Command code control → answers m (writes control) ≡ 2
-  pub three : off m ≡ false → runs m ≡ true → (code : ℕ) → (code ≡ 0x01 → ⊥) → (code ≡ 0x02 → ⊥) → (control : List ℕ) → Command code control
+  pub three : runs m ≡ true → (code : ℕ) → (code ≡ 0x01 → ⊥) → (code ≡ 0x02 → ⊥) → (off m ≡ true → code ≡ 0x05) → (control : List ℕ) → Command code control
       → answers m (writes control) ≡ 3
-  pub four : off m ≡ false → due m ≡ true → (code : ℕ) → (code ≡ 0x01 → ⊥) → (control : List ℕ) → Command code control
+  pub four : due m ≡ true → (code : ℕ) → (code ≡ 0x01 → ⊥) → (off m ≡ true → code ≡ 0x05) → (control : List ℕ) → Command code control
       → (code ≡ 0x04 → fieldsOf control .completed ≡ false) → answers m (writes control) ≡ 4
   pub fiveNeither : Ready m → (control : List ℕ) → Command 0x04 control → fieldsOf control .change ≡ false → fieldsOf control .completed ≡ false
       → answers m (writes control) ≡ 5

@@ -1,10 +1,10 @@
 -- What is read off the status: a command runs in Busy alone, and an acknowledgement is due after a completion or a cancel alone. Notifications
--- are off or on, with any mask (01, The mailbox).
+-- are off or on, with any mask. Where changes are cleared none is shown, and none of the 8 connectors waits (01, The mailbox).
 use Prim.Native.Nat.{ℕ}
 use mathlib.Core.Bool.{true, false}
 use mathlib.Core.List.{List, [], _∷_, map}
 use mathlib.Core.Path.{_≡_, refl}
-use Rattle.mailbox_state.specs.State.{offOf}
+use Rattle.mailbox_state.specs.State.{offOf, noChanges}
 use Rattle.mailbox_state.specs.Status.{runsOf, dueOf}
 use Rattle.mailbox_state.specs.declared.state.Notifications.the-variants.{Off, On}
 use Rattle.mailbox_state.specs.declared.status.Command.{Command}
@@ -29,3 +29,6 @@ off-off = refl
 pub on-any-mask : (mask : ℕ) → offOf (On mask) ≡ false
 unfolding offOf
 on-any-mask mask = refl
+
+pub cleared : (noChanges .shown ≡ 0) × (noChanges .waiting ≡ false ∷ false ∷ false ∷ false ∷ false ∷ false ∷ false ∷ false ∷ [])
+cleared = (refl, refl)

@@ -13,7 +13,7 @@ use Rattle.script.specs.Fields.{nextFieldOf, isLastField}
 use Rattle.saying.specs.Said.{said, emptyText, notUnderstood, saidTextOf, appendedOf, characterOf, saidLinesOf}
 use Rattle.saying.specs.Hex.{hexByteTextOf, hexWordTextOf, hexShownOf}
 use Rattle.saying.specs.Decimal.{frontOf, numberTextOf, rangeOf}
-use Rattle.saying.specs.Look.{lookFitsOf, lookOf}
+use Rattle.saying.specs.Look.{lookOf}
 use Rattle.saying.specs.declared.said.Said.{Said}
 
 abbrev blank : Said
@@ -35,5 +35,5 @@ pub record Cases : Type 0 where
   pub no-lines : saidTextOf (saidLinesOf blank []) ≡ 0x20 ∷ 0x2D ∷ []
 
 pub cases : Cases
-unfolding pick emptyText appendedOf characterOf saidLinesOf hexShownOf frontOf rangeOf digitOf indexOf indexAfter firstWordOf scriptWordAt digitIn addedOf decimalStepOf nextFieldOf isLastField lookFitsOf lookOf
+unfolding pick emptyText appendedOf characterOf saidLinesOf hexShownOf frontOf rangeOf digitOf indexOf indexAfter firstWordOf scriptWordAt digitIn addedOf decimalStepOf nextFieldOf isLastField lookOf
 cases = record { byte = refl; wide = refl; bytes = refl; no-bytes = refl; number = refl; one = refl; two = refl; lines = refl; looked = refl; too-far = refl; no-lines = refl }

@@ -1,8 +1,8 @@
 -- Two numbers of a line that name bytes of a memory: a place and a count.
 use Prim.Native.Nat.{ℕ}
-use mathlib.Core.Bool.{Bool, false}
+use mathlib.Core.Bool.{not}
 use mathlib.Core.List.{List}
-use lib.Dec.{leb}
+use lib.Dec.{ltb}
 use lib.ListN.{length, take, drop}
 use Rattle.basis.specs.Pick.{pick}
 use Rattle.script.specs.Fields.{fieldsBegun, nextFieldOf, isLastField}
@@ -21,14 +21,9 @@ lookCountOf words memory = nextFieldOf (lookPlaceOf words memory) words spelledR
 abbrev pub lookFromOf : List ℕ → List ℕ → List ℕ
 lookFromOf words memory = drop (lookPlaceOf words memory .value) memory
 
--- Whether the line has these two numbers alone, and the memory has that many bytes from the place on.
-unfoldable pub lookFitsOf : List ℕ → List ℕ → Bool
-lookFitsOf words memory =
-    pick (isLastField (lookCountOf words memory) words)
-    (leb (lookCountOf words memory .value) (length (lookFromOf words memory)))
-    false
-
+-- The line has these two numbers alone, and the memory has that many bytes from the place on.
 unfoldable pub lookOf : List ℕ → List ℕ → Said
 lookOf words memory =
-    pick (lookFitsOf words memory) (hexShownOf emptyText (take (lookCountOf words memory .value) (lookFromOf words memory)))
-    notUnderstood
+    pick (not (isLastField (lookCountOf words memory) words)) notUnderstood
+    (pick (ltb (length (lookFromOf words memory)) (lookCountOf words memory .value)) notUnderstood
+    (hexShownOf emptyText (take (lookCountOf words memory .value) (lookFromOf words memory))))

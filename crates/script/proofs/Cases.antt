@@ -4,7 +4,7 @@ use mathlib.Core.Bool.{true, false}
 use mathlib.Core.List.{List, [], _∷_}
 use mathlib.Core.Path.{_≡_, refl}
 use lib.ListN.{take}
-use Rattle.basis.specs.Pick.{pick}
+use Rattle.basis.specs.Pick.{pick, differ}
 use Rattle.bytes.specs.Bytes.{indexOf, indexAfter}
 use Rattle.script.specs.Words.{firstWordOf, afterFirstWordOf, scriptWordAt}
 use Rattle.script.specs.Digits.{digitReadOf, byteReadOf}
@@ -31,5 +31,5 @@ pub record Cases : Type 0 where
   pub no-byte : spellOf noByte .known ≡ false
 
 pub cases : Cases
-unfolding pick indexOf indexAfter firstWordOf afterFirstWordOf scriptWordAt digitReadOf byteReadOf addedOf decimalStepOf countedRunOf timesOf byteRunOf spelledZeros spelledIn spelledGrown spelledTurns
+unfolding pick differ indexOf indexAfter firstWordOf afterFirstWordOf scriptWordAt digitReadOf byteReadOf addedOf decimalStepOf countedRunOf timesOf byteRunOf spelledZeros spelledIn spelledGrown spelledTurns
 cases = record { first-word = refl; behind-it = refl; ten = refl; too-much = refl; nothing = refl; three = refl; they-are = refl; no-byte = refl }

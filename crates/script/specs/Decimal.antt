@@ -1,6 +1,6 @@
 -- Numbers read in decimal; one above `most` is not known.
 use Prim.Native.Nat.{ℕ, _+_, _*_}
-use mathlib.Core.Bool.{true, false}
+use mathlib.Core.Bool.{true, false, not}
 use mathlib.Core.List.{List, foldl}
 use lib.Dec.{ltb}
 use lib.ListN.{length}
@@ -20,7 +20,7 @@ addedOf most n d =
 
 -- One more character is read.
 unfoldable pub decimalStepOf : ℕ → Number → ℕ → Number
-decimalStepOf most read c = pick (read .known) (addedOf most (read .value) (digitReadOf c)) noNumber
+decimalStepOf most read c = pick (not (read .known)) noNumber (addedOf most (read .value) (digitReadOf c))
 
 -- Without a character there is no number.
 abbrev pub decimalBegun : List ℕ → Number

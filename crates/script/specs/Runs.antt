@@ -1,10 +1,11 @@
 -- A word that spells bytes: HH, or HH*N for N of them.
 use Prim.Native.Nat.{ℕ}
+use mathlib.Core.Bool.{not}
 use mathlib.Core.List.{List}
 use lib.Dec.{eqb, ltb}
 use lib.ListN.{length, drop}
 use Rattle.basis.specs.Bytes.{byteAt}
-use Rattle.basis.specs.Pick.{pick}
+use Rattle.basis.specs.Pick.{pick, differ}
 use Rattle.script.specs.Digits.{byteReadOf}
 use Rattle.script.specs.Decimal.{decimalReadOf}
 use Rattle.script.specs.declared.digit.Byte.{Byte}
@@ -20,7 +21,7 @@ abbrev pub timesMost : ℕ
 timesMost = 9999
 
 abbrev pub asOften : ℕ → Number → Run
-asOften byte n = pick (n .known) (Of byte (n .value)) Other
+asOften byte n = pick (not (n .known)) Other (Of byte (n .value))
 
 unfoldable pub countedRunOf : ℕ → List ℕ → Run
 countedRunOf byte digits = asOften byte (decimalReadOf digits timesMost)
@@ -29,8 +30,8 @@ countedRunOf byte digits = asOften byte (decimalReadOf digits timesMost)
 unfoldable pub timesOf : ℕ → List ℕ → Run
 timesOf byte tail =
     pick (eqb (length tail) 0) (Of byte 1)
-    (pick (eqb (byteAt tail 0) star) (countedRunOf byte (drop 1 tail))
-    Other)
+    (pick (differ (byteAt tail 0) star) Other
+    (countedRunOf byte (drop 1 tail)))
 
 abbrev pub behindByte : List ℕ → Byte → Run
 behindByte tail (Is byte) = timesOf byte tail

@@ -30,10 +30,10 @@ pub fn decimal(s: &[u8], most: usize) -> Number
 fn step(read: Number, c: u8, most: usize) -> Number
     ensures { λ r. ⌜ r ≡ decimalStepOf most read c ⌝ }
 {
-    if read.known {
-        return added(read.value, digit(c), most);
+    if !read.known {
+        return unknown();
     }
-    unknown()
+    added(read.value, digit(c), most)
 }
 
 fn unknown() -> Number

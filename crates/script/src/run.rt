@@ -33,21 +33,21 @@ fn times_of(byte: u8, tail: &[u8]) -> Run
     if tail.len() == 0 {
         return Run::Of { byte, times: 1 };
     }
-    if tail[0] == b'*' {
-        return counted(byte, from(tail, 1));
+    if tail[0] != b'*' {
+        return Run::Other;
     }
-    Run::Other
+    counted(byte, from(tail, 1))
 }
 
 fn counted(byte: u8, digits: &[u8]) -> Run
     ensures { λ r. ⌜ r ≡ countedRunOf byte (now (digits .entry)) ⌝ }
 {
     let times = decimal(digits, TIMES_MOST);
-    if times.known {
-        return Run::Of {
-            byte,
-            times: times.value,
-        };
+    if !times.known {
+        return Run::Other;
     }
-    Run::Other
+    Run::Of {
+        byte,
+        times: times.value,
+    }
 }

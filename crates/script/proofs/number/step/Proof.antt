@@ -10,7 +10,7 @@ step-spec =
     tie.close
     (tie.spec
     (λ c κs. search needs)
+    (λ c. rw (c .unknown .ensures) (search tests))
     (λ c κs. search needs)
-    (λ c. rw (c .added .ensures, c .before .digit .ensures) (search tests))
     (λ c κs. search needs)
-    (λ c. rw (c .unknown .ensures) (search tests)))
+    (λ c. rw (c .added .ensures, c .before .digit .ensures) (search tests)))

@@ -10,5 +10,5 @@ counted-spec =
     tie.close
     (tie.spec
     (λ c κs. search needs)
-    (λ c. rw (← c .before .decimal .ensures) (search tests))
-    (λ c. rw (← c .before .decimal .ensures) (search tests)))
+    (λ c. rw (← c .before .before .decimal .ensures) (search tests))
+    (λ c. rw (← c .before .before .decimal .ensures) (search tests)))

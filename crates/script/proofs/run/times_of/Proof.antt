@@ -11,7 +11,7 @@ times-of-spec =
     (tie.spec
     (λ c. search tests)
     (λ c. search needs)
+    (λ c. search tests)
     (λ c κs. search needs)
     (λ c κs. search needs)
-    (λ c. rw (c .counted .ensures, c .before .from .ensures) (search tests))
-    (λ c. search tests))
+    (λ c. rw (c .counted .ensures, c .before .from .ensures) (search tests)))
