@@ -9,7 +9,7 @@ use Rattle.image.proofs.Laws.{least}
 use Rattle.wire.specs.Codes.{imageSizeMost}
 use Rattle.wire.specs.Request as message
 use Rattle.wire.specs.Written.{requestBytes, headBytes}
-use Rattle.wire.specs.Fields.{Words, BuiltRequest, Sendable}
+use Rattle.wire.specs.Fields.{Words, Sendable}
 use Rattle.wire.specs.declared.request.Versions.{Versions}
 use Rattle.wire.specs.declared.request.Request.{Request}
 use Rattle.wire.specs.declared.request.Request.the-variants as Req
@@ -27,8 +27,8 @@ use Rattle.indoor_rules.specs.History.{Genuine}
 use Rattle.indoor_rules.proofs.Block.{block-most}
 
 -- A request without a block is read as what it is.
-pub whole-read : (r : Request) → BuiltRequest r → Sendable r [] → message.parsedRequestOf (requestBytes r) ≡ Par.Valid r
-whole-read r built can = rw (append-nil (requestBytes r)) at (request-back r [] built can)
+pub whole-read : (r : Request) → Sendable r [] → message.parsedRequestOf (requestBytes r) ≡ Par.Valid r
+whole-read r can = rw (append-nil (requestBytes r)) at (request-back r [] can)
 
 module _ (versions : Versions) (file : List ℕ) where
   read-as : (m : List ℕ) (p : Parsed) → message.parsedRequestOf m ≡ p → Genuine versions file m p → Genuine versions file m (message.parsedRequestOf m)
@@ -37,7 +37,7 @@ module _ (versions : Versions) (file : List ℕ) where
   -- DATA is read as the number and the size of its block.
   pub block-read : (number : ℕ) → number < 65536 → message.parsedRequestOf (blockBytes file number) ≡ Par.Valid (Req.Data number (length (blockAt file number)))
   unfolding blockBytes
-  block-read number low = request-back (Req.Data number (length (blockAt file number))) (blockAt file number) tt (low, refl, block-most file number)
+  block-read number low = request-back (Req.Data number (length (blockAt file number))) (blockAt file number) (low, refl, block-most file number)
 
   block-carried : (number : ℕ) → drop 4 (blockBytes file number) ≡ blockAt file number
   unfolding blockBytes requestBytes headBytes
@@ -48,19 +48,19 @@ module _ (versions : Versions) (file : List ℕ) where
       let low = least (length file) 4096 (omega arith) in
       read-as (blockBytes file number) (Par.Valid (Req.Data number (length (blockAt file number)))) (block-read number (omega arith)) (h, block-carried number)
 
-  whole-genuine : (r : Request) → BuiltRequest r → Sendable r [] → Genuine versions file (requestBytes r) (Par.Valid r)
+  whole-genuine : (r : Request) → Sendable r [] → Genuine versions file (requestBytes r) (Par.Valid r)
       → Genuine versions file (requestBytes r) (message.parsedRequestOf (requestBytes r))
-  whole-genuine r built can h = read-as (requestBytes r) (Par.Valid r) (whole-read r built can) h
+  whole-genuine r can h = read-as (requestBytes r) (Par.Valid r) (whole-read r can) h
 
   sends-genuine : (plan : Plan) (sends : Sends) → Words versions → plan .length ≡ length file → length file ≤ imageSizeMost → Within plan sends → (length (sendsBytes versions file sends) ≡ 0 → ⊥)
       → Genuine versions file (sendsBytes versions file sends) (message.parsedRequestOf (sendsBytes versions file sends))
   unfolding sendsBytes
   sends-genuine plan Nothing words lent most h some = absurd (some refl)
-  sends-genuine plan GetFwId words lent most h some = whole-genuine Req.GetFwId tt refl tt
-  sends-genuine plan Initiate words lent most h some = whole-genuine (Req.Initiate versions) tt (refl, words) refl
+  sends-genuine plan GetFwId words lent most h some = whole-genuine Req.GetFwId refl tt
+  sends-genuine plan Initiate words lent most h some = whole-genuine (Req.Initiate versions) (refl, words) refl
   sends-genuine plan (Block number) words lent most h some = block-genuine number most (rw (← lent) h)
-  sends-genuine plan Validate words lent most h some = whole-genuine Req.Validate tt refl tt
-  sends-genuine plan Abort words lent most h some = whole-genuine Req.Abort tt refl tt
+  sends-genuine plan Validate words lent most h some = whole-genuine Req.Validate refl tt
+  sends-genuine plan Abort words lent most h some = whole-genuine Req.Abort refl tt
 
 -- What goes out with an answer, where anything does, is genuine.
 pub bytes-genuine : (plan : Plan) (file : List ℕ) (answer : Answer) → Words (plan .release .versions) → plan .length ≡ length file → length file ≤ imageSizeMost

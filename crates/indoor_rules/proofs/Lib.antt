@@ -17,3 +17,4 @@ pub mod Genuine
 pub mod Holds
 pub mod Reached
 pub mod Fresh
+pub mod NotBuilt

@@ -183,28 +183,28 @@ module _ (file memory : List ℕ) (release : Release) (identity : Identity) wher
       moves-up : Course k x → Course (suc k) next
       unfolding sendsBytes requestBytes replyBytes replyOf replies.getFwIdReply replies.initiateReply replies.validateReply responseBytes identifiedBytes initiatedBytes validatedBytes pick
       moves-up (asking c lies at) =
-          identified (omega arith) (heard-lies file memory release identity x s out room (asks Ans.Identifying) Idle Req.GetFwId (goesTo Idle Identified) (at .receiver) (at .rising) (whole-read Req.GetFwId tt refl)
+          identified (omega arith) (heard-lies file memory release identity x s out room (asks Ans.Identifying) Idle Req.GetFwId (goesTo Idle Identified) (at .receiver) (at .rising) (whole-read Req.GetFwId refl)
           (rows.identified-everywhere (length memory) Idle 0 Ver.Good) refl lies request later e)
-          (heard file memory release identity x s out room (asks Ans.Identifying) Idle In.Identify Req.GetFwId (goesTo Idle Identified) 1 at (whole-read Req.GetFwId tt refl)
+          (heard file memory release identity x s out room (asks Ans.Identifying) Idle In.Identify Req.GetFwId (goesTo Idle Identified) 1 at (whole-read Req.GetFwId refl)
           (rows.identified-everywhere (length memory) Idle 0 Ver.Good) request later e)
       moves-up (identified c lies at) = absurd (no-message (x .up) later request (at .rising) e)
       moves-up (notNewer c new lies at) = absurd (no-message (x .up) later request (at .rising) e)
       moves-up (initiating c new lies at) =
           offered (omega arith) new
           (heard-lies file memory release identity x s out room (asks Ans.Initiating) Idle (Req.Initiate (release .versions)) (goesTo (Transfer (receiverProgress nothingAccepted false)) (Offered 0)) (at .receiver) (at .rising)
-          (whole-read (Req.Initiate (release .versions)) tt (refl, wide .offered))
+          (whole-read (Req.Initiate (release .versions)) (refl, wide .offered))
           (rows.idle-ready (length memory) (release .versions) Ver.Good) refl lies request later e)
           (heard file memory release identity x s out room (asks Ans.Initiating) Idle (In.Initiate 0) (Req.Initiate (release .versions)) (goesTo (Transfer (receiverProgress nothingAccepted false)) (Offered 0)) 2 at
-          (whole-read (Req.Initiate (release .versions)) tt (refl, wide .offered))
+          (whole-read (Req.Initiate (release .versions)) (refl, wide .offered))
           (rows.idle-ready (length memory) (release .versions) Ver.Good) request later e)
       moves-up (offered c new lies at) = absurd (no-message (x .up) later request (at .rising) e)
       moves-up (tooLarge c new large lies at) =
           aborted (omega arith) new large
           (heard-lies file memory release identity x s out room (asks (Ans.Failed Why.TooLarge)) (Transfer (receiverProgress nothingAccepted false)) Req.Abort (goesTo Idle Aborted) (at .receiver) (at .rising)
-          (whole-read Req.Abort tt refl)
+          (whole-read Req.Abort refl)
           (rows.transfer-aborted (length memory) 0 Ver.Good (receiverProgress nothingAccepted false)) refl lies request later e)
           (heard file memory release identity x s out room (asks (Ans.Failed Why.TooLarge)) (Transfer (receiverProgress nothingAccepted false)) (In.Failed Why.TooLarge) Req.Abort (goesTo Idle Aborted) 3 at
-          (whole-read Req.Abort tt refl)
+          (whole-read Req.Abort refl)
           (rows.transfer-aborted (length memory) 0 Ver.Good (receiverProgress nothingAccepted false)) request later e)
       moves-up (aborted c new large lies at) = absurd (no-message (x .up) later request (at .rising) e)
       moves-up (block j p q c fit low due whole emptied at) = block-either j p q c fit (low-or-last j n (ltb j n) refl low) due whole emptied at
@@ -213,7 +213,7 @@ module _ (file memory : List ℕ) (release : Release) (identity : Identity) wher
       moves-up (validating a c fit at) =
           succeeded a (omega arith) fit
           (heard file memory release identity x s out room (asks Ans.Validating) (Await a) (In.Validate 0) Req.Validate (goesTo (Good a) Success) (4 + n) at
-          (whole-read Req.Validate tt refl)
+          (whole-read Req.Validate refl)
           (rows.verdict-good (length memory) 0 a) request later e)
       moves-up (succeeded a c fit at) = absurd (no-message (x .up) later request (at .rising) e)
       moves-up (finished a c fit at) = absurd (no-message (x .up) later request (at .rising) e)
@@ -230,17 +230,17 @@ module _ (file memory : List ℕ) (release : Release) (identity : Identity) wher
 
       identity-read : answer.parsedResponseOf (says Identified) ≡ ResPar.Valid (Res.GetFwId 0 (cleared identity))
       unfolding replyBytes replyOf replies.getFwIdReply
-      identity-read = response-back (Res.GetFwId 0 identity) tt (wide .vendor, wide .product, wide .reported)
+      identity-read = response-back (Res.GetFwId 0 identity) (wide .vendor, wide .product, wide .reported)
 
       offer-read : answer.parsedResponseOf (says (Offered 0)) ≡ ResPar.Valid (Res.Initiate 0 0 (length memory))
       unfolding replyBytes replyOf replies.initiateReply
       offer-read =
           let most = reached-capacity (s .accepted .reached) in
           let capacity = s .capacity in
-          response-back (Res.Initiate 0 0 (length memory)) tt (omega arith)
+          response-back (Res.Initiate 0 0 (length memory)) (omega arith)
 
       receipt-read : (wait number : ℕ) → number < 65536 → answer.parsedResponseOf (responseBytes (Res.Data 0 wait number)) ≡ ResPar.Valid (Res.Data 0 wait number)
-      receipt-read wait number h = response-back (Res.Data 0 wait number) tt h
+      receipt-read wait number h = response-back (Res.Data 0 wait number) h
 
       -- The file is newer or not.
       compared : (t : Bool) → newerOf release identity ≡ t → k ≡ 1 → x .world .image ≡ memory → At x Idle In.Identify [] (says Identified ∷ []) 1 → Course (suc k) then
@@ -321,7 +321,7 @@ module _ (file memory : List ℕ) (release : Release) (identity : Identity) wher
           finished a (omega arith) fit
           (counted
           (answered file memory release identity x s out room wide (says Success) (Good a) (In.Validate 0) In.Done (Res.Validate 0 0 true) Ans.Finished (4 + n) at
-          (response-back (Res.Validate 0 0 true) tt tt)
+          (response-back (Res.Validate 0 0 true) tt)
           (responses.validated (i .plan) (i .state .silence) (i .state .resends) 0) response later e)
           (omega arith))
       moves-down (finished a c fit at) = absurd (no-message (x .down) later response (at .falling) e)

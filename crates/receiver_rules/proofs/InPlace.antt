@@ -1,5 +1,5 @@
--- Over any calls from a fresh session with the same memory, what the receiver counts as accepted lies in the image: the accepted blocks, in
--- order, one after the other (01, Programs that should not pass).
+-- Over any calls from a fresh session, each lent the same memory or one of another length, what the receiver counts as accepted lies in the
+-- image: the accepted blocks, in order, one after the other (01, Programs that should not pass).
 use Prim.Native.Nat.{ℕ, _+_, _*_, _-_, _≤_}
 use mathlib.Core.Path.{_≡_, refl, _∙_, ap}
 use mathlib.Core.List.{List, [], _∷_}

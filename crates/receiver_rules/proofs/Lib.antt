@@ -21,3 +21,4 @@ pub mod Reached
 pub mod InPlace
 pub mod OfFile
 pub mod Truthful
+pub mod NotBuilt

@@ -4,7 +4,7 @@ use mathlib.Core.Bool.{false}
 use mathlib.Core.Path.{_≡_, refl}
 use mathlib.Core.List.{List}
 use lib.Dec.{eqb}
-use lib.ListN.{drop}
+use lib.ListN.{length, drop}
 use Rattle.basis.specs.Pick.{pick}
 use Rattle.wire.specs.Request as message
 use Rattle.wire.specs.declared.request.Request.the-variants as Req
@@ -16,9 +16,10 @@ use Rattle.receiver_state.specs.declared.phase.Phase.the-variants.{Idle, Transf
 use Rattle.receiver_state.specs.declared.verdict.Verdict.{Verdict}
 use Rattle.receiver_rules.specs.Request.{receiverRequestOf}
 use Rattle.receiver_rules.specs.Time.{receiverTimeOf}
-use Rattle.receiver_rules.specs.History.{blockAnswered, acceptsBlock, forgets, RequestCall, takenBy, takenAfter, Reached, starts, asks, passes}
+use Rattle.receiver_rules.specs.History.{blockAnswered, acceptsBlock, forgets, RequestCall, takenBy, takenAfter, Reached, starts, asks, asksWithOther, passes}
 use Rattle.receiver_state.specs.declared.session.Receiver.{Receiver}
 use Rattle.receiver_rules.proofs.Walk.{request-walk}
+use Rattle.receiver_rules.proofs.Answers.{answers-28}
 use Rattle.receiver_rules.proofs.Laws.{settings-stay}
 use Rattle.receiver_rules.proofs.TimeLaws.{time-lasts, time-settings}
 use Rattle.receiver_rules.proofs.Held.{Held, forgets-held}
@@ -78,6 +79,11 @@ module _ (r : Receiver) (image : List ℕ) (taken : List (List ℕ)) (h : Holds 
       (refused request 28 refl) (refused request 27 refl) (refused request 26 refl) (refused request 20 refl)
       (λ q lent _ e. rw e (decide-keeps (r .capacity) image request taken readiness verdict lent (r .phase) q e h))
 
+  other-holds : (lent : List ℕ) → (length lent ≡ r .capacity → ⊥) → (request : List ℕ) (readiness : ℕ) (verdict : Verdict) (out : List ℕ)
+      → Holds (receiverRequestOf r lent request readiness verdict out .outcome .session) image
+      (takenAfter r request (receiverRequestOf r lent request readiness verdict out .outcome) taken)
+  other-holds lent other request readiness verdict out = rw (answers-28 r lent request readiness verdict out other) (refused request 28 refl)
+
   passes-holds : (elapsed : ℕ) (out : List ℕ) → Holds (receiverTimeOf r elapsed out .answer .session) image (forgets (receiverTimeOf r elapsed out .answer .session .phase) taken)
   passes-holds elapsed out =
       rw (time-settings r elapsed out .2)
@@ -86,9 +92,12 @@ module _ (r : Receiver) (image : List ℕ) (taken : List (List ℕ)) (h : Holds 
 pub reached-holds : {r : Receiver} {image : List ℕ} {taken : List (List ℕ)} → Reached r image taken → Held (r .capacity) image taken (r .phase)
 reached-holds (starts limit resends identity capacity r image e) = rw (start-fresh limit resends identity capacity r e .idle) refl
 reached-holds (asks {r = r} {image = image} {taken = taken} h request readiness verdict out) = asks-holds r image taken (reached-holds h) request readiness verdict out
+reached-holds (asksWithOther {r = r} {image = image} {taken = taken} h lent other request readiness verdict out) =
+    other-holds r image taken (reached-holds h) lent other request readiness verdict out
 reached-holds (passes {r = r} {image = image} {taken = taken} h elapsed out) = passes-holds r image taken (reached-holds h) elapsed out
 
 pub reached-capacity : {r : Receiver} {image : List ℕ} {taken : List (List ℕ)} → Reached r image taken → r .capacity ≤ 1048575
 reached-capacity (starts limit resends identity capacity r image e) = start-fresh limit resends identity capacity r e .within
 reached-capacity (asks {r = r} {image = image} h request readiness verdict out) = rw (settings-stay r image request readiness verdict out .2) (reached-capacity h)
+reached-capacity (asksWithOther {r = r} h lent other request readiness verdict out) = rw (settings-stay r lent request readiness verdict out .2) (reached-capacity h)
 reached-capacity (passes {r = r} h elapsed out) = rw (time-settings r elapsed out .2) (reached-capacity h)

@@ -53,6 +53,7 @@ module _ (image request : List ℕ) (capacity : ℕ) (room : length image ≡ ca
   taken-stored p q number then e t =
       let parsed : message.parsedRequestOf request ≡ Valid (Req.Data number (t .size)) = e ∙ ap (λ x. Valid x) (t .is-data) in
       let size = request-sized request (Req.Data number (t .size)) parsed in
+      let short = size .2 in
       let fits = t .fits in
       let at : 256 * number ≤ length image = omega arith in
       let put = ap (λ x. x .memory) (put-fits image (256 * number) (drop 4 request) (omega arith)) in
@@ -67,7 +68,7 @@ module _ (image request : List ℕ) (capacity : ℕ) (room : length image ≡ ca
         due = t .due;
         whole = t .whole;
         some = t .some;
-        most = size .2;
+        most = omega arith;
         low = t .low;
         lent = room;
         fits = fits;

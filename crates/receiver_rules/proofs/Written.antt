@@ -11,7 +11,7 @@ use Rattle.wire.proofs.RequestBytes.{inner}
 use Rattle.wire.specs.Codes.{longest}
 use Rattle.wire.specs.Request as message
 use Rattle.wire.specs.Response as response
-use Rattle.wire.specs.Fields.{BuiltResponse, Answerable, asRead}
+use Rattle.wire.specs.Fields.{Answerable, asRead}
 use Rattle.wire.proofs.RoundTrip.{response-back}
 use Rattle.wire.specs.declared.request.Request.{Request}
 use Rattle.wire.specs.declared.request.Request.the-variants as Req
@@ -61,10 +61,10 @@ module _ (r : Receiver) (out : List ℕ) (outcome : Outcome) (out′ : List ℕ)
   first-bytes = rw (l .written, l .first) (take-append-seam (receiverBytesOf r (outcome .answer)) (drop (length (receiverBytesOf r (outcome .answer))) out))
 
   -- What was written is one message: a reader finds the answer's response in it.
-  pub read-back : (sent : Response) → replyOf (r .identity) (r .capacity) (outcome .answer) ≡ Sends sent → BuiltResponse sent → Answerable sent
+  pub read-back : (sent : Response) → replyOf (r .identity) (r .capacity) (outcome .answer) ≡ Sends sent → Answerable sent
       → response.parsedResponseOf (take (outcome .written) out′) ≡ ResPar.Valid (asRead sent)
   unfolding replyBytes
-  read-back sent e built can = rw (first-bytes, e) (response-back sent built can)
+  read-back sent e can = rw (first-bytes, e) (response-back sent can)
 
   pub rest-kept : drop (outcome .written) out′ ≡ drop (outcome .written) out
   rest-kept = rw (l .written, l .first) (drop-append-seam (receiverBytesOf r (outcome .answer)) (drop (length (receiverBytesOf r (outcome .answer))) out))

@@ -1,11 +1,12 @@
--- Any calls from a fresh session, the same memory lent at each, and the blocks that were accepted: found by the requests, the numbers answered
--- and the phases alone, never by the receiver's own counts (01, Programs that should not pass: accepted is tied to bytes in place).
+-- Any calls from a fresh session, each lent the same memory or one of another length, and the blocks that were accepted: found by the requests,
+-- the numbers answered and the phases alone, never by the receiver's own counts (01, Programs that should not pass: accepted is tied to bytes in
+-- place).
 use Prim.Native.Nat.{ℕ}
 use mathlib.Core.Bool.{Bool, false, _&&_}
 use mathlib.Core.Path.{_≡_}
 use mathlib.Core.List.{List, [], _∷_, _++_}
 use lib.Dec.{ltb, eqb}
-use lib.ListN.{drop}
+use lib.ListN.{length, drop}
 use Rattle.basis.specs.Pick.{pick}
 use Rattle.wire.specs.Codes.{dataHead}
 use Rattle.wire.specs.Request as message
@@ -75,11 +76,16 @@ abbrev pub inOrder : List (List ℕ) → List ℕ
 inOrder [] = []
 inOrder (block ∷ taken) = inOrder taken ++ block
 
--- A session, the image, and the accepted blocks, the newest first, after any calls.
+-- A session, the image, and the accepted blocks, the newest first, after any calls. A call that is lent memory of another length (28) does not
+-- touch the image.
 pub data Reached : Receiver → List ℕ → List (List ℕ) → Type 0 where
   starts : (limit resends : ℕ) (identity : Identity) (capacity : ℕ) (r : Receiver) (image : List ℕ) → receiverStartOf limit resends identity capacity ≡ Made r → Reached r image []
   asks : {r : Receiver} {image : List ℕ} {taken : List (List ℕ)} → Reached r image taken → (request : List ℕ) (readiness : ℕ) (verdict : Verdict) (out : List ℕ)
       → Reached (receiverRequestOf r image request readiness verdict out .outcome .session) (receiverRequestOf r image request readiness verdict out .image)
       (takenAfter r request (receiverRequestOf r image request readiness verdict out .outcome) taken)
+  asksWithOther : {r : Receiver} {image : List ℕ} {taken : List (List ℕ)} → Reached r image taken → (lent : List ℕ) → (length lent ≡ r .capacity → ⊥)
+      → (request : List ℕ) (readiness : ℕ) (verdict : Verdict) (out : List ℕ)
+      → Reached (receiverRequestOf r lent request readiness verdict out .outcome .session) image
+      (takenAfter r request (receiverRequestOf r lent request readiness verdict out .outcome) taken)
   passes : {r : Receiver} {image : List ℕ} {taken : List (List ℕ)} → Reached r image taken → (elapsed : ℕ) (out : List ℕ)
       → Reached (receiverTimeOf r elapsed out .answer .session) image (forgets (receiverTimeOf r elapsed out .answer .session .phase) taken)

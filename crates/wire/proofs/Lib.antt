@@ -6,3 +6,5 @@ pub mod Fits
 pub mod Sizes
 pub mod ResponseBytes
 pub mod Types
+pub mod LayoutWritten
+pub mod LayoutRead

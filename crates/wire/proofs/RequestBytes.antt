@@ -1,15 +1,15 @@
--- Every byte string that is read as a request is the bytes that writing it gives, with the block behind its head, exactly where it is built;
--- and its fields are such as can be sent.
+-- Every byte string that is read as a request is the bytes that writing it gives, with the block behind its head, exactly where it is built,
+-- and can then be sent; else its type is one of those that are known and not built.
 use borrow.Author.Tests.{ltb-false}
 use Prim.Native.Nat.{ℕ, _≤_}
 use mathlib.Core.Path.{_≡_, refl, _∙_}
-use mathlib.Core.List.{List, [], _++_}
+use mathlib.Core.List.{List, [], _++_, List·Memᴰ, List·Memᴰ·head, List·Memᴰ·tail}
 use native.Mathlib.Omega.{arith}
 use lib.ListN.{length, drop, length-drop}
 use lib.Dec.{ltb}
 use Rattle.basis.specs.Pick.{pick-all}
 use Rattle.basis.specs.Lists.{spell, spelled, spelled-all}
-use Rattle.wire.specs.Codes.{getFwId, initiate, datum, validate, abort, dataNr, dataPause, vendorSpecific}
+use Rattle.wire.specs.Codes.{getFwId, initiate, datum, validate, abort, dataNr, dataPause, vendorSpecific, requestsNotBuilt}
 use Rattle.basis.specs.Bytes.{Bytes, byteAt}
 use Rattle.wire.specs.Numbers.{wordAt}
 use Rattle.wire.specs.Identity.{versionsAt}
@@ -25,9 +25,11 @@ use Rattle.wire.proofs.Halves.{bytes-low, bytes-high, bytes-word}
 
 -- How the bytes of m agree with the request r that they are read as.
 pub record Same (m : List ℕ) (r : Request) : Type 0 where
+  pub header : Headed m
   pub there : BuiltRequest r → requestBytes r ++ blockIn m r ≡ m
   pub back : requestBytes r ++ blockIn m r ≡ m → BuiltRequest r
-  pub fields : Sendable r (blockIn m r)
+  pub fields : BuiltRequest r → Sendable r (blockIn m r)
+  pub type : (BuiltRequest r → ⊥) → List·Memᴰ (byteAt m 1) requestsNotBuilt
 
 pub inner : (a b : Request) → Valid a ≡ Valid b → a ≡ b
 inner a b e = cc
@@ -55,18 +57,19 @@ data-same m small v e n =
     rw (bytes-low m small 2 3, bytes-high m small 2 3) (cc (spelled 0 4 m 0 4 refl n, v, e))
 
 module _ (m : List ℕ) (small : Bytes m) (h : Headed m) where
+  built : (r : Request) → BuiltRequest r → requestBytes r ++ blockIn m r ≡ m → Sendable r (blockIn m r) → Same m r
+  built r b w f = record { header = h; there = λ _. w; back = λ _. b; fields = λ _. f; type = λ n. absurd (n b) }
+
   bare-read : (q : Request) (t : ℕ) → byteAt m 1 ≡ t → requestBytes q ++ blockIn m q ≡ bareBytes t ++ [] → BuiltRequest q → Sendable q (blockIn m q)
       → HoldsOf requests (Same m) (bareIn m q)
   unfolding bareIn
-  bare-read q t e w b f =
-      of-length requests (Same m) m 2 q (λ n. record { there = λ _. w ∙ bare-same m t (h .version) e n; back = λ _. b; fields = f })
+  bare-read q t e w b f = of-length requests (Same m) m 2 q (λ n. built q b (w ∙ bare-same m t (h .version) e n) f)
 
   initiate-read : byteAt m 1 ≡ initiate → HoldsOf requests (Same m) (initiateIn m)
   unfolding initiateIn requestBytes
   initiate-read e =
       let word = bytes-word m small in
-      of-length requests (Same m) m 10 _
-      (λ n. record { there = λ _. initiate-same m small (h .version) e n; back = λ _. tt; fields = (refl, (word 2, word 4, word 6, word 8)) })
+      of-length requests (Same m) m 10 _ (λ n. built _ tt (initiate-same m small (h .version) e n) (refl, (word 2, word 4, word 6, word 8)))
 
   data-read : byteAt m 1 ≡ datum → HoldsOf requests (Same m) (dataIn m)
   unfolding dataIn requestBytes
@@ -75,15 +78,19 @@ module _ (m : List ℕ) (small : Bytes m) (h : Headed m) where
       (λ f.
       let four = ltb-false (length m) 4 f in
       let short = h .short in
-      valid-holds requests (Same m) _
-      (record { there = λ _. data-same m small (h .version) e four; back = λ _. tt; fields = (bytes-word m small 2, length-drop 4 m, omega arith) }))
+      valid-holds requests (Same m) _ (built _ tt (data-same m small (h .version) e four) (bytes-word m small 2, length-drop 4 m, omega arith)))
 
-  not-built : HoldsOf requests (Same m) (Valid NotBuilt)
+  not-built : List·Memᴰ (byteAt m 1) requestsNotBuilt → HoldsOf requests (Same m) (Valid NotBuilt)
   unfolding requestBytes
-  not-built =
+  not-built known =
       let long = h .long in
-      valid-holds requests (Same m) NotBuilt
-      (record { there = λ b. absurd b; back = λ e. let l : length m ≡ 0 = rw (← e) in omega arith; fields = refl })
+      valid-holds requests (Same m) NotBuilt (record {
+        header = h;
+        there = λ b. absurd b;
+        back = λ e. let l : length m ≡ 0 = rw (← e) in omega arith;
+        fields = λ b. absurd b;
+        type = λ _. known;
+      })
 
   typed-read : HoldsOf requests (Same m) (requestOfType m (byteAt m 1))
   unfolding requestOfType requestBytes
@@ -94,9 +101,9 @@ module _ (m : List ℕ) (small : Bytes m) (h : Headed m) where
       (by datum _ _ data-read
       (by validate _ _ (λ e. bare-read Validate validate e refl tt refl)
       (by abort _ _ (λ e. bare-read Abort abort e refl tt refl)
-      (by dataNr _ _ (λ _. not-built)
-      (by dataPause _ _ (λ _. not-built)
-      (by vendorSpecific _ _ (λ _. not-built) (refused requests (Same m)))))))))
+      (by dataNr _ _ (λ e. not-built (List·Memᴰ·head e))
+      (by dataPause _ _ (λ e. not-built (List·Memᴰ·tail (List·Memᴰ·head e)))
+      (by vendorSpecific _ _ (λ e. not-built (List·Memᴰ·tail (List·Memᴰ·tail (List·Memᴰ·head e)))) (refused requests (Same m)))))))))
 
 pub request-same : (m : List ℕ) → Bytes m → (r : Request) → parsedRequestOf m ≡ Valid r → Same m r
 unfolding parsedRequestOf HoldsOf

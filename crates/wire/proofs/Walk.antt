@@ -1,6 +1,6 @@
 -- What holds of every message that a byte string can be read as, from what holds along each way that the reader takes.
 -- Requests and responses are read alike, so it is said once: R is the message, P the reader's answer.
-use borrow.Author.Tests.{ltb-false, eqb-true, not-false}
+use borrow.Author.Tests.{ltb-false, le-ltb, eqb-true, not-false}
 use Prim.Native.Nat.{ℕ, _≤_}
 use mathlib.Core.Bool.{Bool, true, false, not}
 use mathlib.Core.Path.{_≡_}
@@ -16,6 +16,10 @@ pub record Headed (m : List ℕ) : Type 0 where
   pub long : 2 ≤ length m
   pub short : length m ≤ 260
   pub version : byteAt m 0 ≡ 1
+
+pub says-header : (m : List ℕ) → Headed m → headed m ≡ true
+unfolding headed pick
+says-header m h = rw (le-ltb (length m) 2 (h .long), le-ltb 260 (length m) (h .short), h .version)
 
 pub header-says : (m : List ℕ) → headed m ≡ true → Headed m
 unfolding headed

@@ -1,5 +1,6 @@
 -- Each code and length of the messages, once. src/codes.rt has them for the code; the contracts tie the two.
 use Prim.Native.Nat.{ℕ}
+use mathlib.Core.List.{List, [], _∷_}
 
 -- 001 T5-2
 abbrev pub version : ℕ
@@ -55,6 +56,13 @@ dataPauseResponse = 0x07
 
 abbrev pub vendorSpecificResponse : ℕ
 vendorSpecificResponse = 0x7F
+
+-- The types that are known and not built (01, The parts of the cable job)
+abbrev pub requestsNotBuilt : List ℕ
+requestsNotBuilt = dataNr ∷ dataPause ∷ vendorSpecific ∷ []
+
+abbrev pub responsesNotBuilt : List ℕ
+responsesNotBuilt = dataPauseResponse ∷ vendorSpecificResponse ∷ []
 
 -- 001 T5-1: a header alone
 abbrev pub header : ℕ

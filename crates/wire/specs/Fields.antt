@@ -1,9 +1,9 @@
 -- What the fields of a message can hold, and what a reader gives back of them.
-use Prim.Native.Nat.{ℕ, _%_, _<_, _≤_}
+use Prim.Native.Nat.{ℕ, _+_, _%_, _<_, _≤_}
 use mathlib.Core.Path.{_≡_}
 use mathlib.Core.List.{List, []}
 use lib.ListN.{length, drop}
-use Rattle.wire.specs.Codes.{dataHead, imageSizeMost}
+use Rattle.wire.specs.Codes.{longest, dataHead, imageSizeMost}
 use Rattle.basis.specs.Bytes.{byteAt}
 use Rattle.wire.specs.Identity.{cleared}
 use Rattle.wire.specs.declared.request.Versions.{Versions}
@@ -31,14 +31,14 @@ BuiltResponse (Res.Data st w n) = Unit
 BuiltResponse (Res.Validate st w success) = Unit
 BuiltResponse Res.NotBuilt = ⊥
 
--- A request with the block behind it: numbers as wide as their fields, and a block of 0 to 256 bytes in DATA alone.
+-- A request that can be sent, with the block behind it: numbers as wide as their fields, and a block of 0 to 256 bytes in DATA alone.
 abbrev pub Sendable : Request → List ℕ → Type 0
 Sendable Req.GetFwId block = block ≡ []
 Sendable (Req.Initiate v) block = (block ≡ []) × Words v
 Sendable (Req.Data n size) block = (n < 65536) × (length block ≡ size) × (size ≤ 256)
 Sendable Req.Validate block = block ≡ []
 Sendable Req.Abort block = block ≡ []
-Sendable Req.NotBuilt block = block ≡ []
+Sendable Req.NotBuilt block = ⊥
 
 -- The block is the part of a DATA request from its fifth byte (01, Sizes and numbers).
 abbrev pub blockIn : List ℕ → Request → List ℕ
@@ -49,22 +49,22 @@ blockIn m Req.Validate = []
 blockIn m Req.Abort = []
 blockIn m Req.NotBuilt = []
 
--- The bytes of a DATA request hold its head and then a block of its size, 0 to 256 bytes.
+-- The bytes of a DATA request hold its head and then a block of its size, both in one message.
 abbrev pub Sized : List ℕ → Request → Type 0
 Sized m Req.GetFwId = Unit
 Sized m (Req.Initiate v) = Unit
-Sized m (Req.Data n size) = (dataHead ≤ length m) × (length (drop dataHead m) ≡ size) × (size ≤ 256)
+Sized m (Req.Data n size) = (dataHead ≤ length m) × (length (drop dataHead m) ≡ size) × (dataHead + size ≤ longest)
 Sized m Req.Validate = Unit
 Sized m Req.Abort = Unit
 Sized m Req.NotBuilt = Unit
 
--- A response whose numbers are as wide as their fields, MaxImageSize of 20 bits.
+-- A response that can be sent: numbers as wide as their fields, MaxImageSize of 20 bits.
 abbrev pub Answerable : Response → Type 0
 Answerable (Res.GetFwId st i) = (i .vendor < 65536) × (i .product < 65536) × Words (i .versions)
 Answerable (Res.Initiate st w size) = size ≤ imageSizeMost
 Answerable (Res.Data st w n) = n < 65536
 Answerable (Res.Validate st w success) = Unit
-Answerable Res.NotBuilt = Unit
+Answerable Res.NotBuilt = ⊥
 
 -- A response as it arrives: the identity without its reserved bits, all else as sent.
 abbrev pub asRead : Response → Response
