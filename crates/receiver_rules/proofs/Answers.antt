@@ -6,6 +6,7 @@ use mathlib.Core.List.{List}
 use borrow.Author.Tests.{lt-ltb, le-ltb}
 use lib.ListN.{length, take}
 use Rattle.basis.specs.Pick.{pick, eq-differ, ne-differ}
+use Rattle.lent.specs.Written.{writtenInto}
 use Rattle.image.specs.Sum as sums
 use Rattle.wire.specs.Request as message
 use Rattle.wire.specs.declared.request.Request.{Request}
@@ -16,7 +17,8 @@ use Rattle.receiver_rules.specs.Range.{outOfRange}
 use Rattle.receiver_rules.specs.Decide.{receiverDecideOf}
 use Rattle.receiver_state.specs.declared.verdict.Verdict.{Verdict}
 use Rattle.receiver_rules.specs.Session.{receiverReturns}
-use Rattle.receiver_rules.specs.Request.{effect, requestDone, requestReadOf, receiverRequestOf}
+use Rattle.receiver_rules.specs.Request.{effect, imageAfter, requestReadOf, receiverRequestOf}
+use Rattle.receiver_rules.specs.Respond.{receiverBytesOf}
 use Rattle.receiver_rules.specs.Sum.{receiverSumOf}
 use Rattle.receiver_state.specs.declared.session.Receiver.{Receiver}
 use Rattle.receiver_state.specs.declared.sum.Summed.the-variants as Summed
@@ -41,9 +43,22 @@ module _ (r : Receiver) (image request : List ℕ) (readiness : ℕ) (verdict : 
       unfolding receiverRequestOf requestReadOf pick
       answers-20 h e = rw (eq-differ (length image) (r .capacity) lent, le-ltb (length out) 260 room, h, e)
 
+      -- What is decided is handed on, each field under its own name; silence and resends are zero, and what is sent is in the buffer's first bytes.
       pub answers-step : (q : Request) → outOfRange readiness verdict ≡ false → message.parsedRequestOf request ≡ Par.Valid q
-          → receiverRequestOf r image request readiness verdict out
-          ≡ requestDone r (receiverDecideOf (r .phase) q (r .capacity) readiness verdict) image request out
+          → let step = receiverDecideOf (r .phase) q (r .capacity) readiness verdict in
+          receiverRequestOf r image request readiness verdict out
+          ≡ effect (record {
+            session = record {
+              settings = r .settings;
+              identity = r .identity;
+              capacity = r .capacity;
+              phase = step .phase;
+              silence = 0;
+              resends = 0;
+            };
+            answer = step .answer;
+            written = length (receiverBytesOf r (step .answer));
+          }) (imageAfter (step .store) image request) (writtenInto (receiverBytesOf r (step .answer)) out)
       unfolding receiverRequestOf requestReadOf pick
       answers-step q h e = rw (eq-differ (length image) (r .capacity) lent, le-ltb (length out) 260 room, h, e)
 

@@ -7,6 +7,7 @@ use borrow.Author.Tests.{lt-ltb, le-ltb}
 use lib.ListN.{length}
 use Rattle.basis.specs.Pick.{pick}
 use Rattle.basis.specs.Left.{left}
+use Rattle.lent.specs.Written.{writtenInto}
 use Rattle.silence.specs.declared.Settings.{Settings}
 use Rattle.receiver_state.specs.Answer.{receiverNumberOf}
 use Rattle.receiver_state.specs.declared.answer.Answer.the-variants.{BufferShort, Passed}
@@ -16,7 +17,9 @@ use Rattle.receiver_state.specs.declared.phase.Accepted.{Accepted}
 use Rattle.receiver_state.specs.declared.phase.Phase.{Phase}
 use Rattle.receiver_state.specs.declared.phase.Phase.the-variants.{Idle, Transfer, Await, Good}
 use Rattle.receiver_rules.specs.Session.{receiverReturns}
-use Rattle.receiver_rules.specs.Time.{receiverTickedOf, receiverElapsedOf, receiverTimeOf}
+use Rattle.receiver_rules.specs.Time.{receiverElapsedOf, receiverTimeOf}
+use Rattle.receiver_rules.specs.Respond.{receiverBytesOf}
+use Rattle.receiver_state.specs.declared.step.Tick.{Tick}
 use Rattle.receiver_state.specs.declared.session.Receiver.{Receiver}
 use Rattle.receiver_state.specs.declared.session.Outcome.{Outcome}
 use Rattle.receiver_rules.proofs.Walk.{time-walk}
@@ -43,7 +46,24 @@ module _ (r : Receiver) (elapsed : ℕ) (out : List ℕ) where
   unfolding receiverTimeOf pick
   time-27 h = rw (lt-ltb (length out) 260 h)
 
-  pub time-passes : 260 ≤ length out → receiverTimeOf r elapsed out ≡ receiverTickedOf r (receiverTickOf (r .phase) (r .silence) elapsed (r .resends) (r .settings)) out
+  abbrev ticked : Tick
+  ticked = receiverTickOf (r .phase) (r .silence) elapsed (r .resends) (r .settings)
+
+  -- What is decided is handed on, each number under its own name, and what is sent is in the buffer's first bytes.
+  pub time-passes : 260 ≤ length out
+      → receiverTimeOf r elapsed out
+      ≡ left (record {
+        session = record {
+          settings = r .settings;
+          identity = r .identity;
+          capacity = r .capacity;
+          phase = ticked .phase;
+          silence = ticked .silence;
+          resends = ticked .resends;
+        };
+        answer = ticked .answer;
+        written = length (receiverBytesOf r (ticked .answer));
+      }) (writtenInto (receiverBytesOf r (ticked .answer)) out)
   unfolding receiverTimeOf receiverElapsedOf pick
   time-passes h = rw (le-ltb (length out) 260 h)
 
