@@ -52,7 +52,7 @@ module _ (file memory : List ℕ) (release : Release) (identity : Identity) (e :
   y = indoorResponseOf (e .indoor) file (take (x .outcome .written) (x .out)) upper
 
   heard : Clean file memory release identity (suc (on .deliveries)) (carriedUp (cleanLineOf e image upper (on .requests) (on .responses)) [] x)
-  heard = delivers (on .clean) _ (up (take (e .underway) upper) [] (one-goes (e .underway) upper some) lower room)
+  heard = delivers (on .clean) _ (up (take (e .underway) upper) [] (one-goes (e .underway) upper some) Ver.Good (record { inRange = tt; good = λ _. refl }) lower room)
 
   delivered-one : length (on .requests) ≡ delivered + 1
   delivered-one = on .count ∙ ap (λ (l : List (List ℕ)). delivered + length l) (one-goes (e .underway) upper some)

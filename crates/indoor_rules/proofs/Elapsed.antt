@@ -1,15 +1,16 @@
 -- What time does to the indoor end, in the paper's own numbers (01, The indoor end's phases; 01, Sizes and numbers).
 use Prim.Native.Nat.{ℕ, _+_, _-_, _<_, _≤_}
 use mathlib.Core.Bool.{Bool}
-use mathlib.Core.Path.{_≡_, refl}
+use mathlib.Core.Path.{_≡_, refl, ap}
 use native.Mathlib.Omega.{arith}
-use borrow.Author.Tests.{ne-eqb, lt-ltb, le-ltb}
-use Rattle.basis.specs.Pick.{pick}
+use borrow.Author.Tests.{ne-eqb, lt-ltb, le-ltb, eqb-false, ltb-false}
+use lib.Dec.{eqb, ltb}
+use Rattle.basis.specs.Pick.{pick, pick-all}
 use Rattle.silence.specs.Expiry.{grownOf}
 use Rattle.silence.specs.declared.Grown.{Grown}
 use Rattle.silence.specs.declared.Event.{Event}
 use Rattle.silence.specs.declared.Event.the-variants.{Quiet, Resend, NoneLeft}
-use Rattle.silence.proofs.Laws.{below-quiet, left-resends, none-left-expires, limit-expires, many-limits}
+use Rattle.silence.proofs.Laws.{grown-all, below-quiet, left-resends, none-left-expires, limit-expires, many-limits, no-time}
 use Rattle.indoor_state.specs.Phase.{indoorProgress, indoorState}
 use Rattle.indoor_state.specs.Step.{indoorStep}
 use Rattle.indoor_rules.specs.Step.{emptiedBy}
@@ -118,6 +119,67 @@ module _ (plan : Plan) (silence resends elapsed : ℕ) where
   pub failed-still : (reason : Reason) → then (Failed reason) ≡ indoorStep (indoorState (Failed reason) silence resends) Ans.Passed
   unfolding indoorTickIn
   failed-still reason = refl
+
+-- Silence stays below the limit.
+module _ (plan : Plan) (silence resends elapsed : ℕ) (below : silence < plan .settings .limit) where
+  abbrev Below : Step → Type 0
+  Below s = s .state .silence < plan .settings .limit
+
+  resends-below : (phase : Phase) (again : Answer) → Below (resendsOf plan (indoorState phase silence resends) again elapsed)
+  unfolding resendsOf resendOnEvent
+  resends-below phase again =
+      grown-all silence elapsed resends (plan .settings) (λ g. Below (resendOnEvent phase again g (g .event)))
+      (λ t. t) (λ _ _. omega arith) (λ _ _. omega arith)
+
+  transfer-below : (phase : Phase) → Below (transferExpiresOf plan (indoorState phase silence resends) elapsed)
+  unfolding transferExpiresOf transferOnEvent
+  transfer-below phase =
+      grown-all silence elapsed resends (plan .settings) (λ g. Below (transferOnEvent phase g (g .event)))
+      (λ t. t) (λ _ _. omega arith) (λ _ _. omega arith)
+
+  -- Outside a wait, in it and at its end.
+  in-wait : (left : ℕ) (s t u : Step) → Below s → Below t → Below u → Below (pick (eqb left 0) s (pick (ltb elapsed left) t u))
+  in-wait left s t u a b c = pick-all Below (eqb left 0) _ _ (λ _. a) (λ _. pick-all Below (ltb elapsed left) _ _ (λ _. b) (λ _. c))
+
+  pub stays-below : (phase : Phase) → Below (indoorTickIn plan (indoorState phase silence resends) phase elapsed)
+  unfolding indoorTickIn initiateTickOf transferTickOf validateTickOf
+  stays-below Identify = resends-below Identify _
+  stays-below (Initiate left) = in-wait left _ _ _ (resends-below (Initiate left) _) below (omega arith)
+  stays-below (Transfer p) = in-wait (p .wait) _ _ _ (transfer-below (Transfer p)) below (omega arith)
+  stays-below (Validate left) = in-wait left _ _ _ (resends-below (Validate left) _) below (omega arith)
+  stays-below Done = below
+  stays-below (Failed reason) = below
+
+-- Where no time passes nothing changes, in a wait or outside.
+module _ (plan : Plan) (silence resends : ℕ) (below : silence < plan .settings .limit) where
+  abbrev same : Phase → Step
+  same phase = indoorStep (indoorState phase silence resends) Ans.Passed
+
+  no-resend : (phase : Phase) (again : Answer) → resendsOf plan (indoorState phase silence resends) again 0 ≡ same phase
+  unfolding resendsOf resendOnEvent
+  no-resend phase again = rw (no-time silence resends (plan .settings) below)
+
+  no-expiry : (phase : Phase) → transferExpiresOf plan (indoorState phase silence resends) 0 ≡ same phase
+  unfolding transferExpiresOf transferOnEvent
+  no-expiry phase = rw (no-time silence resends (plan .settings) below)
+
+  wait-same : (left : ℕ) (s t u v : Step) → s ≡ v → t ≡ v → pick (eqb left 0) s (pick (ltb 0 left) t u) ≡ v
+  wait-same left s t u v a b =
+      pick-all (λ x. x ≡ v) (eqb left 0) _ _ (λ _. a)
+      (λ f. pick-all (λ x. x ≡ v) (ltb 0 left) _ _ (λ _. b)
+      (λ g. let some = eqb-false left 0 f in let none = ltb-false 0 left g in absurd (omega arith)))
+
+  whole : (left : ℕ) → left - 0 ≡ left
+  whole left = omega arith
+
+  pub tick-no-time : (phase : Phase) → indoorTickIn plan (indoorState phase silence resends) phase 0 ≡ same phase
+  unfolding indoorTickIn initiateTickOf transferTickOf validateTickOf
+  tick-no-time Identify = no-resend Identify _
+  tick-no-time (Initiate left) = wait-same left _ _ _ _ (no-resend (Initiate left) _) (ap (λ (l : ℕ). same (Initiate l)) (whole left))
+  tick-no-time (Transfer p) = wait-same (p .wait) _ _ _ _ (no-expiry (Transfer p)) (ap (λ (l : ℕ). same (Transfer (indoorProgress (p .asked) l (p .emptied)))) (whole (p .wait)))
+  tick-no-time (Validate left) = wait-same left _ _ _ _ (no-resend (Validate left) _) (ap (λ (l : ℕ). same (Validate l)) (whole left))
+  tick-no-time Done = refl
+  tick-no-time (Failed reason) = refl
 
 -- One call that passes several limits is one expiry: it does what a call does that reaches the first exactly.
 pub many : (plan : Plan) (silence resends e e′ : ℕ) (phase : Phase) (again : Answer)

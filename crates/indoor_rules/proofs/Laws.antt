@@ -1,7 +1,7 @@
 -- The paper's sentences on the indoor end's calls, as laws of the definitions (01, The indoor end's phases; 01, Numbers we answer).
-use Prim.Native.Nat.{ℕ}
+use Prim.Native.Nat.{ℕ, _≤_, _<_}
 use mathlib.Core.Bool.{Bool, true, true≢false, _||_}
-use mathlib.Core.Path.{_≡_, refl, sym}
+use mathlib.Core.Path.{_≡_, refl, sym, ap}
 use mathlib.Core.List.{List}
 use native.Mathlib.Omega.{arith}
 use borrow.Author.Tests.{eq-eqb}
@@ -22,7 +22,8 @@ use Rattle.indoor_state.specs.declared.answer.Answer.{Answer}
 use Rattle.indoor_state.specs.declared.answer.Answer.the-variants as Ans
 use Rattle.indoor_state.specs.declared.answer.Sends.the-variants.{Nothing}
 use Rattle.indoor_state.specs.declared.step.Step.{Step}
-use Rattle.indoor_rules.proofs.Owes.{hears, Row, Stays, decide-row}
+use Rattle.indoor_rules.proofs.Owes.{hears, Fails, Row, Stays, decide-row}
+use Rattle.indoor_rules.proofs.Elapsed.{tick-no-time}
 use Rattle.indoor_rules.proofs.Ticks.{Ticks, Rests, pass-ticks}
 use Rattle.indoor_rules.specs.Session.{indoorDone}
 use Rattle.indoor_rules.specs.Send.{sendsBytes}
@@ -58,6 +59,21 @@ only-unexpected (Ans.Failed Why.NotNewer) h k = absurd (true≢false (sym k))
 only-unexpected (Ans.Failed Why.TooLarge) h k = absurd (true≢false (sym k))
 only-unexpected (Ans.Failed Why.WrongNumber) h k = absurd (true≢false (sym k))
 only-unexpected (Ans.Failed Why.NotValid) h k = absurd (true≢false (sym k))
+
+no-longer : (a : Answer) (state next : State) → hears (indoorNumberOf a) ≡ true → When (eqb (indoorNumberOf a) 21) (next ≡ state)
+    → When (eqb (indoorNumberOf a) 0) ((next .silence ≡ 0) × (next .resends ≡ 0)) → Fails a next → next .silence ≤ state .silence
+no-longer Ans.Identifying state next h kept taken fails = omega (arith, taken .0)
+no-longer Ans.Initiating state next h kept taken fails = omega (arith, taken .0)
+no-longer (Ans.Sending number) state next h kept taken fails = omega (arith, taken .0)
+no-longer Ans.Validating state next h kept taken fails = omega (arith, taken .0)
+no-longer Ans.Waiting state next h kept taken fails = omega (arith, taken .0)
+no-longer Ans.Finished state next h kept taken fails = omega (arith, taken .0)
+no-longer Ans.Passed state next h kept taken fails = omega (arith, taken .0)
+no-longer Ans.Malformed state next h kept taken fails = absurd (true≢false (sym h))
+no-longer Ans.Unexpected state next h kept taken fails = let same = ap (λ (x : State). x .silence) kept in omega arith
+no-longer Ans.BufferShort state next h kept taken fails = absurd (true≢false (sym h))
+no-longer Ans.FileLength state next h kept taken fails = absurd (true≢false (sym h))
+no-longer (Ans.Failed reason) state next h kept taken fails = let none = ap (λ (x : State). x .silence) fails in omega arith
 
 stays-at : (before phase : Phase) (state : State) (x : Step) → before ≡ phase → Stays before state x → Stays phase state x
 stays-at before phase state x e h = rw e at h
@@ -110,6 +126,12 @@ module _ (s : Indoor) (file response out : List ℕ) where
       response-walk s file response out (Kept s out) (refl, refl, refl) (refl, refl, refl) (refl, refl, refl)
       (λ r _ _ _. let x = indoorDecideOf (s .plan) (s .state) r in rested s file out x Ans.Unexpected refl (stays-at (s .state .phase) (Failed reason) (s .state) x e (row r .stays)))
 
+  -- No response lengthens silence.
+  pub silence-never-grows : after .answer .session .state .silence ≤ s .state .silence
+  silence-never-grows =
+      response-walk s file response out (λ x. x .answer .session .state .silence ≤ s .state .silence) (omega arith) (omega arith) (omega arith)
+      (λ r _ _ _. let x = indoorDecideOf (s .plan) (s .state) r in no-longer (x .answer) (s .state) (x .state) (row r .number) (row r .passes) (row r .taken) (row r .fails))
+
   -- An accepted response sets silence and resends to zero.
   pub accepted-resets : indoorNumberOf (after .answer .answer) ≡ 0 → (after .answer .session .state .silence ≡ 0) × (after .answer .session .state .resends ≡ 0)
   accepted-resets =
@@ -138,3 +160,10 @@ module _ (s : Indoor) (file : List ℕ) (elapsed : ℕ) (out : List ℕ) where
   time-failed-stays reason e =
       time-walk s file elapsed out (Kept s out) (refl, refl, refl) (refl, refl, refl)
       (λ _ _. rested s file out (indoorTickOf (s .plan) (s .state) elapsed) Ans.Passed refl (rests-at (s .state .phase) (Failed reason) (s .state) (indoorTickOf (s .plan) (s .state) elapsed) e (tick .rests)))
+
+-- In a call with 0 ms elapsed no time passes: silence below the limit, as in every session (`reached-below` in proofs/Reached.antt), nothing
+-- changes, in a wait or outside, and nothing is written.
+pub no-time : (s : Indoor) (file out : List ℕ) → s .state .silence < s .plan .settings .limit → Kept s out (indoorTimeOf s file 0 out)
+no-time s file out below =
+    time-walk s file 0 out (Kept s out) (refl, refl, refl) (refl, refl, refl)
+    (λ _ _. rested s file out (indoorTickOf (s .plan) (s .state) 0) Ans.Passed refl (tick-no-time (s .plan) (s .state .silence) (s .state .resends) below (s .state .phase)))

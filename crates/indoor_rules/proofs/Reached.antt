@@ -1,5 +1,5 @@
 -- Every session that calls lead to has written nothing but what the paper allows, and never closes early (01, The indoor end's phases).
-use Prim.Native.Nat.{ℕ, _≤_}
+use Prim.Native.Nat.{ℕ, _≤_, _<_}
 use mathlib.Core.Path.{_≡_, sym, subst}
 use mathlib.Core.List.{List, [], _∷_, List·Memᴰ, List·Memᴰ·head, List·Memᴰ·tail}
 use native.Mathlib.Omega.{arith}
@@ -16,10 +16,14 @@ use Rattle.indoor_state.specs.declared.phase.Phase.{Phase}
 use Rattle.indoor_state.specs.declared.phase.Phase.the-variants.{Transfer, Validate, Done}
 use Rattle.indoor_state.specs.declared.answer.Answer.the-variants.{Identifying}
 use Rattle.indoor_rules.specs.Send.{sendsBytes}
+use Rattle.indoor_rules.specs.Response.{indoorResponseOf}
 use Rattle.indoor_rules.specs.History.{Reached, starts, hears, passes, Genuine, AllGenuine, emptyBlock}
 use Rattle.indoor_state.specs.declared.session.Indoor.{Indoor}
 use Rattle.indoor_rules.specs.Step.{emptyNumber}
 use Rattle.indoor_rules.proofs.Owes.{Fit}
+use Rattle.indoor_rules.proofs.Elapsed.{stays-below}
+use Rattle.indoor_rules.proofs.Walk.{time-walk}
+use Rattle.indoor_rules.proofs.Laws.{silence-never-grows, plan-stays}
 use Rattle.indoor_rules.proofs.Fresh.{Fresh, start-fresh}
 use Rattle.indoor_rules.proofs.Genuine.{bytes-genuine}
 use Rattle.indoor_rules.proofs.Holds.{EmptySent, Holds, heard-holds, ticked-holds}
@@ -48,6 +52,18 @@ reach-holds file release s sent words (hears {s = t} {sent = before} h lent resp
     heard-holds file release words t before (reach-holds file release t before words h) lent response out same
 reach-holds file release s sent words (passes {s = t} {sent = before} h lent elapsed out same) =
     ticked-holds file release words t before (reach-holds file release t before words h) lent elapsed out same
+
+-- Silence is below the limit in every session that calls lead to.
+pub reached-below : {file : List ℕ} {release : Release} {s : Indoor} {sent : List (List ℕ)} → Reached file release s sent → s .state .silence < s .plan .settings .limit
+reached-below {file = file} (starts limit resends release out s written out′ e) = start-fresh release file out limit resends s written out′ e .below
+reached-below (hears {s = s} h lent response out same) =
+    let below = reached-below h in
+    let less = silence-never-grows s lent response out in
+    subst (λ (p : Plan). indoorResponseOf s lent response out .answer .session .state .silence < p .settings .limit) (sym (plan-stays s lent response out)) (omega arith)
+reached-below (passes {s = s} h lent elapsed out same) =
+    let below = reached-below h in
+    time-walk s lent elapsed out (λ x. x .answer .session .state .silence < x .answer .session .plan .settings .limit) below below
+    (λ _ _. stays-below (s .plan) (s .state .silence) (s .state .resends) elapsed below (s .state .phase))
 
 genuine-each : (versions : Versions) (file : List ℕ) (sent : List (List ℕ)) (m : List ℕ) → AllGenuine versions file sent → List·Memᴰ m sent → Genuine versions file m (message.parsedRequestOf m)
 genuine-each versions file (x ∷ sent) m all (List·Memᴰ·head e) = rw e (all .0)

@@ -1,7 +1,8 @@
 -- What one delivery does to a clean line that has one message on its way.
 use Prim.Native.Nat.{ℕ, _+_, _≤_}
 use mathlib.Core.Path.{_≡_, refl, sym, _∙_, ap}
-use mathlib.Core.List.{List, [], _∷_, _++_}
+use mathlib.Core.List.{List, [], _∷_, _++_, append-nil}
+use native.Mathlib.Omega.{arith}
 use lib.Dec.{eqb}
 use lib.ListN.{length, take, drop}
 use lib.Seq.{take-append-seam}
@@ -21,15 +22,19 @@ use Rattle.receiver_state.specs.Answer.{replyOf}
 use Rattle.receiver_state.specs.declared.answer.Answer.{Answer}
 use Rattle.receiver_state.specs.declared.phase.Phase as receiver
 use Rattle.receiver_state.specs.declared.phase.Phase.the-variants.{Good}
-use Rattle.receiver_rules.specs.Range.{verdictOutside, outOfRange}
+use Rattle.receiver_rules.specs.Range.{Timely}
 use Rattle.receiver_rules.specs.Decide.{receiverDecideOf}
-use Rattle.receiver_state.specs.declared.verdict.Verdict.the-variants as Ver
+use Rattle.receiver_state.specs.declared.verdict.Verdict.{Verdict}
 use Rattle.receiver_state.specs.declared.step.Store.{Store}
 use Rattle.receiver_state.specs.declared.step.Store.the-variants as Sto
 use Rattle.receiver_state.specs.declared.step.Step.{Step}
+use Rattle.receiver_rules.specs.Time.{receiverTimeOf}
 use Rattle.receiver_rules.specs.Request.{Effect, imageAfter, requestDone, receiverRequestOf}
 use Rattle.receiver_rules.specs.Respond.{replyBytes, receiverBytesOf}
+use Rattle.receiver_rules.proofs.RangeLaws.{in-range}
 use Rattle.receiver_rules.proofs.Answers.{answers-step}
+use Rattle.receiver_rules.proofs.TimeLaws as receiverTime
+use Rattle.receiver_rules.proofs.Reached as receiverReached
 use Rattle.indoor_state.specs.Phase.{indoorState, indoorProgress as sent}
 use Rattle.indoor_state.specs.Answer.{sendsOf}
 use Rattle.indoor_state.specs.Step.{indoorStep}
@@ -41,11 +46,14 @@ use Rattle.indoor_rules.specs.Decide as rules
 use Rattle.indoor_rules.specs.Send.{sendsBytes}
 use Rattle.indoor_rules.specs.Session.{indoorDone as indoorDoneOf}
 use Rattle.indoor_rules.specs.Response.{indoorResponseOf}
+use Rattle.indoor_rules.specs.Time.{indoorTimeOf}
 use Rattle.indoor_state.specs.declared.session.Outcome.{Outcome as IndoorOutcome}
 use Rattle.indoor_state.specs.declared.step.Step.{Step as IndoorStep}
 use Rattle.indoor_rules.proofs.Answers.{response-step}
+use Rattle.indoor_rules.proofs.Laws as indoorLaws
 use Rattle.indoor_rules.proofs.Reached.{reach-holds}
-use Rattle.line.specs.Line.{Line, Wide, up, down, carriedUp, carriedDown}
+use Rattle.indoor_rules.proofs.Reached as indoorReached
+use Rattle.line.specs.Line.{Line, Wide, up, down, carriedUp, carriedDown, passedAtReceiver, passedAtIndoor}
 use Rattle.line.proofs.Sent.{sent-length}
 use Rattle.line.proofs.AnyLine.{Safe}
 
@@ -57,7 +65,7 @@ one bytes = pick (eqb (length bytes) 0) [] (bytes ∷ [])
 one-sent : (bytes out : List ℕ) → withSent (length bytes) (writtenInto bytes out) [] ≡ one bytes
 one-sent bytes out = rw (take-append-seam bytes (drop (length bytes) out))
 
-first-same : (x y : List ℕ) (l m : List (List ℕ)) → x ∷ l ≡ y ∷ m → x ≡ y
+pub first-same : (x y : List ℕ) (l m : List (List ℕ)) → x ∷ l ≡ y ∷ m → x ≡ y
 first-same x y l m e = cc
 
 later-same : (x y : List ℕ) (l m : List (List ℕ)) → x ∷ l ≡ y ∷ m → l ≡ m
@@ -87,45 +95,45 @@ module _ (file memory : List ℕ) (release : Release) (identity : Identity) wher
   asks a = sendsBytes (release .versions) file (sendsOf a)
 
   module _ (x : Line) (s : Safe file memory release identity (x .world)) (out : List ℕ) (room : longest ≤ length out) where
-    abbrev pub call : List ℕ → Effect
-    call request = receiverRequestOf (x .world .receiver) (x .world .image) request 0 Ver.Good out
+    module _ (verdict : Verdict) (inRange : Timely verdict) where
+      abbrev pub call : List ℕ → Effect
+      call request = receiverRequestOf (x .world .receiver) (x .world .image) request 0 verdict out
 
-    done : (m : List ℕ) (p : receiver.Phase) (q : Request) (then : Step) → x .world .receiver .phase ≡ p → message.parsedRequestOf m ≡ ReqPar.Valid q
-        → receiverDecideOf p q (length memory) 0 Ver.Good ≡ then
-        → call m ≡ requestDone (x .world .receiver) then (x .world .image) m out
-    unfolding outOfRange verdictOutside pick
-    done m p q then e r d =
-        let decided : receiverDecideOf (x .world .receiver .phase) q (x .world .receiver .capacity) 0 Ver.Good ≡ then = rw (e, s .capacity) d in
-        answers-step (x .world .receiver) (x .world .image) m 0 Ver.Good out (s .size ∙ sym (s .capacity)) room q refl r
-        ∙ ap (λ (t : Step). requestDone (x .world .receiver) t (x .world .image) m out) decided
+      done : (m : List ℕ) (p : receiver.Phase) (q : Request) (then : Step) → x .world .receiver .phase ≡ p → message.parsedRequestOf m ≡ ReqPar.Valid q
+          → receiverDecideOf p q (length memory) 0 verdict ≡ then
+          → call m ≡ requestDone (x .world .receiver) then (x .world .image) m out
+      done m p q then e r d =
+          let decided : receiverDecideOf (x .world .receiver .phase) q (x .world .receiver .capacity) 0 verdict ≡ then = rw (e, s .capacity) d in
+          answers-step (x .world .receiver) (x .world .image) m 0 verdict out (s .size ∙ sym (s .capacity)) room q (in-range 0 verdict (omega arith) inRange) r
+          ∙ ap (λ (t : Step). requestDone (x .world .receiver) t (x .world .image) m out) decided
 
-    -- A request is delivered: the receiver goes on, and its answer is on its way.
-    pub heard : (m : List ℕ) (p : receiver.Phase) (g : indoor.Phase) (q : Request) (then : Step) (count : ℕ) → At x p g (m ∷ []) [] count
-        → message.parsedRequestOf m ≡ ReqPar.Valid q → receiverDecideOf p q (length memory) 0 Ver.Good ≡ then
-        → (request : List ℕ) (later : List (List ℕ)) → x .up ≡ request ∷ later
-        → At (carriedUp x later (call request)) (then .phase) g [] (one (says (then .answer))) count
-    heard m p g q then count at r d request later e =
-        let same : request ≡ m = first-same request m later [] (sym e ∙ at .rising) in
-        let did : call request ≡ requestDone (x .world .receiver) then (x .world .image) m out = ap call same ∙ done m p q then (at .receiver) r d in
-        let bytes : receiverBytesOf (x .world .receiver) (then .answer) ≡ says (then .answer) = rw (s .who, s .capacity) in
-        record {
-          receiver = ap (λ (y : Effect). y .outcome .session .phase) did;
-          indoor = at .indoor;
-          rising = later-same request m later [] (sym e ∙ at .rising);
-          falling = ap (λ (l : List (List ℕ)). l ++ withSent (call request .outcome .written) (call request .out) []) (at .falling)
-              ∙ ap (λ (y : Effect). withSent (y .outcome .written) (y .out) []) did
-              ∙ one-sent (receiverBytesOf (x .world .receiver) (then .answer)) out ∙ ap one bytes;
-          sent = at .sent;
-        }
+      -- A request is delivered: the receiver goes on, and its answer is on its way.
+      pub heard : (m : List ℕ) (p : receiver.Phase) (g : indoor.Phase) (q : Request) (then : Step) (count : ℕ) → At x p g (m ∷ []) [] count
+          → message.parsedRequestOf m ≡ ReqPar.Valid q → receiverDecideOf p q (length memory) 0 verdict ≡ then
+          → (request : List ℕ) (later : List (List ℕ)) → x .up ≡ request ∷ later
+          → At (carriedUp x later (call request)) (then .phase) g [] (one (says (then .answer))) count
+      heard m p g q then count at r d request later e =
+          let same : request ≡ m = first-same request m later [] (sym e ∙ at .rising) in
+          let did : call request ≡ requestDone (x .world .receiver) then (x .world .image) m out = ap call same ∙ done m p q then (at .receiver) r d in
+          let bytes : receiverBytesOf (x .world .receiver) (then .answer) ≡ says (then .answer) = rw (s .who, s .capacity) in
+          record {
+            receiver = ap (λ (y : Effect). y .outcome .session .phase) did;
+            indoor = at .indoor;
+            rising = later-same request m later [] (sym e ∙ at .rising);
+            falling = ap (λ (l : List (List ℕ)). l ++ withSent (call request .outcome .written) (call request .out) []) (at .falling)
+                ∙ ap (λ (y : Effect). withSent (y .outcome .written) (y .out) []) did
+                ∙ one-sent (receiverBytesOf (x .world .receiver) (then .answer)) out ∙ ap one bytes;
+            sent = at .sent;
+          }
 
-    -- A request that puts no block leaves the image as it was.
-    pub heard-lies : (m : List ℕ) (p : receiver.Phase) (q : Request) (then : Step) → x .world .receiver .phase ≡ p → x .up ≡ m ∷ []
-        → message.parsedRequestOf m ≡ ReqPar.Valid q → receiverDecideOf p q (length memory) 0 Ver.Good ≡ then → then .store ≡ Sto.Nowhere → x .world .image ≡ memory
-        → (request : List ℕ) (later : List (List ℕ)) → x .up ≡ request ∷ later → call request .image ≡ memory
-    unfolding imageAfter
-    heard-lies m p q then e rising r d nowhere lies request later f =
-        let same : request ≡ m = first-same request m later [] (sym f ∙ rising) in
-        ap (λ (y : Effect). y .image) (ap call same ∙ done m p q then e r d) ∙ ap (λ (y : Store). imageAfter y (x .world .image) m) nowhere ∙ lies
+      -- A request that puts no block leaves the image as it was.
+      pub heard-lies : (m : List ℕ) (p : receiver.Phase) (q : Request) (then : Step) → x .world .receiver .phase ≡ p → x .up ≡ m ∷ []
+          → message.parsedRequestOf m ≡ ReqPar.Valid q → receiverDecideOf p q (length memory) 0 verdict ≡ then → then .store ≡ Sto.Nowhere → x .world .image ≡ memory
+          → (request : List ℕ) (later : List (List ℕ)) → x .up ≡ request ∷ later → call request .image ≡ memory
+      unfolding imageAfter
+      heard-lies m p q then e rising r d nowhere lies request later f =
+          let same : request ≡ m = first-same request m later [] (sym f ∙ rising) in
+          ap (λ (y : Effect). y .image) (ap call same ∙ done m p q then e r d) ∙ ap (λ (y : Store). imageAfter y (x .world .image) m) nowhere ∙ lies
 
     abbrev pub reply : List ℕ → Left IndoorOutcome
     reply response = indoorResponseOf (x .world .indoor) file response out
@@ -155,3 +163,17 @@ module _ (file memory : List ℕ) (release : Release) (identity : Identity) wher
           falling = later-same response m later [] (sym f ∙ at .falling);
           sent = more ∙ ap (λ (l : List (List ℕ)). length (x .world .requests) + length l) new ∙ ap (λ (c : ℕ). c + length (one (asks a))) (at .sent);
         }
+
+  -- A call with 0 ms elapsed moves nothing, and nothing more is on its way.
+  module _ (x : Line) (s : Safe file memory release identity (x .world)) (out : List ℕ) where
+    pub receiver-still : passedAtReceiver x (receiverTimeOf (x .world .receiver) 0 out) ≡ x
+    unfolding pick
+    receiver-still =
+        let kept = receiverTime.no-time (x .world .receiver) out (receiverReached.reached-below (s .accepted .reached)) in
+        rw (kept .0, kept .2, append-nil (x .down))
+
+    pub indoor-still : passedAtIndoor x (indoorTimeOf (x .world .indoor) file 0 out) ≡ x
+    unfolding pick
+    indoor-still =
+        let kept = indoorLaws.no-time (x .world .indoor) file out (indoorReached.reached-below (s .sent)) in
+        rw (kept .0, kept .2, append-nil (x .up))

@@ -12,6 +12,7 @@ use Rattle.basis.specs.Pick.{pick, pick-no}
 use Rattle.image.specs.Blocks.{blocksOf, blockAt}
 use Rattle.image.proofs.Laws.{block-length, block-behind}
 use Rattle.wire.specs.Codes.{longest}
+use Rattle.wire.specs.Request.{parsedRequestOf}
 use Rattle.wire.specs.Response as answer
 use Rattle.wire.specs.Written.{requestBytes, bareBytes, initiateBytes, headBytes, responseBytes, identifiedBytes, initiatedBytes, receiptBytes, validatedBytes}
 use Rattle.wire.specs.Identity.{cleared}
@@ -29,7 +30,8 @@ use Rattle.receiver_state.specs.declared.phase.Accepted.{Accepted}
 use Rattle.receiver_state.specs.declared.phase.Progress.{Progress}
 use Rattle.receiver_state.specs.declared.phase.Phase as receiver
 use Rattle.receiver_state.specs.declared.phase.Phase.the-variants.{Idle, Transfer, Await, Good}
-use Rattle.receiver_rules.specs.Decide.{goesTo, receiverProgress}
+use Rattle.receiver_rules.specs.Decide.{goesTo, receiverProgress, receiverDecideOf}
+use Rattle.receiver_state.specs.declared.verdict.Verdict.{Verdict}
 use Rattle.receiver_state.specs.declared.verdict.Verdict.the-variants as Ver
 use Rattle.receiver_state.specs.declared.step.Store.the-variants as Sto
 use Rattle.receiver_state.specs.declared.step.Step.{Step}
@@ -57,11 +59,11 @@ use Rattle.indoor_rules.proofs.Fresh as indoorFresh
 use Rattle.indoor_rules.proofs.Genuine.{whole-read, block-read}
 use Rattle.indoor_rules.proofs.Holds.{Holds}
 use Rattle.indoor_rules.proofs.Reached.{reach-holds}
-use Rattle.line.specs.Line.{World, Line, line, Wide, Fresh, up, down, Clean, delivers, carriedUp, carriedDown}
+use Rattle.line.specs.Line.{World, Line, line, GoodVerdict, Wide, Fresh, up, down, Clean, delivers, carriedUp, carriedDown}
 use Rattle.line.specs.Line as clean
 use Rattle.line.proofs.AnyLine.{Safe, reached-safe}
 use Rattle.line.proofs.Clean.{clean-going}
-use Rattle.line.proofs.Carried.{one, At, counted, call, heard, heard-lies, reply, answered}
+use Rattle.line.proofs.Carried.{one, first-same, At, counted, call, heard, heard-lies, reply, answered, receiver-still, indoor-still}
 use Rattle.line.proofs.Carried as carried
 
 pub no-message : (l later : List (List ℕ)) (m : List ℕ) → l ≡ [] → l ≡ m ∷ later → ⊥
@@ -138,9 +140,9 @@ module _ (file memory : List ℕ) (release : Release) (identity : Identity) wher
     unfolding blocksOf
     few = let h = held .most in omega arith
 
-    module _ (request : List ℕ) (later : List (List ℕ)) (e : x .up ≡ request ∷ later) where
+    module _ (request : List ℕ) (later : List (List ℕ)) (e : x .up ≡ request ∷ later) (verdict : Verdict) (fair : GoodVerdict request verdict) where
       abbrev next : Line
-      next = carriedUp x later (call file memory release identity x s out room request)
+      next = carriedUp x later (call file memory release identity x s out room verdict (fair .inRange) request)
 
       block-taken : (j : ℕ) (p : Progress) (q : sending.Progress) → k ≡ 4 + 2 * j → Fits
           → j < n → p .accepted .blocks ≡ j → p .short ≡ false
@@ -154,9 +156,9 @@ module _ (file memory : List ℕ) (release : Release) (identity : Identity) wher
           let some : size ≡ 0 → ⊥ = λ z. omega arith in
           let then : Step = record { phase = Transfer (receiverProgress (acceptedCounts (j + 1) (256 * j + size)) (ltb size 256)); answer = Asking 0 (j + 1); store = Sto.At j } in
           receipt j (receiverProgress (acceptedCounts (j + 1) (256 * j + size)) (ltb size 256)) q (omega arith) fit low refl (λ more. le-ltb size 256 (omega arith))
-          (heard file memory release identity x s out room (asks (Ans.Sending j)) (Transfer p) (In.Transfer q) (Req.Data j size) then (3 + j) at
+          (heard file memory release identity x s out room verdict (fair .inRange) (asks (Ans.Sending j)) (Transfer p) (In.Transfer q) (Req.Data j size) then (3 + j) at
           (block-read (release .versions) file j (omega arith))
-          (orders.takes p j size (length memory) 0 Ver.Good (sym due) some whole (omega arith) (omega arith)) request later e)
+          (orders.takes p j size (length memory) 0 verdict (sym due) some whole (omega arith) (omega arith)) request later e)
 
       block-closed : (j : ℕ) (p : Progress) (q : sending.Progress) → k ≡ 4 + 2 * j → Fits
           → j ≡ n → p .accepted .blocks ≡ j → q .emptied ≡ true
@@ -168,9 +170,9 @@ module _ (file memory : List ℕ) (release : Release) (identity : Identity) wher
           let none : length (blockAt file j) ≡ 0 = ap length (block-behind file j (omega arith)) in
           let blocks : p .accepted .blocks ≡ n = due ∙ last in
           let then : Step = goesTo (Await (p .accepted)) (Closed (p .accepted .blocks)) in
-          let at′ = heard file memory release identity x s out room (asks (Ans.Sending j)) (Transfer p) (In.Transfer q) (Req.Data j (length (blockAt file j))) then (3 + j) at
+          let at′ = heard file memory release identity x s out room verdict (fair .inRange) (asks (Ans.Sending j)) (Transfer p) (In.Transfer q) (Req.Data j (length (blockAt file j))) then (3 + j) at
           (block-read (release .versions) file j (omega arith))
-          (orders.closes p j (length (blockAt file j)) (length memory) 0 Ver.Good (sym due) none (λ z. omega arith)) request later e in
+          (orders.closes p j (length (blockAt file j)) (length memory) 0 verdict (sym due) none (λ z. omega arith)) request later e in
           closing (p .accepted) q (omega arith) fit emptied
           (subst (λ (m : ℕ). At next (Await (p .accepted)) (In.Transfer q) [] (says (Closed m) ∷ []) (3 + n)) blocks (counted at′ (ap (λ (m : ℕ). 3 + m) last)))
 
@@ -180,41 +182,49 @@ module _ (file memory : List ℕ) (release : Release) (identity : Identity) wher
       block-either j p q c fit (inl low) due whole emptied at = block-taken j p q c fit low due (whole low) at
       block-either j p q c fit (inr last) due whole emptied at = block-closed j p q c fit last due (emptied last) at
 
+      -- The verdict is good where VALIDATE is heard.
+      validated : (a : Accepted) → x .up ≡ asks Ans.Validating ∷ [] → receiverDecideOf (Await a) Req.Validate (length memory) 0 verdict ≡ goesTo (Good a) Success
+      unfolding sendsBytes
+      validated a rising =
+          let same : request ≡ asks Ans.Validating = first-same request (asks Ans.Validating) later [] (sym e ∙ rising) in
+          let good : verdict ≡ Ver.Good = fair .good (ap parsedRequestOf same ∙ whole-read Req.Validate refl) in
+          subst (λ (v : Verdict). receiverDecideOf (Await a) Req.Validate (length memory) 0 v ≡ goesTo (Good a) Success) (sym good) (rows.verdict-good (length memory) 0 a)
+
       moves-up : Course k x → Course (suc k) next
       unfolding sendsBytes requestBytes replyBytes replyOf replies.getFwIdReply replies.initiateReply replies.validateReply responseBytes identifiedBytes initiatedBytes validatedBytes pick
       moves-up (asking c lies at) =
-          identified (omega arith) (heard-lies file memory release identity x s out room (asks Ans.Identifying) Idle Req.GetFwId (goesTo Idle Identified) (at .receiver) (at .rising) (whole-read Req.GetFwId refl)
-          (rows.identified-everywhere (length memory) Idle 0 Ver.Good) refl lies request later e)
-          (heard file memory release identity x s out room (asks Ans.Identifying) Idle In.Identify Req.GetFwId (goesTo Idle Identified) 1 at (whole-read Req.GetFwId refl)
-          (rows.identified-everywhere (length memory) Idle 0 Ver.Good) request later e)
+          identified (omega arith) (heard-lies file memory release identity x s out room verdict (fair .inRange) (asks Ans.Identifying) Idle Req.GetFwId (goesTo Idle Identified) (at .receiver) (at .rising) (whole-read Req.GetFwId refl)
+          (rows.identified-everywhere (length memory) Idle 0 verdict) refl lies request later e)
+          (heard file memory release identity x s out room verdict (fair .inRange) (asks Ans.Identifying) Idle In.Identify Req.GetFwId (goesTo Idle Identified) 1 at (whole-read Req.GetFwId refl)
+          (rows.identified-everywhere (length memory) Idle 0 verdict) request later e)
       moves-up (identified c lies at) = absurd (no-message (x .up) later request (at .rising) e)
       moves-up (notNewer c new lies at) = absurd (no-message (x .up) later request (at .rising) e)
       moves-up (initiating c new lies at) =
           offered (omega arith) new
-          (heard-lies file memory release identity x s out room (asks Ans.Initiating) Idle (Req.Initiate (release .versions)) (goesTo (Transfer (receiverProgress nothingAccepted false)) (Offered 0)) (at .receiver) (at .rising)
+          (heard-lies file memory release identity x s out room verdict (fair .inRange) (asks Ans.Initiating) Idle (Req.Initiate (release .versions)) (goesTo (Transfer (receiverProgress nothingAccepted false)) (Offered 0)) (at .receiver) (at .rising)
           (whole-read (Req.Initiate (release .versions)) (refl, wide .offered))
-          (rows.idle-ready (length memory) (release .versions) Ver.Good) refl lies request later e)
-          (heard file memory release identity x s out room (asks Ans.Initiating) Idle (In.Initiate 0) (Req.Initiate (release .versions)) (goesTo (Transfer (receiverProgress nothingAccepted false)) (Offered 0)) 2 at
+          (rows.idle-ready (length memory) (release .versions) verdict) refl lies request later e)
+          (heard file memory release identity x s out room verdict (fair .inRange) (asks Ans.Initiating) Idle (In.Initiate 0) (Req.Initiate (release .versions)) (goesTo (Transfer (receiverProgress nothingAccepted false)) (Offered 0)) 2 at
           (whole-read (Req.Initiate (release .versions)) (refl, wide .offered))
-          (rows.idle-ready (length memory) (release .versions) Ver.Good) request later e)
+          (rows.idle-ready (length memory) (release .versions) verdict) request later e)
       moves-up (offered c new lies at) = absurd (no-message (x .up) later request (at .rising) e)
       moves-up (tooLarge c new large lies at) =
           aborted (omega arith) new large
-          (heard-lies file memory release identity x s out room (asks (Ans.Failed Why.TooLarge)) (Transfer (receiverProgress nothingAccepted false)) Req.Abort (goesTo Idle Aborted) (at .receiver) (at .rising)
+          (heard-lies file memory release identity x s out room verdict (fair .inRange) (asks (Ans.Failed Why.TooLarge)) (Transfer (receiverProgress nothingAccepted false)) Req.Abort (goesTo Idle Aborted) (at .receiver) (at .rising)
           (whole-read Req.Abort refl)
-          (rows.transfer-aborted (length memory) 0 Ver.Good (receiverProgress nothingAccepted false)) refl lies request later e)
-          (heard file memory release identity x s out room (asks (Ans.Failed Why.TooLarge)) (Transfer (receiverProgress nothingAccepted false)) (In.Failed Why.TooLarge) Req.Abort (goesTo Idle Aborted) 3 at
+          (rows.transfer-aborted (length memory) 0 verdict (receiverProgress nothingAccepted false)) refl lies request later e)
+          (heard file memory release identity x s out room verdict (fair .inRange) (asks (Ans.Failed Why.TooLarge)) (Transfer (receiverProgress nothingAccepted false)) (In.Failed Why.TooLarge) Req.Abort (goesTo Idle Aborted) 3 at
           (whole-read Req.Abort refl)
-          (rows.transfer-aborted (length memory) 0 Ver.Good (receiverProgress nothingAccepted false)) request later e)
+          (rows.transfer-aborted (length memory) 0 verdict (receiverProgress nothingAccepted false)) request later e)
       moves-up (aborted c new large lies at) = absurd (no-message (x .up) later request (at .rising) e)
       moves-up (block j p q c fit low due whole emptied at) = block-either j p q c fit (low-or-last j n (ltb j n) refl low) due whole emptied at
       moves-up (receipt j p q c fit low due whole at) = absurd (no-message (x .up) later request (at .rising) e)
       moves-up (closing a q c fit emptied at) = absurd (no-message (x .up) later request (at .rising) e)
       moves-up (validating a c fit at) =
           succeeded a (omega arith) fit
-          (heard file memory release identity x s out room (asks Ans.Validating) (Await a) (In.Validate 0) Req.Validate (goesTo (Good a) Success) (4 + n) at
+          (heard file memory release identity x s out room verdict (fair .inRange) (asks Ans.Validating) (Await a) (In.Validate 0) Req.Validate (goesTo (Good a) Success) (4 + n) at
           (whole-read Req.Validate refl)
-          (rows.verdict-good (length memory) 0 a) request later e)
+          (validated a (at .rising)) request later e)
       moves-up (succeeded a c fit at) = absurd (no-message (x .up) later request (at .rising) e)
       moves-up (finished a c fit at) = absurd (no-message (x .up) later request (at .rising) e)
 
@@ -347,5 +357,7 @@ module _ (file memory : List ℕ) (release : Release) (identity : Identity) wher
     -- Every clean line is at the station of its deliveries.
     pub on-course : {k : ℕ} {x : Line} → Clean file memory release identity k x → Course k x
     on-course (clean.begins limit resends limit′ resends′ w f) = begun limit resends limit′ resends′ w f
-    on-course (delivers {k = k} {l = x} c _ (up request later e out room)) = moves-up wide k x (safe c) out room request later e (on-course c)
+    on-course (delivers {k = k} {l = x} c _ (up request later e verdict fair out room)) = moves-up wide k x (safe c) out room request later e verdict fair (on-course c)
     on-course (delivers {k = k} {l = x} c _ (down response later e out room)) = moves-down wide k x (safe c) out room response later e (on-course c)
+    on-course (clean.atReceiver {k = k} {l = x} c out room) = subst (Course k) (sym (receiver-still file memory release identity x (safe c) out)) (on-course c)
+    on-course (clean.atIndoor {k = k} {l = x} c out room) = subst (Course k) (sym (indoor-still file memory release identity x (safe c) out)) (on-course c)

@@ -12,11 +12,15 @@ use Rattle.silence.specs.Within.{Within}
 use Rattle.image.specs.Blocks.{blocksOf}
 use Rattle.wire.specs.Codes.{longest, imageSizeMost}
 use Rattle.wire.specs.Fields.{Words}
+use Rattle.wire.specs.Request.{parsedRequestOf}
+use Rattle.wire.specs.declared.request.Request.the-variants.{Validate}
+use Rattle.wire.specs.declared.request.Parsed.the-variants.{Valid}
 use Rattle.wire.specs.declared.response.Identity.{Identity}
 use Rattle.receiver_state.specs.declared.phase.Accepted.{Accepted}
 use Rattle.receiver_state.specs.declared.phase.Phase.the-variants.{Good}
 use Rattle.receiver_state.specs.declared.verdict.Verdict.{Verdict}
 use Rattle.receiver_state.specs.declared.verdict.Verdict.the-variants as Ver
+use Rattle.receiver_rules.specs.Range.{Timely}
 use Rattle.receiver_rules.specs.Session.{receiverStartOf}
 use Rattle.receiver_rules.specs.Request.{Effect, receiverRequestOf}
 use Rattle.receiver_rules.specs.Time.{receiverTimeOf}
@@ -98,10 +102,22 @@ carriedUp l later e = line (afterRequest (l .world) (l .world .image) (inl refl)
 abbrev pub carriedDown : Line → List (List ℕ) → Left IndoorOutcome → Line
 carriedDown l later x = line (afterIndoorCall (l .world) x) (l .up ++ withSent (x .answer .written) (x .memory) []) later
 
+-- A time call takes nothing off the line, and what it wrote is on its way then.
+abbrev pub passedAtReceiver : Line → Left ReceiverOutcome → Line
+passedAtReceiver l x = line (afterReceiverTime (l .world) x) (l .up) (l .down ++ withSent (x .answer .written) (x .memory) [])
+
+abbrev pub passedAtIndoor : Line → Left IndoorOutcome → Line
+passedAtIndoor l x = carriedDown l (l .down) x
+
 -- Nothing is on its way.
 pub record AtRest (l : Line) : Type 0 where
   pub up : l .up ≡ []
   pub down : l .down ≡ []
+
+-- Only VALIDATE looks at the verdict: it is good there, and with any other request any that 26 does not refuse.
+pub record GoodVerdict (request : List ℕ) (verdict : Verdict) : Type 0 where
+  pub inRange : Timely verdict
+  pub good : parsedRequestOf request ≡ Valid Validate → verdict ≡ Ver.Good
 
 -- The fields that go over the line are as wide as their types, two bytes, as in every value of the code.
 pub record Wide (release : Release) (identity : Identity) : Type 0 where
@@ -140,15 +156,19 @@ module _ (file memory : List ℕ) (release : Release) (identity : Identity) wher
 
   -- One delivery of a clean line: the oldest message, once, with no wait, a good verdict, and lent memory and buffers of the right size.
   pub data Next (l : Line) : Line → Type 0 where
-    up : (request : List ℕ) (later : List (List ℕ)) → l .up ≡ request ∷ later → (out : List ℕ) → longest ≤ length out
-        → Next l (carriedUp l later (receiverRequestOf (l .world .receiver) (l .world .image) request 0 Ver.Good out))
+    up : (request : List ℕ) (later : List (List ℕ)) → l .up ≡ request ∷ later
+        → (verdict : Verdict) → GoodVerdict request verdict → (out : List ℕ) → longest ≤ length out
+        → Next l (carriedUp l later (receiverRequestOf (l .world .receiver) (l .world .image) request 0 verdict out))
     down : (response : List ℕ) (later : List (List ℕ)) → l .down ≡ response ∷ later → (out : List ℕ) → longest ≤ length out
         → Next l (carriedDown l later (indoorResponseOf (l .world .indoor) file response out))
 
-  -- Every line that delivers each message once, in the order sent, before any time passes, after so many deliveries.
+  -- Every line that delivers each message once, in the order sent, before any time passes, after so many deliveries. At any moment there may be
+  -- time calls with 0 ms elapsed at either end, which is no time passing.
   pub data Clean : ℕ → Line → Type 0 where
     begins : (limit resends limit′ resends′ : ℕ) (w : World) → Fresh limit resends limit′ resends′ w → Clean 0 (line w (w .requests) [])
     delivers : {k : ℕ} {l : Line} → Clean k l → (then : Line) → Next l then → Clean (suc k) then
+    atReceiver : {k : ℕ} {l : Line} → Clean k l → (out : List ℕ) → longest ≤ length out → Clean k (passedAtReceiver l (receiverTimeOf (l .world .receiver) 0 out))
+    atIndoor : {k : ℕ} {l : Line} → Clean k l → (out : List ℕ) → longest ≤ length out → Clean k (passedAtIndoor l (indoorTimeOf (l .world .indoor) file 0 out))
 
   -- As many bytes are accepted as the file has, and the image memory begins with exactly the file; what lies behind it is as it lay.
   pub record Holds (a : Accepted) (w : World) : Type 0 where

@@ -4,7 +4,7 @@ use mathlib.Core.Path.{_≡_, refl}
 use native.Mathlib.Omega.{arith}
 use Rattle.silence.specs.Expiry.{grownOf}
 use Rattle.silence.specs.declared.Grown.{Grown}
-use Rattle.silence.proofs.Laws.{below-quiet, left-resends, none-left-expires, one-expiry, many-limits}
+use Rattle.silence.proofs.Laws.{below-quiet, left-resends, none-left-expires, one-expiry, many-limits, grown-below, no-time}
 use Rattle.silence.specs.declared.Settings.{Settings}
 use Rattle.silence.specs.declared.Event.{Event}
 use Rattle.silence.specs.declared.Event.the-variants.{Quiet, Resend, NoneLeft}
@@ -112,6 +112,40 @@ pass-ticks (Await a) silence elapsed made settings =
     let g = grownOf silence elapsed made settings in
     await-ticks made g (one-expiry silence elapsed made settings) a (a .blocks) (g .event)
 pass-ticks (Good a) silence elapsed made settings = record { taken = refl; lasts = refl; once = omega arith; success = tt }
+
+-- Silence stays below the limit.
+module _ (silence elapsed made : ℕ) (settings : Settings) (below : silence < settings .limit) where
+  abbrev Below : Tick → Type 0
+  Below t = t .silence < settings .limit
+
+  abbrev g : Grown
+  g = grownOf silence elapsed made settings
+
+  wait-below : (phase : Phase) (again : Answer) (event : Event) → Below (receiverOnEvent phase again g event)
+  unfolding receiverOnEvent
+  wait-below phase again Quiet = grown-below silence elapsed made settings (omega arith)
+  wait-below phase again Resend = grown-below silence elapsed made settings (omega arith)
+  wait-below phase again NoneLeft = grown-below silence elapsed made settings (omega arith)
+
+  pub stays-below : (phase : Phase) → Below (receiverTickOf phase silence elapsed made settings)
+  unfolding receiverTickOf receiverSilenceOf
+  stays-below Idle = below
+  stays-below (Transfer p) = wait-below (Transfer p) _ (g .event)
+  stays-below (Await a) = wait-below (Await a) _ (g .event)
+  stays-below (Good a) = below
+
+-- Where no time passes nothing changes.
+module _ (silence made : ℕ) (settings : Settings) (below : silence < settings .limit) where
+  wait-still : (phase : Phase) (again : Answer) → receiverSilenceOf phase again (grownOf silence 0 made settings) ≡ tick phase silence made Passed
+  unfolding receiverSilenceOf receiverOnEvent
+  wait-still phase again = rw (no-time silence made settings below)
+
+  pub tick-no-time : (phase : Phase) → receiverTickOf phase silence 0 made settings ≡ tick phase silence made Passed
+  unfolding receiverTickOf
+  tick-no-time Idle = refl
+  tick-no-time (Transfer p) = wait-still (Transfer p) _
+  tick-no-time (Await a) = wait-still (Await a) _
+  tick-no-time (Good a) = refl
 
 -- One call that passes several limits is one expiry: it does what a call does that reaches the first exactly.
 module _ (silence made e e′ : ℕ) (settings : Settings) (h : settings .limit ≤ silence + e) (h′ : settings .limit ≤ silence + e′) where

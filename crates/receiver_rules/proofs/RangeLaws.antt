@@ -6,14 +6,9 @@ use native.Mathlib.Omega.{arith}
 use borrow.Author.Tests.{le-ltb, ltb-true, ltb-false, eqb-true, eqb-false}
 use lib.Dec.{ltb, eqb}
 use Rattle.basis.specs.Pick.{pick-all}
-use Rattle.receiver_rules.specs.Range.{waitMost, laterOutside, verdictOutside, outOfRange}
+use Rattle.receiver_rules.specs.Range.{waitMost, laterOutside, verdictOutside, outOfRange, Timely}
 use Rattle.receiver_state.specs.declared.verdict.Verdict.{Verdict}
 use Rattle.receiver_state.specs.declared.verdict.Verdict.the-variants.{Good, Bad, Later}
-
-abbrev pub Timely : Verdict → Type 0
-Timely Good = Unit
-Timely Bad = Unit
-Timely (Later wait) = (1 ≤ wait) × (wait ≤ 254)
 
 later-in : (wait : ℕ) → 1 ≤ wait → wait ≤ 254 → laterOutside wait ≡ false
 unfolding laterOutside

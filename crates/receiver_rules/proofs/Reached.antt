@@ -1,8 +1,9 @@
 -- In every session that calls lead to, the accepted blocks are the first bytes of the image, and the counts are theirs.
-use Prim.Native.Nat.{ℕ, _≤_}
+use Prim.Native.Nat.{ℕ, _≤_, _<_}
 use mathlib.Core.Bool.{false}
 use mathlib.Core.Path.{_≡_, refl}
 use mathlib.Core.List.{List}
+use native.Mathlib.Omega.{arith}
 use lib.Dec.{eqb}
 use lib.ListN.{length, drop}
 use Rattle.basis.specs.Pick.{pick}
@@ -10,7 +11,7 @@ use Rattle.wire.specs.Request as message
 use Rattle.wire.specs.declared.request.Request.the-variants as Req
 use Rattle.wire.specs.declared.request.Parsed.{Parsed}
 use Rattle.wire.specs.declared.request.Parsed.the-variants as Par
-use Rattle.receiver_rules.proofs.Elapsed.{Lasts}
+use Rattle.receiver_rules.proofs.Elapsed.{Lasts, stays-below}
 use Rattle.receiver_state.specs.declared.phase.Phase.{Phase}
 use Rattle.receiver_state.specs.declared.phase.Phase.the-variants.{Idle, Transfer, Await, Good}
 use Rattle.receiver_state.specs.declared.verdict.Verdict.{Verdict}
@@ -18,7 +19,7 @@ use Rattle.receiver_rules.specs.Request.{receiverRequestOf}
 use Rattle.receiver_rules.specs.Time.{receiverTimeOf}
 use Rattle.receiver_rules.specs.History.{blockAnswered, acceptsBlock, forgets, RequestCall, takenBy, takenAfter, Reached, starts, asks, asksWithOther, passes}
 use Rattle.receiver_state.specs.declared.session.Receiver.{Receiver}
-use Rattle.receiver_rules.proofs.Walk.{request-walk}
+use Rattle.receiver_rules.proofs.Walk.{request-walk, time-walk}
 use Rattle.receiver_rules.proofs.Answers.{answers-28}
 use Rattle.receiver_rules.proofs.Laws.{settings-stay}
 use Rattle.receiver_rules.proofs.TimeLaws.{time-lasts, time-settings}
@@ -101,3 +102,16 @@ reached-capacity (starts limit resends identity capacity r image e) = start-fres
 reached-capacity (asks {r = r} {image = image} h request readiness verdict out) = rw (settings-stay r image request readiness verdict out .2) (reached-capacity h)
 reached-capacity (asksWithOther {r = r} h lent other request readiness verdict out) = rw (settings-stay r lent request readiness verdict out .2) (reached-capacity h)
 reached-capacity (passes {r = r} h elapsed out) = rw (time-settings r elapsed out .2) (reached-capacity h)
+
+-- Silence is below the limit.
+pub reached-below : {r : Receiver} {image : List ℕ} {taken : List (List ℕ)} → Reached r image taken → r .silence < r .settings .limit
+reached-below (starts limit resends identity capacity r image e) = start-fresh limit resends identity capacity r e .below
+reached-below (asks {r = r} {image = image} h request readiness verdict out) =
+    let below = reached-below h in
+    request-walk r image request readiness verdict out (λ x. x .outcome .session .silence < x .outcome .session .settings .limit) below below below below (λ _ _ _ _. omega arith)
+reached-below (asksWithOther {r = r} h lent other request readiness verdict out) =
+    rw (answers-28 r lent request readiness verdict out other) (reached-below h)
+reached-below (passes {r = r} h elapsed out) =
+    let below = reached-below h in
+    time-walk r elapsed out (λ x. x .answer .session .silence < x .answer .session .settings .limit) below
+    (λ _. stays-below (r .silence) elapsed (r .resends) (r .settings) below (r .phase))

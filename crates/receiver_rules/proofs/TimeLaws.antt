@@ -9,13 +9,14 @@ use Rattle.basis.specs.Pick.{pick}
 use Rattle.basis.specs.Left.{left}
 use Rattle.lent.specs.Written.{writtenInto}
 use Rattle.silence.specs.declared.Settings.{Settings}
-use Rattle.receiver_state.specs.Answer.{receiverNumberOf}
+use Rattle.receiver_state.specs.Answer.{receiverNumberOf, replyOf}
 use Rattle.receiver_state.specs.declared.answer.Answer.the-variants.{BufferShort, Passed}
 use Rattle.receiver_rules.specs.Tick.{tick, receiverTickOf}
-use Rattle.receiver_rules.proofs.Elapsed.{Lasts, idle-still, good-still, pass-ticks, pass-many}
+use Rattle.receiver_rules.proofs.Elapsed.{Lasts, idle-still, good-still, pass-ticks, tick-no-time, pass-many}
 use Rattle.receiver_state.specs.declared.phase.Accepted.{Accepted}
 use Rattle.receiver_state.specs.declared.phase.Phase.{Phase}
 use Rattle.receiver_state.specs.declared.phase.Phase.the-variants.{Idle, Transfer, Await, Good}
+use Rattle.receiver_rules.specs.Respond.{replyBytes}
 use Rattle.receiver_rules.specs.Session.{receiverReturns}
 use Rattle.receiver_rules.specs.Time.{receiverElapsedOf, receiverTimeOf}
 use Rattle.receiver_rules.specs.Respond.{receiverBytesOf}
@@ -102,6 +103,15 @@ module _ (r : Receiver) (elapsed : ℕ) (out : List ℕ) where
 
   pub time-good : (a : Accepted) → r .phase ≡ Good a → outcome .session ≡ r
   time-good a e = still (good-stays (r .silence) elapsed (r .resends) (r .settings) (r .phase) a e)
+
+-- In a call with 0 ms elapsed no time passes: silence below the limit, as in every session (`reached-below` in proofs/Reached.antt), the session
+-- and the buffer are as they were, and nothing was written.
+pub no-time : (r : Receiver) (out : List ℕ) → r .silence < r .settings .limit
+    → (receiverTimeOf r 0 out .answer .session ≡ r) × (receiverTimeOf r 0 out .memory ≡ out) × (receiverTimeOf r 0 out .answer .written ≡ 0)
+unfolding replyBytes replyOf
+no-time r out below =
+    let e = tick-no-time (r .silence) (r .resends) (r .settings) below (r .phase) in
+    time-walk r 0 out (λ x. (x .answer .session ≡ r) × (x .memory ≡ out) × (x .answer .written ≡ 0)) (refl, refl, refl) (λ _. (rw e, rw e, rw e))
 
 -- A time call that passes several limits is one expiry: it does what a call does that reaches the first exactly.
 pub time-many : (r : Receiver) (e e′ : ℕ) (out : List ℕ) → r .settings .limit ≤ r .silence + e → r .settings .limit ≤ r .silence + e′ → receiverTimeOf r e out ≡ receiverTimeOf r e′ out

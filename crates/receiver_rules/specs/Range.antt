@@ -1,5 +1,5 @@
 -- With each request come a readiness wait 0 to 254 and a verdict: good, bad, or later with a wait of 1 to 254 (01, The receiver's phases).
-use Prim.Native.Nat.{ℕ}
+use Prim.Native.Nat.{ℕ, _≤_}
 use mathlib.Core.Bool.{Bool, true, false}
 use lib.Dec.{ltb, eqb}
 use Rattle.basis.specs.Pick.{pick}
@@ -20,3 +20,9 @@ verdictOutside (Later wait) = laterOutside wait
 -- 26
 unfoldable pub outOfRange : ℕ → Verdict → Bool
 outOfRange readiness verdict = pick (ltb waitMost readiness) true (verdictOutside verdict)
+
+-- A verdict that 26 does not refuse, in the paper's own numbers.
+abbrev pub Timely : Verdict → Type 0
+Timely Good = Unit
+Timely Bad = Unit
+Timely (Later wait) = (1 ≤ wait) × (wait ≤ 254)

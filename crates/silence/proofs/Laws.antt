@@ -1,6 +1,6 @@
 -- The paper's sentences on settings and silence, as laws of the definitions (01, Sizes and numbers).
 use Prim.Native.Nat.{ℕ, _+_, _<_, _≤_}
-use mathlib.Core.Path.{_≡_, refl}
+use mathlib.Core.Path.{_≡_, refl, _∙_, ap}
 use native.Mathlib.Omega.{arith}
 use borrow.Author.Tests.{ltb-true, ltb-false, le-ltb}
 use lib.Dec.{ltb}
@@ -53,6 +53,14 @@ made-within limit resends s =
     let few = ltb-false resendsMost resends c in
     record { low = omega arith; high = omega arith; few = omega arith })))
 
+-- Their limit is at least 1.
+pub made-some : (limit resends : ℕ) (s : Settings) → settingsOf limit resends ≡ Made s → 1 ≤ s .limit
+made-some limit resends s e =
+    let within = made-within limit resends s e in
+    let given = within-made limit resends within in
+    let same : s .limit ≡ limit = cc in
+    omega (arith, within .low)
+
 module _ (silence elapsed made : ℕ) (settings : Settings) where
   abbrev after : Grown
   after = grownOf silence elapsed made settings
@@ -94,6 +102,16 @@ module _ (silence elapsed made : ℕ) (settings : Settings) where
   -- One call that passes several limits is one expiry: at most one resend.
   pub one-expiry : after .resends ≤ made + 1
   one-expiry = grown-all (λ g. g .resends ≤ made + 1) (λ _. omega arith) (λ _ _. omega arith) (λ _ _. omega arith)
+
+  -- Silence stays below the limit.
+  pub grown-below : 1 ≤ settings .limit → after .silence < settings .limit
+  grown-below some = grown-all (λ g. g .silence < settings .limit) (λ t. t) (λ _ _. omega arith) (λ _ _. omega arith)
+
+-- Where no time passes nothing grows and nothing expires.
+pub no-time : (silence made : ℕ) (settings : Settings) → silence < settings .limit → grownOf silence 0 made settings ≡ grown silence made Quiet
+no-time silence made settings below =
+    let same : silence + 0 ≡ silence = omega arith in
+    below-quiet silence 0 made settings (omega arith) ∙ ap (λ (s : ℕ). grown s made Quiet) same
 
 -- However many limits a call passes, it does what a call does that reaches the first exactly.
 pub many-limits : (silence made e e′ : ℕ) (settings : Settings) → settings .limit ≤ silence + e → settings .limit ≤ silence + e′
