@@ -1,3 +1,4 @@
 pub mod Room
 pub mod Laws
 pub mod Unique
+pub mod Sent
