@@ -1,4 +1,4 @@
--- What one delivery does to a clean line that has one message on its way.
+-- What one delivery does to a clean line that has one message on its way, and that a call with 0 ms elapsed does nothing.
 use Prim.Native.Nat.{ℕ, _+_, _≤_}
 use mathlib.Core.Path.{_≡_, refl, sym, _∙_, ap}
 use mathlib.Core.List.{List, [], _∷_, _++_, append-nil}

@@ -29,7 +29,7 @@ later-of : (going later : List (List ℕ)) (m x : List ℕ) → going ≡ m ∷ 
 later-of going later m x e h = subst (List·Memᴰ x) (sym e) (List·Memᴰ·tail h)
 
 module _ (file memory : List ℕ) (release : Release) (identity : Identity) where
-  -- So it is after time calls of any length too.
+  -- Also after a time call of any length.
   module _ (x : Line) (g : Going file memory release identity x) (elapsed : ℕ) (out : List ℕ) where
     receiver-passes : Going file memory release identity (passedAtReceiver x (receiverTimeOf (x .world .receiver) elapsed out))
     receiver-passes =
