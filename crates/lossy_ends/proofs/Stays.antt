@@ -27,7 +27,7 @@ use Rattle.luck.specs.declared.way.Way.{Way}
 use Rattle.lossy_ends.specs.declared.ends.Ends.{Ends}
 use Rattle.luck.specs.Way.{way, afterWriteOf}
 use Rattle.lossy_ends.specs.Ends.{lossyEnds}
-use Rattle.lossy_ends.specs.Over.{lossyWorld, OnItsWay, Over, Same}
+use Rattle.lossy_ends.specs.Over.{lossyWorld, OnItsWay, Over, Same, Delivered}
 
 module _ (w : Way) (out : List ℕ) (sent : List (List ℕ)) (o : OnItsWay w out sent) (bytes out′ : List ℕ) (written : ℕ)
     (first : out′ ≡ writtenInto bytes out) (count : written ≡ length bytes) where
@@ -80,9 +80,13 @@ module _ (file : List ℕ) (e : Ends) (image up down : List ℕ) (o : Over file 
       (after (e .up) up (o .requests) (o .rising) (indoorBytesOf (e .indoor .plan) file (x .answer .answer)) (x .memory) (x .answer .written) (l .first) (l .written))
       on
 
-  -- Demand 3: when the indoor end reports done, the receiver's image is the file.
-  pub done-holds : e .indoor .state .phase ≡ Done → Same file e image
-  done-holds done =
+  -- Demand 3: when the indoor end reports done, the receiver has marked the file good and holds it.
+  pub done-delivered : e .indoor .state .phase ≡ Done → Delivered file (e .receiver) image
+  done-delivered done =
       let d = demand3 file (o .memory) (o .release) (o .identity) (o .wide) in
       let g = d .doneIsGood (lossyWorld e image (o .requests) (o .responses)) (o .reached) done in
-      (ap (λ (p : Phase). acceptedOf p .bytes) (g .good) ∙ g .holds .counted, g .holds .bytes)
+      record { accepted = g .accepted; good = g .good; counted = g .holds .counted; bytes = g .holds .bytes }
+
+-- The image of a file that is delivered is the file.
+pub delivered-same : (file : List ℕ) (e : Ends) (image : List ℕ) → Delivered file (e .receiver) image → Same file e image
+delivered-same file e image d = (ap (λ (p : Phase). acceptedOf p .bytes) (d .good) ∙ d .counted, d .bytes)

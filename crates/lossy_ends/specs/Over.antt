@@ -7,6 +7,9 @@ use mathlib.Core.List.{List, List·Memᴰ}
 use lib.ListN.{length, take}
 use Rattle.wire.specs.declared.response.Identity.{Identity}
 use Rattle.receiver_state.specs.Phase.{acceptedOf}
+use Rattle.receiver_state.specs.declared.phase.Accepted.{Accepted}
+use Rattle.receiver_state.specs.declared.phase.Phase.the-variants.{Good}
+use Rattle.receiver_state.specs.declared.session.Receiver.{Receiver}
 use Rattle.indoor_state.specs.declared.plan.Release.{Release}
 use Rattle.line.specs.Line.{World, Wide, Reached}
 use Rattle.luck.specs.Way.{messageOnWay}
@@ -34,3 +37,10 @@ pub record Over (file : List ℕ) (e : Ends) (image up down : List ℕ) : Type 0
 -- The receiver has accepted as many bytes as the file has, and they are the file's.
 abbrev pub Same : List ℕ → Ends → List ℕ → Type 0
 Same file e image = (acceptedOf (e .receiver .phase) .bytes ≡ length file) × (take (length file) image ≡ file)
+
+-- What "done" says: the receiver has marked the image good, has accepted as many bytes as the file has, and they are the file's.
+pub record Delivered (file : List ℕ) (receiver : Receiver) (image : List ℕ) : Type 0 where
+  pub accepted : Accepted
+  pub good : receiver .phase ≡ Good accepted
+  pub counted : accepted .bytes ≡ length file
+  pub bytes : take (length file) image ≡ file

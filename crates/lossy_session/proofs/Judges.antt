@@ -1,4 +1,4 @@
--- `judge` is right about the image, and by demand 3 done is never reported of an image that differs from the file.
+-- `judge` is right about the image, and by demand 3 done is reported only where the receiver has marked the file good and holds it.
 use Prim.Native.Nat.{ℕ}
 use mathlib.Core.Bool.{Bool, true, false, true≢false}
 use mathlib.Core.Path.{_≡_, refl, sym, _∙_}
@@ -12,8 +12,8 @@ use Rattle.indoor_state.specs.declared.phase.Phase.{Phase}
 use Rattle.indoor_state.specs.declared.phase.Phase.the-variants.{Identify, Initiate, Transfer, Validate, Done, Failed}
 use Rattle.lossy_ends.specs.declared.ends.Ends.{Ends}
 use Rattle.lossy_session.specs.Judge.{reportsDone, equalOf, sameOf, sessionJudgedOf}
-use Rattle.lossy_ends.specs.Over.{Over, Same}
-use Rattle.lossy_ends.proofs.Stays.{done-holds}
+use Rattle.lossy_ends.specs.Over.{Over, Same, Delivered}
+use Rattle.lossy_ends.proofs.Stays.{done-delivered, delivered-same}
 
 equal-true : (a b : List ℕ) → equalOf a b ≡ true → a ≡ b
 unfolding equalOf
@@ -71,8 +71,9 @@ module _ (file : List ℕ) (e : Ends) (image : List ℕ) where
   pub same-judge : Same file e image → sessionJudgedOf e file image .same ≡ true
   same-judge = true-same (acceptedOf (e .receiver .phase) .bytes) image file
 
-  pub judge-done : (e .indoor .state .phase ≡ Done → Same file e image) → sessionJudgedOf e file image .done ≡ true → sessionJudgedOf e file image .same ≡ true
-  judge-done holds done = same-judge (holds (reports (e .indoor .state .phase) done))
+  -- Done is told of a file that is delivered, and of no other image.
+  pub judge-done : (e .indoor .state .phase ≡ Done → Delivered file (e .receiver) image) → sessionJudgedOf e file image .done ≡ true → Delivered file (e .receiver) image
+  judge-done delivered done = delivered (reports (e .indoor .state .phase) done)
 
   pub judge-over : (up down : List ℕ) → Over file e image up down → sessionJudgedOf e file image .done ≡ true → sessionJudgedOf e file image .same ≡ true
-  judge-over up down o = judge-done (done-holds file e image up down o)
+  judge-over up down o done = same-judge (delivered-same file e image (judge-done (done-delivered file e image up down o) done))

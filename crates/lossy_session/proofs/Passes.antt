@@ -1,4 +1,4 @@
--- Whatever time passes, both ends stay those of a session over a line.
+-- The same time passes at both ends, and whatever time it is, both stay those of a session over a line.
 use Prim.Native.Nat.{ℕ}
 use mathlib.Core.Logic.{inl}
 use mathlib.Core.Path.{_≡_, refl, sym, subst}
@@ -16,6 +16,12 @@ use Rattle.lossy_ends.specs.declared.ends.Ends.{Ends}
 use Rattle.lossy_ends.proofs.Stays.{above-goes, below-goes}
 use Rattle.lossy_session.specs.Pass.{bothPassOf}
 use Rattle.lossy_session.specs.declared.pass_call.Passed.{Passed}
+
+-- The same time passes at both ends: each is left as its own time rule leaves it.
+pub pass-both : (e : Ends) (elapsed : ℕ) (file up down : List ℕ) → let after = bothPassOf e elapsed file up down .answer .ends in
+    (after .receiver ≡ receiverTimeOf (e .receiver) elapsed down .answer .session) × (after .indoor ≡ indoorTimeOf (e .indoor) file elapsed up .answer .session)
+unfolding bothPassOf roofPasses indoorPasses
+pass-both e elapsed file up down = (refl, refl)
 
 module _ (file : List ℕ) (e : Ends) (image up down : List ℕ) (o : Over file e image up down) where
   roof-over : (elapsed : ℕ)

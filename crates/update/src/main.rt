@@ -32,17 +32,34 @@ fn over(file: &mut [u8; FILE], image: &mut [u8; IMAGE]) {
     read(file, image);
 }
 
-// The reading stops at a failure as it does at the file's end; one more read shows which it was.
 fn read(file: &mut [u8], image: &mut [u8]) {
+    let given = given::arguments();
+    if !given.known {
+        given::usage();
+        return;
+    }
     let n = io::read_full(STDIN_FILENO, file);
-    let mut more = [0u8; 1];
-    if libc::read(STDIN_FILENO, &mut more) < 0 {
+    if goes_on(n, file.len()) {
         os::fail(b"read");
         return;
     }
-    let seed = given::luck();
-    let quiet = given::quiet();
-    session::start(identity(), release(), seed, quiet, &file[..n], image);
+    session::start(
+        identity(),
+        release(),
+        given.luck,
+        given.quiet,
+        &file[..n],
+        image,
+    );
+}
+
+// The reading stops at a failure as it does at the file's end. Where there was room for more, only the end brings nothing again.
+fn goes_on(n: usize, room: usize) -> bool {
+    if n == room {
+        return false;
+    }
+    let mut more = [0u8; 1];
+    libc::read(STDIN_FILENO, &mut more) != 0
 }
 
 // A receiver that runs version 1 of its firmware; the file is version 2.

@@ -1,4 +1,5 @@
 // A line of text that grows to the right, on a page of spaces. What does not fit is left out.
+use libc::STDERR_FILENO;
 use libc::STDOUT_FILENO;
 ghost use Prim.Native.Nat.{_≤_};
 ghost use lib.ListN.{length};
@@ -71,10 +72,23 @@ impl Page {
     pub(crate) fn print(self) -> bool
         requires { ⌜ self .at ≤ 120 ⌝ }
     {
+        self.write(STDOUT_FILENO)
+    }
+
+    // What stands on standard error makes the status of whoever runs the program (tools/run).
+    pub(crate) fn complain(self)
+        requires { ⌜ self .at ≤ 120 ⌝ }
+    {
+        self.write(STDERR_FILENO);
+    }
+
+    fn write(self, descriptor: i32) -> bool
+        requires { ⌜ self .at ≤ 120 ⌝ }
+    {
         let page = self.word(b"\n");
         let bytes = page.bytes;
         let at = page.at;
-        io::write_all(STDOUT_FILENO, &bytes[..at])
+        io::write_all(descriptor, &bytes[..at])
     }
 }
 

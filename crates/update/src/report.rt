@@ -15,27 +15,28 @@ ghost use mathlib.Core.Path.{_≡_};
 ghost use Prim.Native.Nat.{_≤_};
 ghost use Rattle.indoor_state.specs.declared.phase.Phase.the-variants.{Done};
 ghost use Rattle.lossy_session.specs.Judge.{reportsDone};
-ghost use Rattle.lossy_ends.specs.Over.{Same};
+ghost use Rattle.lossy_ends.specs.Over.{Same, Delivered};
 
 // A start was refused with this number (01, Numbers we answer).
 pub(crate) fn refused(number: u8) {
     let page = Page::blank().word(b"not started: ").number(number as u64);
     if number == 46 {
-        say(page.word(b", the file is empty or above 1,048,575 bytes"));
+        page.word(b", the file is empty or above 1,048,575 bytes")
+            .complain();
         return;
     }
-    say(page);
+    page.complain();
 }
 
 // The first line that cannot be written ends the report.
 pub(crate) fn ended(ended: Ended, file: &[u8], image: &[u8])
-    requires { ⌜ (ended .ends .indoor .state .phase ≡ Done → Same (now file) (ended .ends) (now image)) ⌝ }
+    requires { ⌜ (ended .ends .indoor .state .phase ≡ Done → Delivered (now file) (ended .ends .receiver) (now image)) ⌝ }
 {
     let ends = ended.ends;
     let counts = ended.counts;
     let receiver = ends.receiver;
     let judged = judge(ends, file, image);
-    if outcome(receiver, phases::indoors(ends.indoor), judged) {
+    if outcome(receiver, phases::indoors(ends.indoor), judged, file, image) {
         return;
     }
     if messages(counts, ended.turns) {
@@ -47,24 +48,36 @@ pub(crate) fn ended(ended: Ended, file: &[u8], image: &[u8])
     equality(judged);
 }
 
-// Done is never reported of an image that differs from the file (demand 3).
+// Done is reported only where the receiver has marked the file good and holds it (demand 3).
 fn judge(ends: Ends, file: &[u8], image: &[u8]) -> Judged
-    requires { ⌜ (ends .indoor .state .phase ≡ Done → Same (now file) ends (now image)) ⌝ }
+    requires { ⌜ (ends .indoor .state .phase ≡ Done → Delivered (now file) (ends .receiver) (now image)) ⌝ }
     ensures { λ r. ⌜ r .done ≡ reportsDone (ends .indoor .state .phase) ⌝ }
     ensures { λ r. ⌜ (r .same ≡ true → Same (now (file .entry)) ends (now (image .entry))) ⌝ }
     ensures { λ r. ⌜ (Same (now (file .entry)) ends (now (image .entry)) → r .same ≡ true) ⌝ }
+    ensures { λ r. ⌜ (r .done ≡ true → Delivered (now (file .entry)) (ends .receiver) (now (image .entry))) ⌝ }
     ensures { λ r. ⌜ (r .done ≡ true → r .same ≡ true) ⌝ }
 {
     lossy_session::judge(ends, file, image)
 }
 
-fn outcome(receiver: Receiver, phase: Phase, judged: Judged) -> bool {
+// What is not done is told on standard error.
+fn outcome(receiver: Receiver, phase: Phase, judged: Judged, file: &[u8], image: &[u8]) -> bool
+    requires { ⌜ (judged .done ≡ true → Delivered (now file) receiver (now image)) ⌝ }
+{
     if judged.done {
-        return say(Page::blank().word(b"done: the receiver has marked the image good"));
+        return done(receiver, file, image);
     }
     let begun = Page::blank().word(b"not done: ");
     let named = failure(phases::indoor(begun, phase), phase);
-    say(phases::receiver_name(named.word(b"; "), phases::roof(receiver)))
+    phases::receiver_name(named.word(b"; "), phases::roof(receiver)).complain();
+    false
+}
+
+// Only this function has the sentence, so that it is proved to be true wherever it is told.
+fn done(receiver: Receiver, file: &[u8], image: &[u8]) -> bool
+    requires { ⌜ Delivered (now file) receiver (now image) ⌝ }
+{
+    say(Page::blank().word(b"done: the receiver has marked the image good"))
 }
 
 fn failure(page: Page, phase: Phase) -> Page

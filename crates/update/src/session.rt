@@ -13,7 +13,7 @@ use wire::codes;
 use wire::response::Identity;
 ghost use mathlib.Core.Path.{_≡_};
 ghost use Rattle.indoor_state.specs.declared.phase.Phase.the-variants.{Done};
-ghost use Rattle.lossy_ends.specs.Over.{Over, Same};
+ghost use Rattle.lossy_ends.specs.Over.{Over, Delivered};
 
 // The receiver's limit is far below the indoor end's, since it alone heals a loss in Transfer (docs/HAZARDS.md), and with its resends it
 // lasts for some of the indoor end's (include/harsolvek.h, Limits).
@@ -44,7 +44,7 @@ pub(crate) fn carry(
     down: &mut [u8],
 ) -> Ended
     requires { ⌜ Over (now file) begun (now image) (now up) (now down) ⌝ }
-    ensures { λ r. ⌜ (r .ends .indoor .state .phase ≡ Done → Same (now (file .entry)) (r .ends) (now (image .exit))) ⌝ }
+    ensures { λ r. ⌜ (r .ends .indoor .state .phase ≡ Done → Delivered (now (file .entry)) (r .ends .receiver) (now (image .exit))) ⌝ }
 {
     let mut ends = begun;
     let mut counts = Counts::first();

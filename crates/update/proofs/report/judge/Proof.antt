@@ -1,5 +1,6 @@
 use mathlib.Core.Path.{refl}
 use denote.Ref.{now}
+use Rattle.lossy_ends.proofs.Stays.{delivered-same}
 use Rattle.lossy_session.proofs.Judges.{judge-same, same-judge, judge-done}
 use borrow.Author.Needs.{needs}
 use Rattle.update.proofs.report.judge.Statement.{statement}
@@ -13,4 +14,5 @@ judge-spec =
     (λ c. let a = c .before .before .before .args in
     let file = now (a .file) in
     let image = now (a .image) in
-    rw (c .judge .ensures) (refl, (judge-same file (a .ends) image, (same-judge file (a .ends) image, judge-done file (a .ends) image (c .before .before .before .pre))))))
+    let delivered = judge-done file (a .ends) image (c .before .before .before .pre) in
+    rw (c .judge .ensures) (refl, (judge-same file (a .ends) image, (same-judge file (a .ends) image, (delivered, (λ done. same-judge file (a .ends) image (delivered-same file (a .ends) image (delivered done)))))))))

@@ -2,7 +2,7 @@ use Prim.Native.Nat.{_-_}
 use mathlib.Core.Path.{refl}
 use native.Mathlib.Omega.{arith}
 use borrow.Author.Needs.{needs}
-use Rattle.lossy_ends.proofs.Stays.{done-holds}
+use Rattle.lossy_ends.proofs.Stays.{done-delivered}
 use Rattle.update.proofs.Middle.{Middle}
 use Rattle.update.proofs.session.carry.Statement.{statement}
 use Rattle.update.proofs.session.carry.Tie as tie
@@ -76,7 +76,7 @@ same-length-3 : tie.Need-same-length-3 Inv-loop μ-loop
 same-length-3 c = c .before .loop .inv .falling
 
 returns : tie.Need-returns Inv-loop μ-loop
-returns c = done-holds _ _ _ _ _ (c .before .loop .inv .over)
+returns c = done-delivered _ _ _ _ _ (c .before .loop .inv .over)
 
 same-length-4 : tie.Need-same-length-4 Inv-loop μ-loop
 same-length-4 c = c .before .before .before .loop .inv .size
@@ -88,7 +88,7 @@ same-length-6 : tie.Need-same-length-6 Inv-loop μ-loop
 same-length-6 c = c .before .before .before .loop .inv .falling
 
 returns-2 : tie.Need-returns-2 Inv-loop μ-loop
-returns-2 c = done-holds _ _ _ _ _ (c .before .before .before .loop .inv .over)
+returns-2 c = done-delivered _ _ _ _ _ (c .before .before .before .loop .inv .over)
 
 same-length-7 : tie.Need-same-length-7 Inv-loop μ-loop
 same-length-7 c = c .before .before .before .before .loop .inv .size
@@ -100,7 +100,7 @@ same-length-9 : tie.Need-same-length-9 Inv-loop μ-loop
 same-length-9 c = c .before .before .before .before .loop .inv .falling
 
 returns-3 : tie.Need-returns-3 Inv-loop μ-loop
-returns-3 c = done-holds _ _ _ _ _ (c .before .before .before .before .loop .inv .over)
+returns-3 c = done-delivered _ _ _ _ _ (c .before .before .before .before .loop .inv .over)
 
 pub carry-spec : {M : Type 1} → statement M
 carry-spec =

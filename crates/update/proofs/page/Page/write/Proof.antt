@@ -3,11 +3,11 @@ use native.Mathlib.Omega.{arith}
 use lib.Seq.{length-take-le}
 use lib.ListN.{length}
 use borrow.Author.Needs.{needs}
-use Rattle.update.proofs.page.Page.print.Statement.{statement}
-use Rattle.update.proofs.page.Page.print.Tie as tie
+use Rattle.update.proofs.page.Page.write.Statement.{statement}
+use Rattle.update.proofs.page.Page.write.Tie as tie
 
-pub print-spec : {M : Type 1} → statement M
-print-spec =
+pub write-spec : {M : Type 1} → statement M
+write-spec =
     tie.close
     (tie.spec
     (λ c. search needs)
