@@ -18,9 +18,11 @@ pub(crate) struct Lent {
     pub buffer: usize,
 }
 
+// `written`: the last line could be written.
 pub(crate) struct Bench {
     pub outdoors: Outdoors,
     pub indoors: Indoors,
+    pub written: bool,
 }
 
 // The receiver's part. `session` is `Refused` before the first start too: there is no session.
@@ -58,7 +60,13 @@ impl Bench {
                 lent,
                 said: Said::nothing(),
             },
+            written: true,
         }
+    }
+
+    pub(crate) fn wrote(mut self, written: bool) -> Bench {
+        self.written = written;
+        self
     }
 }
 

@@ -7,7 +7,7 @@ use script::Field;
 // What the lent memory holds before a call, so that what is written shows.
 const UNWRITTEN: u8 = 0xEE;
 
-// Enough for the longest recording that a line spells: 320 records, each with a line of 11 bytes, as every answer is one digit.
+// Enough for the longest recording that a line spells: 319 records, each with a line of 11 bytes, as every answer is one digit.
 const OUTPUT: usize = 4000;
 
 // Far behind every recording that a line spells.
@@ -39,6 +39,10 @@ fn spelled(query: Query, words: &[u8], room: Field) -> Said {
     }
     let spelled = script::spell(script::from(words, room.end));
     if !spelled.known {
+        return Said::not_understood();
+    }
+    // A recording that fills the room may be cut, and a part of it is not played for the whole.
+    if script::ROOM <= spelled.len {
         return Said::not_understood();
     }
     let bytes = spelled.bytes;

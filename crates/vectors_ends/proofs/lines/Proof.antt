@@ -25,8 +25,11 @@ lines-spec =
     (λ c. search needs)
     (λ c. search needs)
     (λ c κs. search needs)
+    (λ c. search needs)
+    (λ c. search needs)
+    (λ c. search needs)
     (λ c.
-    let afterLine = c .before .before .before .before in
+    let afterLine = c .before .before .before .before .before .before in
     let afterFind = afterLine .before .before .before .before in
     let afterSliceKnown2 = afterFind .before .before .before .before in
     let entry = afterSliceKnown2 .before .before .before .before in
