@@ -11,18 +11,18 @@ use Rattle.mailbox_state.specs.declared.mailbox.Mailbox.{Mailbox}
 use Rattle.mailbox_state.specs.declared.mailbox.Outcome.{Outcome}
 use Rattle.mailbox_state.specs.declared.mailbox.Fresh.{Fresh}
 use Rattle.mailbox_rules.specs.MessageIn.{zeroMessageIn}
-use Rattle.mailbox_rules.specs.Mailbox.{freshMailbox, startReturns, mailboxFreshOf, messageInOf, mailboxCciOf}
+use Rattle.mailbox_rules.specs.Mailbox.{freshMailbox, mailboxFreshOf, messageInOf, mailboxCciOf}
 use Rattle.mailbox_rules.specs.Events as event
 use Rattle.mailbox_rules.specs.Events.{Event, eventOf}
 use Rattle.mailbox_rules.specs.History.{Reached}
 use Rattle.mailbox_rules.proofs.Laws.{fresh-made, fresh-29-zero, fresh-29-above}
-use Rattle.mailbox_rules.proofs.Reached.{reached-fresh, reached-next, made, holds}
+use Rattle.mailbox_rules.proofs.Reached.{reached-fresh, reached-next, reached-formed}
 use Rattle.mailbox_flat.specs.Flat.{mailboxPackOf, mailboxUnpackOf, isMailbox, zeroMailbox}
 use Rattle.mailbox_flat.specs.Waiting.{waitingBytesOf}
 use Rattle.mailbox_flat.specs.Status.{flatStatusOf}
 use Rattle.mailbox_flat.specs.declared.flat.FlatMailbox.{FlatMailbox}
 use Rattle.mailbox_flat.proofs.Inverse.{unpack-pack, pack-unpack, pack-mailbox}
-use Rattle.link.specs.Mailbox.{mailboxOutcome, flatMailboxOf, flatEventOf, harsolvekMailboxFresh, harsolvekMailboxWrite, harsolvekMailboxSuccess, harsolvekMailboxFailure, harsolvekMailboxChange, flatCci, harsolvekMailboxCci, flatMessageIn, harsolvekMailboxMessageIn}
+use Rattle.link.specs.Mailbox.{mailboxOutcome, flatEventOf, harsolvekMailboxFresh, harsolvekMailboxWrite, harsolvekMailboxSuccess, harsolvekMailboxFailure, harsolvekMailboxChange, flatCci, harsolvekMailboxCci, flatMessageIn, harsolvekMailboxMessageIn}
 use Rattle.link.specs.declared.mailbox_calls.MailboxOutcome.{MailboxOutcome}
 use Rattle.link.specs.Handed.{HandedMailbox, starts, writes, succeeds, fails, changes}
 
@@ -96,10 +96,8 @@ module _ (count : ℕ) where
 
   reaches : (m : Mailbox) → Reached count m → Reaches (mailboxPackOf m)
   reaches m r =
-      let same = holds count r .connectors in
-      let count-of = made count (r .made) in
       record {
-        is = pack-mailbox m (rw same (count-of .low)) (rw same (count-of .high));
+        is = pack-mailbox m (reached-formed r .low) (reached-formed r .high);
         reached = subst (Reached count) (sym (unpack-pack m)) r;
       }
 

@@ -14,6 +14,7 @@ use Rattle.mailbox_state.specs.declared.status.CommandStatus.{CommandStatus}
 use Rattle.mailbox_state.specs.declared.status.CommandStatus.the-variants.{Nothing, ResetDone, Busy, Completed, Failed, NotSupported, Cancelled, Acknowledged}
 use Rattle.mailbox_rules.specs.Cci.{cciBitsOf}
 use Rattle.mailbox_rules.specs.Says.{setFrom, Says}
+use Rattle.mailbox_rules.specs.WellFormed.{LengthFits}
 
 -- Bit 16 + i of a number is bit i of its upper half.
 abbrev above : List ℕ → List ℕ
@@ -81,6 +82,16 @@ module _ (shown : ℕ) where
   busy-says command = says _ _ _ (2 ^ 12) (omega arith) (omega arith) (omega arith) (omega arith)
 
 -- Of every status.
+pub cci-width : (status : CommandStatus) (shown : ℕ) → LengthFits status → cciBitsOf status shown < 2 ^ 32
+cci-width Nothing shown h = nothing-says shown .width
+cci-width ResetDone shown h = reset-done-says shown .width
+cci-width (Busy command) shown h = busy-says shown command .width
+cci-width (Completed n) shown h = let few = h n refl in completed-says shown n (omega (arith, few)) .width
+cci-width Failed shown h = failed-says shown .width
+cci-width NotSupported shown h = not-supported-says shown .width
+cci-width Cancelled shown h = cancelled-says shown .width
+cci-width Acknowledged shown h = acknowledged-says shown .width
+
 pub outside-shows : (status : CommandStatus) (shown : ℕ) → runsOf status ≡ false → cciBitsOf status shown / 2 ^ 1 % 2 ^ 7 ≡ shown % 128
 unfolding cciBitsOf runsOf
 outside-shows Nothing shown e = omega arith

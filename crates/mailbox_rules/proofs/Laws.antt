@@ -28,7 +28,7 @@ use Rattle.mailbox_rules.specs.Report.{successStepOf, failureStepOf}
 use Rattle.mailbox_rules.specs.Write.{controlStepOf}
 use Rattle.mailbox_rules.specs.MessageIn.{zeroMessageIn, settledOf}
 use Rattle.mailbox_rules.specs.Mailbox.{mailbox, freshMailbox, startReturns, mailboxFreshOf, mailboxCciOf, mailboxReturns}
-use Rattle.mailbox_rules.specs.Events.{Event, writes, succeeds, fails, changes, parsedStepOf, eventStepOf, portBytes, stepReturns, eventOf}
+use Rattle.mailbox_rules.specs.Events.{Event, writes, succeeds, fails, changes, parsedStepOf, portBytes, stepReturns, eventOf}
 use Rattle.mailbox_rules.proofs.Bits.{in-run-alone, outside-shows, others-stay, bit-0-clear}
 use Rattle.mailbox_rules.proofs.Keeps.{event-keeps}
 use Rattle.mailbox_rules.proofs.Noted.{change-alters, change-9-zero, change-9-above}

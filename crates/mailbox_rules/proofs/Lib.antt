@@ -14,12 +14,13 @@ pub mod Report
 pub mod ByCode
 pub mod Running
 pub mod Steps
+pub mod WellFormed
+pub mod Sizes
 pub mod Until
 pub mod Laws
 pub mod Message
 pub mod Reached
 pub mod Shown
-pub mod Sizes
 pub mod ByClass
 pub mod Switch
 pub mod Taken

@@ -1,23 +1,33 @@
--- From a fresh mailbox, over any events: the connector shown and those waiting are within the count (01, The mailbox).
-use Prim.Native.Nat.{ℕ, _/_, _%_, _^_, _≤_}
-use mathlib.Core.Bool.{false}
+-- From a fresh mailbox, over any events: it is well-formed and has its sizes, and so every CCI has 32 bits (01, The mailbox).
+use Prim.Native.Nat.{ℕ, _-_, _/_, _%_, _^_, _≤_, _<_}
+use mathlib.Core.Bool.{Bool, false}
 use mathlib.Core.List.{List, [], _∷_, _++_}
 use mathlib.Core.Path.{_≡_, refl, sym, _∙_, ap, subst}
 use native.Mathlib.Omega.{arith}
+use lib.ListN.{getD}
 use Rattle.basis.specs.Pick.{pick-all, differ-true, differ-false}
 use Rattle.mailbox_state.specs.Answer.{mailboxNumberOf}
 use Rattle.mailbox_state.specs.Connectors.{connectorsNumberOf}
 use Rattle.mailbox_state.specs.Status.{runsOf}
 use Rattle.mailbox_state.proofs.Numbers.{counted-within}
-use Rattle.mailbox_state.specs.declared.step.Step.{Step}
+use Rattle.mailbox_state.specs.declared.status.CommandStatus.{CommandStatus}
+use Rattle.mailbox_state.specs.declared.status.CommandStatus.the-variants.{Completed}
 use Rattle.mailbox_state.specs.declared.mailbox.Mailbox.{Mailbox}
 use Rattle.mailbox_state.specs.declared.mailbox.Fresh.{Fresh}
-use Rattle.mailbox_rules.proofs.Places.{Within, none-within}
-use Rattle.mailbox_rules.proofs.Steps.{Steps, event-steps}
-use Rattle.mailbox_rules.proofs.Laws.{cci-outside}
-use Rattle.mailbox_rules.specs.Mailbox.{mailbox, freshMailbox, mailboxFreshOf, mailboxCciOf}
-use Rattle.mailbox_rules.specs.Events.{Event, eventStepOf, eventOf}
-use Rattle.mailbox_rules.specs.History.{History, history, answeredOf, historyFrom, historyOf, Reached}
+use Rattle.mailbox_rules.specs.Changes.{markedOf}
+use Rattle.mailbox_rules.specs.Cci.{cciBitsOf}
+use Rattle.mailbox_rules.specs.Events.{Event, eventOf}
+use Rattle.mailbox_rules.specs.History.{History, history, answeredOf, historyFrom, Reached}
+use Rattle.mailbox_rules.specs.Mailbox.{freshMailbox, mailboxFreshOf, mailboxCciOf}
+use Rattle.mailbox_rules.specs.Says.{Says}
+use Rattle.mailbox_rules.specs.WellFormed.{WellFormed, Sizes}
+use Rattle.mailbox_rules.proofs.Bits.{cci-width, completed-says}
+use Rattle.mailbox_rules.proofs.Laws.{cci-outside, fresh-counts}
+use Rattle.mailbox_rules.proofs.Marked.{marked}
+use Rattle.mailbox_rules.proofs.Places.{Behind, none-behind, noted-behind, next-behind}
+use Rattle.mailbox_rules.proofs.Sizes.{fresh-sizes, event-sizes}
+use Rattle.mailbox_rules.proofs.Steps.{event-connectors, event-changes}
+use Rattle.mailbox_rules.proofs.WellFormed.{fresh-formed, event-formed}
 
 -- A history goes on: after the answers so far comes the event, with the number that it is answered and CCI afterwards.
 abbrev goesOn : History → Event → History
@@ -65,39 +75,59 @@ made count =
     let within = counted-within count (differ-false (connectorsNumberOf count) 0 n) in
     record { low = within .0; high = within .1; fresh = refl })
 
-pub record Holds (count : ℕ) (m : Mailbox) : Type 0 where
-  pub connectors : m .state .connectors ≡ count
-  pub within : Within count (m .state .changes)
-
-module _ (count : ℕ) where
-  keeps : (m : Mailbox) (e : Event) → Holds count m → Holds count (eventOf m e .mailbox)
-  keeps m e h =
-      let s = event-steps (m .state) e in
-      record {
-        connectors = s .connectors ∙ h .connectors;
-        within =
-            subst (λ (n : ℕ). Within n (eventStepOf (m .state) e .state .changes)) (h .connectors)
-            (s .inside (subst (λ (n : ℕ). Within n (m .state .changes)) (sym (h .connectors)) (h .within)));
-      }
-
-  keeps-all : (m : Mailbox) (events : List Event) → Holds count m → Holds count (historyFrom m events .mailbox)
+-- What holds of a fresh mailbox and is kept by every event holds after any history.
+module _ (P : Mailbox → Type 0) (keeps : (m : Mailbox) (e : Event) → P m → P (eventOf m e .mailbox)) where
+  keeps-all : (m : Mailbox) (events : List Event) → P m → P (historyFrom m events .mailbox)
   unfolding historyFrom
   keeps-all m [] h = h
   keeps-all m (e ∷ events) h = keeps-all (eventOf m e .mailbox) events (keeps m e h)
 
-  fresh-holds : Holds count (freshMailbox count)
+  pub after-any : {count : ℕ} {m : Mailbox} → P (freshMailbox count) → Reached count m → P m
+  after-any {count} fresh r =
+      subst P (r .ending) (keeps-all (mailboxFreshOf count .mailbox) (r .events) (subst P (sym (made count (r .made) .fresh)) fresh))
+
+module _ {count : ℕ} {m : Mailbox} (r : Reached count m) where
+  pub reached-formed : WellFormed (m .state)
+  reached-formed =
+      after-any (λ x. WellFormed (x .state)) (λ x e. event-formed (x .state) e) (fresh-formed count (made count (r .made) .low) (made count (r .made) .high)) r
+
+  pub reached-sizes : Sizes m
+  reached-sizes = after-any Sizes event-sizes (fresh-sizes count) r
+
+  -- The connectors are fixed at the start.
+  pub reached-count : m .state .connectors ≡ count
+  reached-count = after-any (λ x. x .state .connectors ≡ count) (λ x e h. event-connectors (x .state) e ∙ h) (fresh-counts count) r
+
+  -- None waits while none is shown.
+  pub reached-behind : Behind (m .state .changes)
   unfolding freshMailbox
-  fresh-holds = record { connectors = refl; within = none-within count }
+  reached-behind =
+      after-any (λ x. Behind (x .state .changes))
+      (λ x e h.
+      event-changes Behind none-behind (x .state) (λ _. next-behind (x .state .changes)) (λ c low high _. noted-behind (x .state .changes) c low) h e)
+      none-behind r
 
-  pub holds : {m : Mailbox} → Reached count m → Holds count m
-  holds {m} r =
-      subst (Holds count) (r .ending)
-      (keeps-all (mailboxFreshOf count .mailbox) (r .events) (subst (Holds count) (sym (made count (r .made) .fresh)) fresh-holds))
+  -- Seven bits hold the connector shown.
+  pub shown-fits : m .state .changes .shown % 128 ≡ m .state .changes .shown
+  shown-fits = let few = reached-formed .within .shown in let most = reached-formed .high in omega (arith, few, most)
 
-  -- So seven bits hold the connector shown.
-  pub shown-in-cci : {m : Mailbox} → Reached count m → runsOf (m .state .status) ≡ false → mailboxCciOf m / 2 ^ 1 % 2 ^ 7 ≡ m .state .changes .shown
-  shown-in-cci {m} r still =
-      let e = cci-outside m still in
-      let low = holds r .within .shown in
-      let few = made count (r .made) .high in
-      omega (arith, e, low, few)
+  pub shown-in-cci : runsOf (m .state .status) ≡ false → mailboxCciOf m / 2 ^ 1 % 2 ^ 7 ≡ m .state .changes .shown
+  shown-in-cci still = cci-outside m still ∙ shown-fits
+
+  -- CCI is 32 bits, whatever it says; after a completion it says the data length.
+  pub reached-width : mailboxCciOf m < 2 ^ 32
+  reached-width = cci-width (m .state .status) (m .state .changes .shown) (reached-sizes .dataLength)
+
+  pub reached-completed : (n : ℕ) → m .state .status ≡ Completed n → Says (mailboxCciOf m) (m .state .changes .shown) n (31 ∷ [])
+  reached-completed n e =
+      let few = reached-sizes .dataLength n e in
+      subst (λ (t : CommandStatus). Says (cciBitsOf t (m .state .changes .shown)) (m .state .changes .shown) n (31 ∷ [])) (sym e)
+      (subst (λ (c : ℕ). Says (cciBitsOf (Completed n) (m .state .changes .shown)) c n (31 ∷ [])) shown-fits
+      (completed-says (m .state .changes .shown) n (omega (arith, few))))
+
+  -- A connector that is marked waits, and one that is marked so waits no more.
+  pub reached-marked : (c : ℕ) → 1 ≤ c → c ≤ count → (b : Bool) → getD (markedOf (m .state .changes .waiting) c b) (c - 1) false ≡ b
+  reached-marked c low high b =
+      let most = reached-formed .high in
+      let same = reached-count in
+      marked (m .state .changes .waiting) c b low (omega (arith, high, most, same)) (reached-sizes .eight)

@@ -28,15 +28,14 @@ use Rattle.mailbox_rules.specs.MessageIn.{zeroMessageIn, settledOf}
 use Rattle.mailbox_rules.specs.Sentences.{answers, next, runs, shown, waits, NoChange, Completes, zeros, Start, Sentences, MailboxKeeps}
 use Rattle.mailbox_rules.proofs.Bits.{completed-says, failed-says}
 use Rattle.mailbox_rules.proofs.Laws.{control-1, refused-keeps, cci-in-run, change-cci-high, change-cci-low, change-cci-in-run, change-altered, fresh-made, fresh-counts, fresh-29-zero, fresh-29-above, fresh-is}
-use Rattle.mailbox_rules.proofs.Marked.{marked, marked-others}
+use Rattle.mailbox_rules.proofs.Marked.{marked-others}
 use Rattle.mailbox_rules.proofs.Message.{filled}
 use Rattle.mailbox_rules.proofs.Noted.{altering, change-9-zero, change-9-above, change-off, change-dropped, change-recorded, noted-none, noted-waits}
-use Rattle.mailbox_rules.proofs.Reached.{made}
+use Rattle.mailbox_rules.proofs.Reached.{made, reached-formed, reached-sizes, reached-count, reached-width, reached-marked}
 use Rattle.mailbox_rules.proofs.Report.{success-7, success-8, success-completes, failure-7, failure-completes}
 use Rattle.mailbox_rules.proofs.Until.{due-until, run-until}
-use Rattle.mailbox_rules.proofs.Sizes.{reached-eight, reached-256}
 use Rattle.mailbox_rules.proofs.Switch.{event-mask}
-use Rattle.mailbox_rules.proofs.Taken.{numbered, fixed, completes}
+use Rattle.mailbox_rules.proofs.Taken.{numbered, completes}
 use Rattle.mailbox_rules.proofs.Writes.{reset-step, reset-gives, reset-still, enable-step, enable-completes, cancel-completes, capability-starts, connector-reset-starts, connector-capability-starts, connector-status-starts, absent-completes, other-completes, six, completion-acked, change-acked, none-shown-number, neither-number, nothing-due-number, two, three, four}
 
 none-in : (n i : ℕ) → getD (replicate n false) i false ≡ false
@@ -82,11 +81,11 @@ module _ {count : ℕ} {m : Mailbox} (r : Reached count m) where
 
     nine : (c ≡ 0) ⊎ (count < c) → answers m (changes c reason) ≡ 9
     nine (inl z) = numbered m (changes c reason) _ (change-9-zero state c reason z)
-    nine (inr above) = numbered m (changes c reason) _ (change-9-above state c reason (omega (arith, fixed r)))
+    nine (inr above) = numbered m (changes c reason) _ (change-9-above state c reason (omega (arith, reached-count r)))
 
     module _ (low : 1 ≤ c) (high : c ≤ count) (mask : ℕ) where
       connected : c ≤ state .connectors
-      connected = omega (arith, fixed r)
+      connected = omega (arith, reached-count r)
 
       dropped : (state .notifications ≡ Off) ⊎ ((state .notifications ≡ On mask) × (meetsOf reason mask ≡ false))
           → (answers m (changes c reason) ≡ 0) × (changed ≡ m)
@@ -118,8 +117,7 @@ module _ {count : ℕ} {m : Mailbox} (r : Reached count m) where
             × ((j : ℕ) → 1 ≤ j → (j ≡ c → ⊥) → waits changed j ≡ waits m j)
         becomes-waiting h =
             let p = noted-is _ (noted-waits (state .changes) c h) in
-            let few = made count (r .made) .high in
-            let w = marked (state .changes .waiting) c true low (omega (arith, few)) (reached-eight r) in (
+            let w = reached-marked r c low high true in (
               recorded-0,
               ap (λ (s : Changes). s .shown) p,
               ap (λ (s : Changes). getD (s .waiting) (c - 1) false) p ∙ w,
@@ -131,8 +129,10 @@ module _ {count : ℕ} {m : Mailbox} (r : Reached count m) where
       record {
         low = made count (r .made) .low;
         high = made count (r .made) .high;
-        fixed = fixed r;
-        messageInSize = reached-256 r;
+        fixed = reached-count r;
+        formed = reached-formed r;
+        sizes = reached-sizes r;
+        cciSize = reached-width r;
         reset = reset-gives r;
         resetChanges = λ control c. no-change (next m (writes control)) (ap (λ (s : Step). s .state .changes) (reset-step r control c));
         resetOff = λ control c. ap (λ (s : Step). s .state .notifications) (reset-step r control c);

@@ -1,31 +1,38 @@
--- After any history there are eight places for those that wait, and MESSAGE_IN has 256 bytes (01, The mailbox).
-use Prim.Native.Nat.{ℕ}
+-- A fresh mailbox has eight places for those that wait, 256 bytes of MESSAGE_IN and a data length of one byte, and every event keeps them
+-- (01, The mailbox).
+use Prim.Native.Nat.{ℕ, _≤_}
 use mathlib.Core.Bool.{Bool, true, false}
-use mathlib.Core.List.{List, [], _∷_}
-use mathlib.Core.Logic.{_⊎_, inl, inr}
+use mathlib.Core.List.{List}
 use mathlib.Core.Path.{_≡_, refl, sym, _∙_, ap, subst}
+use native.Mathlib.Omega.{arith}
+use borrow.Author.Tests.{ltb-false}
 use lib.ListN.{length, length-set, length-replicate}
 use Rattle.basis.specs.Pick.{pick-all}
 use Rattle.commands.specs.Control.{controlOf}
+use Rattle.commands.specs.Table.{entryOf}
+use Rattle.commands.specs.declared.control.Control.{Control}
 use Rattle.commands.specs.declared.control.Parsed.{Parsed}
 use Rattle.commands.specs.declared.control.Parsed.the-variants.{Fields, WrongLength}
+use Rattle.commands.specs.declared.table.Class.{Class}
+use Rattle.commands.specs.declared.table.Class.the-variants as class
 use Rattle.lent.proofs.Laws.{put-length}
-use Rattle.mailbox_state.specs.declared.answer.Answer.{Answer}
 use Rattle.mailbox_state.specs.declared.mailbox.Mailbox.{Mailbox}
 use Rattle.mailbox_state.specs.declared.state.Changes.{Changes}
 use Rattle.mailbox_state.specs.declared.state.State.{State}
+use Rattle.mailbox_state.specs.declared.status.CommandStatus.{CommandStatus}
+use Rattle.mailbox_state.specs.declared.status.CommandStatus.the-variants.{Nothing, ResetDone, Busy, Completed, Failed, NotSupported, Cancelled, Acknowledged}
 use Rattle.mailbox_state.specs.declared.step.MessageEffect.{MessageEffect}
 use Rattle.mailbox_state.specs.declared.step.MessageEffect.the-variants.{Kept, ZeroedAtReset, ZeroedAtCancel, ZeroedAtCompletion, Filled}
+use Rattle.mailbox_state.specs.declared.step.Step.{Step}
 use Rattle.mailbox_rules.specs.Changes.{lowestOf, markedOf, notedOf, nextShownOf}
 use Rattle.mailbox_rules.specs.Events.{Event, writes, succeeds, fails, changes, parsedStepOf, eventStepOf, portBytes, eventOf}
-use Rattle.mailbox_rules.specs.History.{historyFrom, Reached}
-use Rattle.mailbox_rules.specs.Mailbox.{mailboxFreshOf, messageInOf}
+use Rattle.mailbox_rules.specs.Mailbox.{freshMailbox}
 use Rattle.mailbox_rules.specs.MessageIn.{zeroMessageIn, filledOf, settledOf}
-use Rattle.mailbox_rules.specs.Sentences.{zeros}
-use Rattle.mailbox_rules.proofs.Command.{ShownBy, stays, reset, acknowledged, write-shown}
-use Rattle.mailbox_rules.proofs.Laws.{fresh-is}
+use Rattle.mailbox_rules.specs.Report.{dataMost, successStepOf, failureStepOf}
+use Rattle.mailbox_rules.specs.WellFormed.{LengthFits, Sizes}
+use Rattle.mailbox_rules.specs.Write.{startsCommand, takenStepOf, judgedStepOf}
 use Rattle.mailbox_rules.proofs.Noted.{change-alters}
-use Rattle.mailbox_rules.proofs.Report.{success-leaves, failure-leaves}
+use Rattle.mailbox_rules.proofs.Steps.{event-changes}
 
 -- There are always eight places for those that wait, so that one who is marked waits.
 abbrev Eight : Changes → Type 0
@@ -46,56 +53,77 @@ module _ (now : Changes) (eight : Eight now) where
   unfolding nextShownOf
   next-eight = marked-eight (lowestOf (now .waiting)) false
 
-module _ (state : State) (eight : Eight (state .changes)) where
-  parsed-eight : (parsed : Parsed) → Eight (parsedStepOf state parsed .state .changes)
-  unfolding parsedStepOf
-  parsed-eight WrongLength = eight
-  parsed-eight (Fields control) = by (write-shown state control)
-    where
-      by : {a : Answer} {after : Changes} → ShownBy control a (state .changes) after → Eight after
-      by (stays e) = subst Eight (sym e) eight
-      by (reset h e) = subst Eight (sym e) refl
-      by (acknowledged h b t e) = subst Eight (sym e) (next-eight (state .changes) eight)
-
-  change-eight : (c : ℕ) (after : Changes) {A : Type 0} → (after ≡ state .changes) ⊎ (A × (after ≡ notedOf (state .changes) c)) → Eight after
-  change-eight c after (inl e) = subst Eight (sym e) eight
-  change-eight c after (inr (a, e)) = subst Eight (sym e) (noted-eight (state .changes) eight c)
-
-  event-eight : (e : Event) → Eight (eventStepOf state e .state .changes)
-  event-eight (writes control) = parsed-eight (controlOf control)
-  event-eight (succeeds bytes) = subst Eight (sym (success-leaves state (length bytes))) eight
-  event-eight fails = subst Eight (sym (failure-leaves state)) eight
-  event-eight (changes c reason) = change-eight c _ (change-alters state c reason .noted)
-
-history-eight : (m : Mailbox) (events : List Event) → Eight (m .state .changes) → Eight (historyFrom m events .mailbox .state .changes)
-unfolding historyFrom
-history-eight m [] eight = eight
-history-eight m (e ∷ events) eight = history-eight (eventOf m e .mailbox) events (event-eight (m .state) eight e)
-
-pub reached-eight : {count : ℕ} {m : Mailbox} → Reached count m → Eight (m .state .changes)
-reached-eight {count} r =
-    subst (λ (x : Mailbox). Eight (x .state .changes)) (r .ending)
-    (history-eight (mailboxFreshOf count .mailbox) (r .events) (ap (λ (now : Changes). length (now .waiting)) (fresh-is count .changes)))
-
 -- MESSAGE_IN is always 256 bytes.
-zeros-256 : length zeros ≡ 256
+zeros-256 : length zeroMessageIn ≡ 256
+unfolding zeroMessageIn
 zeros-256 = length-replicate {A = ℕ} 256 0
 
 settled-256 : (message : List ℕ) (effect : MessageEffect) (bytes : List ℕ) → length message ≡ 256 → length (settledOf message effect bytes) ≡ 256
-unfolding settledOf zeroMessageIn filledOf
+unfolding settledOf filledOf
 settled-256 message Kept bytes e = e
 settled-256 message ZeroedAtReset bytes e = zeros-256
 settled-256 message ZeroedAtCancel bytes e = zeros-256
 settled-256 message ZeroedAtCompletion bytes e = zeros-256
-settled-256 message Filled bytes e = put-length zeros 0 bytes ∙ zeros-256
+settled-256 message Filled bytes e = put-length zeroMessageIn 0 bytes ∙ zeros-256
 
-history-256 : (m : Mailbox) (events : List Event) → length (m .message) ≡ 256 → length (historyFrom m events .mailbox .message) ≡ 256
-unfolding historyFrom
-history-256 m [] h = h
-history-256 m (e ∷ events) h =
-    history-256 (eventOf m e .mailbox) events (settled-256 (m .message) (eventStepOf (m .state) e .effect) (portBytes e) h)
+-- A data length is that of a success, at most 255, or 0.
+abbrev lengthIn : CommandStatus → ℕ
+lengthIn Nothing = 0
+lengthIn ResetDone = 0
+lengthIn (Busy command) = 0
+lengthIn (Completed n) = n
+lengthIn Failed = 0
+lengthIn NotSupported = 0
+lengthIn Cancelled = 0
+lengthIn Acknowledged = 0
 
-pub reached-256 : {count : ℕ} {m : Mailbox} → Reached count m → length (messageInOf m) ≡ 256
-reached-256 {count} r =
-    subst (λ (x : Mailbox). length (x .message) ≡ 256) (r .ending)
-    (history-256 (mailboxFreshOf count .mailbox) (r .events) (ap (length {A = ℕ}) (fresh-is count .message) ∙ zeros-256))
+short : (status : CommandStatus) → lengthIn status ≤ 255 → LengthFits status
+short status h n e = let same = ap lengthIn e in omega (arith, same, h)
+
+module _ (state : State) where
+  abbrev Fits : Step → Type 0
+  Fits step = LengthFits (step .state .status)
+
+  taken-short : (class : Class) (needs : Bool) (control : Control) → Fits (takenStepOf state class needs control)
+  unfolding takenStepOf startsCommand
+  taken-short class.Reset needs control = short ResetDone (omega arith)
+  taken-short class.Cancel needs control = short Cancelled (omega arith)
+  taken-short class.Acknowledge needs control = short Acknowledged (omega arith)
+  taken-short class.Enable needs control = short (Completed 0) (omega arith)
+  taken-short class.Run needs control = pick-all Fits _ _ _ (λ absent. short Failed (omega arith)) (λ there. short (Busy _) (omega arith))
+  taken-short class.NotSupported needs control = short NotSupported (omega arith)
+
+  module _ (h : LengthFits (state .status)) where
+    parsed-short : (parsed : Parsed) → Fits (parsedStepOf state parsed)
+    unfolding parsedStepOf judgedStepOf
+    parsed-short (Fields control) = pick-all Fits _ _ _ (λ y. h) (λ n. taken-short (entryOf (control .code) .class) _ control)
+    parsed-short WrongLength = h
+
+    success-short : (n : ℕ) → Fits (successStepOf state n)
+    unfolding successStepOf
+    success-short n =
+        pick-all Fits _ _ _ (λ none. h)
+        (λ runs. pick-all Fits _ _ _ (λ long. h) (λ few. short (Completed n) (ltb-false dataMost n few)))
+
+    failure-short : Fits (failureStepOf state)
+    unfolding failureStepOf
+    failure-short = pick-all Fits _ _ _ (λ none. h) (λ runs. short Failed (omega arith))
+
+    event-short : (e : Event) → Fits (eventStepOf state e)
+    event-short (writes control) = parsed-short (controlOf control)
+    event-short (succeeds bytes) = success-short (length bytes)
+    event-short fails = failure-short
+    event-short (changes c reason) = subst (λ (s : State). LengthFits (s .status)) (sym (change-alters state c reason .others)) h
+
+pub event-sizes : (m : Mailbox) (e : Event) → Sizes m → Sizes (eventOf m e .mailbox)
+event-sizes m e s =
+    let now = m .state .changes in
+    record {
+      eight = event-changes Eight refl (m .state) (next-eight now) (λ c low high eight. noted-eight now eight c) (s .eight) e;
+      messageIn = settled-256 (m .message) (eventStepOf (m .state) e .effect) (portBytes e) (s .messageIn);
+      dataLength = event-short (m .state) (s .dataLength) e;
+    }
+
+pub fresh-sizes : (count : ℕ) → Sizes (freshMailbox count)
+unfolding freshMailbox
+fresh-sizes count = record { eight = refl; messageIn = zeros-256; dataLength = short Nothing (omega arith) }

@@ -1,79 +1,82 @@
--- What every step keeps: how many connectors there are, and that those shown and waiting are among them (01, The mailbox).
-use Prim.Native.Nat.{ℕ}
+-- What every event leaves of the connectors: how many there are, and what holds of those shown and waiting (01, The mailbox).
+use Prim.Native.Nat.{ℕ, _≤_}
 use lib.ListN.{length}
 use mathlib.Core.Logic.{_⊎_, inl, inr}
 use mathlib.Core.Path.{_≡_, refl, sym, ap, subst}
 use Rattle.basis.specs.Pick.{pick-all}
 use Rattle.commands.specs.Table.{entryOf}
 use Rattle.commands.proofs.Rows.{named}
-use Rattle.commands.specs.declared.table.Class.{Class}
 use Rattle.commands.specs.Control.{controlOf}
 use Rattle.commands.specs.declared.control.Control.{Control}
 use Rattle.commands.specs.declared.control.Parsed.{Parsed}
 use Rattle.commands.specs.declared.control.Parsed.the-variants.{Fields, WrongLength}
+use Rattle.mailbox_state.specs.State.{noChanges}
 use Rattle.mailbox_state.specs.declared.answer.Answer.{Answer}
 use Rattle.mailbox_state.specs.declared.state.Changes.{Changes}
 use Rattle.mailbox_state.specs.declared.state.State.{State}
 use Rattle.mailbox_state.specs.declared.step.Step.{Step}
-use Rattle.mailbox_rules.specs.Change.{changeStepOf}
-use Rattle.mailbox_rules.specs.Changes.{notedOf}
+use Rattle.mailbox_rules.specs.Changes.{notedOf, nextShownOf}
 use Rattle.mailbox_rules.specs.Events.{Event, writes, succeeds, fails, changes, parsedStepOf, eventStepOf}
 use Rattle.mailbox_rules.specs.Report.{successStepOf, failureStepOf}
 use Rattle.mailbox_rules.specs.Write.{judgedStepOf, controlStepOf}
-use Rattle.mailbox_rules.proofs.Command.{ShownBy, stays, reset, acknowledged, Takes, taken-takes}
-use Rattle.mailbox_rules.proofs.Noted.{Recorded, Alters, change-alters}
-use Rattle.mailbox_rules.proofs.Places.{Within, none-within, noted-within, next-within}
+use Rattle.mailbox_rules.proofs.Command.{ShownBy, stays, reset, acknowledged, taken-takes, write-shown}
+use Rattle.mailbox_rules.proofs.Noted.{Recorded, change-alters}
+use Rattle.mailbox_rules.proofs.Report.{success-leaves, failure-leaves}
 
-pub record Steps (state : State) (step : Step) : Type 0 where
-  pub connectors : step .state .connectors ≡ state .connectors
-  pub inside : Within (state .connectors) (state .changes) → Within (state .connectors) (step .state .changes)
+module _ (state : State) where
+  abbrev Counts : Step → Type 0
+  Counts step = step .state .connectors ≡ state .connectors
 
-still : (state : State) (step : Step) → step .state .connectors ≡ state .connectors → step .state .changes ≡ state .changes → Steps state step
-still state step c e = record { connectors = c; inside = λ w. subst (Within (state .connectors)) (sym e) w }
+  write-counts : (control : Control) → Counts (controlStepOf state control)
+  unfolding judgedStepOf
+  write-counts control =
+      pick-all Counts _ _ _ (λ y. refl)
+      (λ n. taken-takes state control (entryOf (control .code) .class) (entryOf (control .code) .connector) (named (control .code)) .connectors)
 
-shown-inside : (count : ℕ) (control : Control) (answer : Answer) (before after : Changes) → ShownBy control answer before after → Within count before → Within count after
-shown-inside count control answer before after (stays e) w = subst (Within count) (sym e) w
-shown-inside count control answer before after (reset h e) w = subst (Within count) (sym e) (none-within count)
-shown-inside count control answer before after (acknowledged h b t e) w = subst (Within count) (sym e) (next-within count before w)
+  parsed-counts : (parsed : Parsed) → Counts (parsedStepOf state parsed)
+  unfolding parsedStepOf
+  parsed-counts (Fields control) = write-counts control
+  parsed-counts WrongLength = refl
 
-takes-steps : (state : State) (class : Class) (control : Control) (step : Step) → Takes state class control step → Steps state step
-takes-steps state class control step t =
-    record { connectors = t .connectors; inside = shown-inside (state .connectors) control (step .answer) (state .changes) (step .state .changes) (t .shown) }
+  success-counts : (n : ℕ) → Counts (successStepOf state n)
+  unfolding successStepOf
+  success-counts n = pick-all Counts _ _ _ (λ still. refl) (λ runs. pick-all Counts _ _ _ (λ long. refl) (λ short. refl))
 
-write-steps : (state : State) (control : Control) → Steps state (controlStepOf state control)
-unfolding judgedStepOf
-write-steps state control =
-    pick-all (Steps state) _ _ _ (λ y. still state _ refl refl)
-    (λ n. takes-steps state _ control _ (taken-takes state control (entryOf (control .code) .class) (entryOf (control .code) .connector) (named (control .code))))
+  failure-counts : Counts (failureStepOf state)
+  unfolding failureStepOf
+  failure-counts = pick-all Counts _ _ _ (λ still. refl) (λ runs. refl)
 
-success-steps : (state : State) (n : ℕ) → Steps state (successStepOf state n)
-unfolding successStepOf
-success-steps state n =
-    pick-all (Steps state) _ _ _ (λ y. still state _ refl refl)
-    (λ n. pick-all (Steps state) _ _ _ (λ y. still state _ refl refl) (λ n. still state _ refl refl))
+  -- The connectors are fixed at the start.
+  pub event-connectors : (e : Event) → Counts (eventStepOf state e)
+  event-connectors (writes control) = parsed-counts (controlOf control)
+  event-connectors (succeeds bytes) = success-counts (length bytes)
+  event-connectors fails = failure-counts
+  event-connectors (changes c reason) = ap (λ (s : State). s .connectors) (change-alters state c reason .others)
 
-failure-steps : (state : State) → Steps state (failureStepOf state)
-unfolding failureStepOf
-failure-steps state = pick-all (Steps state) _ _ _ (λ y. still state _ refl refl) (λ n. still state _ refl refl)
+-- What holds of the changes with none, and is kept where the one shown is acknowledged and where one is noted, is kept by every event.
+module _
+    (P : Changes → Type 0)
+    (none : P noChanges)
+    (state : State)
+    (next : P (state .changes) → P (nextShownOf (state .changes)))
+    (noted : (c : ℕ) → 1 ≤ c → c ≤ state .connectors → P (state .changes) → P (notedOf (state .changes) c))
+    (now : P (state .changes)) where
+  by-write : {control : Control} {a : Answer} {after : Changes} → ShownBy control a (state .changes) after → P after
+  by-write (stays e) = subst P (sym e) now
+  by-write (reset h e) = subst P (sym e) none
+  by-write (acknowledged h b t e) = subst P (sym e) (next now)
 
-alters-steps : (state : State) (c reason : ℕ) (step : Step) → Alters state c reason step → Steps state step
-alters-steps state c reason step a = record { connectors = ap (λ (s : State). s .connectors) (a .others); inside = λ w. inside-by (a .noted) w }
-  where
-    inside-by : (step .state .changes ≡ state .changes) ⊎ (Recorded state c reason × (step .state .changes ≡ notedOf (state .changes) c))
-        → Within (state .connectors) (state .changes) → Within (state .connectors) (step .state .changes)
-    inside-by (inl e) w = subst (Within (state .connectors)) (sym e) w
-    inside-by (inr (r, e)) w = subst (Within (state .connectors)) (sym e) (noted-within (state .connectors) (state .changes) w c (r .low) (r .high))
+  by-parsed : (parsed : Parsed) → P (parsedStepOf state parsed .state .changes)
+  unfolding parsedStepOf
+  by-parsed (Fields control) = by-write (write-shown state control)
+  by-parsed WrongLength = now
 
-change-steps : (state : State) (c reason : ℕ) → Steps state (changeStepOf state c reason)
-change-steps state c reason = alters-steps state c reason (changeStepOf state c reason) (change-alters state c reason)
+  by-change : {c reason : ℕ} {after : Changes} → (after ≡ state .changes) ⊎ (Recorded state c reason × (after ≡ notedOf (state .changes) c)) → P after
+  by-change (inl e) = subst P (sym e) now
+  by-change {c} (inr (r, e)) = subst P (sym e) (noted c (r .low) (r .high) now)
 
-parsed-steps : (state : State) (parsed : Parsed) → Steps state (parsedStepOf state parsed)
-unfolding parsedStepOf
-parsed-steps state (Fields control) = write-steps state control
-parsed-steps state WrongLength = still state _ refl refl
-
-pub event-steps : (state : State) (e : Event) → Steps state (eventStepOf state e)
-event-steps state (writes control) = parsed-steps state (controlOf control)
-event-steps state (succeeds bytes) = success-steps state (length bytes)
-event-steps state fails = failure-steps state
-event-steps state (changes c reason) = change-steps state c reason
+  pub event-changes : (e : Event) → P (eventStepOf state e .state .changes)
+  event-changes (writes control) = by-parsed (controlOf control)
+  event-changes (succeeds bytes) = subst P (sym (success-leaves state (length bytes))) now
+  event-changes fails = subst P (sym (failure-leaves state)) now
+  event-changes (changes c reason) = by-change (change-alters state c reason .noted)

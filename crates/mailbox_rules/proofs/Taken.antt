@@ -27,7 +27,7 @@ use Rattle.mailbox_rules.specs.Sentences.{answers, next, shown, Ready, G
 use Rattle.mailbox_rules.specs.Write.{controlStepOf}
 use Rattle.mailbox_rules.proofs.ByCode as code
 use Rattle.mailbox_rules.proofs.Command.{write-refused}
-use Rattle.mailbox_rules.proofs.Reached.{holds, made, reached-next}
+use Rattle.mailbox_rules.proofs.Reached.{reached-next, shown-fits}
 
 module _ (m : Mailbox) where
   -- A write of 8 bytes is decided by its fields.
@@ -51,19 +51,9 @@ module _ (m : Mailbox) where
   pub ready-state : Ready m → code.Ready (m .state)
   ready-state r = record { on = r .on; still = r .still; acknowledged = r .acknowledged }
 
--- The connector shown is at most 8, so that CCI's seven bits hold it.
-shown-fits : {count : ℕ} {x : Mailbox} → Reached count x → shown x % 128 ≡ shown x
-shown-fits {count} {x} r =
-    let low = holds count r .within .shown in
-    let few = made count (r .made) .high in
-    omega (arith, low, few)
-
 module _ {count : ℕ} {m : Mailbox} (r : Reached count m) where
   abbrev state : State
   state = m .state
-
-  pub fixed : state .connectors ≡ count
-  fixed = holds count r .connectors
 
   -- An event that is taken gives what CCI says of the status then.
   pub gives : (e : Event) (after : State) (effect : MessageEffect) → eventStepOf state e ≡ mailboxStep after Taken effect → {size : ℕ} {set : List ℕ}

@@ -38,9 +38,9 @@ use Rattle.mailbox_rules.proofs.Laws.{cci-in-run}
 use Rattle.mailbox_rules.proofs.Lowest.{First, lowest-first, lowest-waits, lowest-least, lowest-none}
 use Rattle.mailbox_rules.proofs.Next.{next-shows, next-waits-no-more, next-others}
 use Rattle.mailbox_rules.proofs.Pending.{due-still}
-use Rattle.mailbox_rules.proofs.Reached.{holds, made, reached-next}
+use Rattle.mailbox_rules.proofs.Reached.{reached-next, reached-formed, reached-count}
 use Rattle.mailbox_rules.proofs.ByClass.{off-number, run-number, due-number}
-use Rattle.mailbox_rules.proofs.Taken.{write-row, numbered, refuses, ready-state, fixed, gives, completes}
+use Rattle.mailbox_rules.proofs.Taken.{write-row, numbered, refuses, ready-state, gives, completes}
 
 -- The entries of the codes that need a connector, and of those that document 01 does not name.
 needs-entry : (code : ℕ) → NeedsConnector code → entryOf code ≡ entry class.Run true
@@ -118,7 +118,7 @@ module _ {count : ℕ} {m : Mailbox} (r : Reached count m) where
 
       module _ (low : 1 ≤ fields .connector) (high : fields .connector ≤ count) where
         there : fields .connector ≤ state .connectors
-        there = omega (arith, fixed r)
+        there = omega (arith, reached-count r)
 
         pub connector-reset-starts : Command 0x03 control
             → Starts m (writes control) (record { code = 0x03; connector = fields .connector; «reset_type» = fields .«reset_type» })
@@ -144,7 +144,7 @@ module _ {count : ℕ} {m : Mailbox} (r : Reached count m) where
           row : (fields .connector ≡ 0) ⊎ (count < fields .connector)
               → controlStepOf state fields ≡ mailboxStep (withStatus state Failed) Taken ZeroedAtCompletion
           row (inl z) = absent-zero state fields (ready-state m ready) found z
-          row (inr above) = absent-above state fields (ready-state m ready) found (omega (arith, fixed r))
+          row (inr above) = absent-above state fields (ready-state m ready) found (omega (arith, reached-count r))
 
       pub other-completes : (code : ℕ) → Other code → Command code control → Completes m (writes control) 0 (25 ∷ 31 ∷ []) zeros
       unfolding settledOf zeroMessageIn dueOf
@@ -186,8 +186,9 @@ module _ {count : ℕ} {m : Mailbox} (r : Reached count m) where
 
         shows-lowest : (shown m ≡ 0 → ⊥) → ShowsLowest m after
         shows-lowest h =
-            let within = holds count (reached-next count m (writes control) r) .within .shown in
-            let few = made count (r .made) .high in
+            let formed = reached-formed (reached-next count m (writes control) r) in
+            let within = formed .within .shown in
+            let few = formed .high in
             let e = ap (λ (now : Changes). now .shown) (next-is h) ∙ next-shows (state .changes) in
             let first = subst (First 1 (state .changes .waiting)) (sym e) (lowest-first 1 (state .changes .waiting)) in
             record {

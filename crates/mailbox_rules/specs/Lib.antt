@@ -10,4 +10,5 @@ pub mod Mailbox
 pub mod Events
 pub mod History
 pub mod Until
+pub mod WellFormed
 pub mod Sentences

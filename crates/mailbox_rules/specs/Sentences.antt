@@ -20,6 +20,7 @@ use Rattle.mailbox_rules.specs.Mailbox.{mailboxFreshOf, messageInOf, mai
 use Rattle.mailbox_rules.specs.Events.{Event, writes, succeeds, fails, changes, eventOf}
 use Rattle.mailbox_rules.specs.History.{Reached}
 use Rattle.mailbox_rules.specs.Until.{MayEndDue, MayEndRun}
+use Rattle.mailbox_rules.specs.WellFormed.{WellFormed, Sizes}
 
 -- The number that an event is answered, and the mailbox after it.
 abbrev pub answers : Mailbox → Event → ℕ
@@ -130,8 +131,11 @@ pub record Sentences (count : ℕ) (m : Mailbox) : Type 0 where
   pub low : 1 ≤ count
   pub high : count ≤ 8
   pub fixed : m .state .connectors ≡ count
-  -- A 256-byte MESSAGE_IN.
-  pub messageInSize : length (messageInOf m) ≡ 256
+  -- The connector shown, those that wait and that of a command which runs are among them, and it runs only while notifications are on. There
+  -- are eight flags, a 256-byte MESSAGE_IN, and a data length that bits 8 to 15 hold; CCI is 32 bits.
+  pub formed : WellFormed (m .state)
+  pub sizes : Sizes m
+  pub cciSize : mailboxCciOf m < 2 ^ 32
   -- PPM_RESET: accepted always; CCI only bit 27, MESSAGE_IN zero, changes and mask cleared, notifications off, nothing running, no
   -- acknowledgement due.
   pub reset : (control : List ℕ) → Command 0x01 control → Gives m (writes control) 0 (27 ∷ []) zeros

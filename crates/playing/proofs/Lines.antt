@@ -1,5 +1,5 @@
 -- The line that a record prints, and what kind 3 leaves in MESSAGE_IN (01, Replay program).
-use Prim.Native.Nat.{ℕ, _+_, _-_, _^_, _<_, _≤_}
+use Prim.Native.Nat.{ℕ, _+_, _-_, _<_, _≤_}
 use mathlib.Core.Bool.{true}
 use mathlib.Core.Path.{_≡_, _∙_, ap}
 use native.Mathlib.Omega.{arith}
@@ -13,8 +13,10 @@ use Rattle.mailbox_state.specs.declared.mailbox.Mailbox.{Mailbox}
 use Rattle.mailbox_state.specs.Status.{runsOf}
 use Rattle.mailbox_state.specs.declared.answer.Answer.{Answer}
 use Rattle.mailbox_state.specs.declared.answer.Answer.the-variants.{Taken, ControlLength, NotificationsOff, CommandRuns, AcknowledgementDue, NothingToClear, NothingToCancel, NothingRuns, DataTooLong, NoSuchConnector}
+use Rattle.mailbox_rules.specs.History.{Reached}
 use Rattle.mailbox_rules.specs.Mailbox.{mailboxCciOf, messageInOf}
 use Rattle.mailbox_rules.proofs.Message.{success-fills}
+use Rattle.mailbox_rules.proofs.Reached.{reached-next, reached-width}
 use Rattle.playing.specs.Turn.{eventIn, outcomeOf, printed, turnOf}
 
 -- 11 to 13 bytes.
@@ -39,10 +41,12 @@ number-small NothingRuns = omega arith
 number-small DataTooLong = omega arith
 number-small NoSuchConnector = omega arith
 
--- So what is read in it is CCI and the answer's number; every u32 is below 2^32.
-pub turn-says : (m : Mailbox) (r : Record) → mailboxCciOf (turnOf m r .mailbox) < 2 ^ 32
+-- So what is read in it, after any history, is CCI and the answer's number.
+pub turn-says : {count : ℕ} {m : Mailbox} → Reached count m → (r : Record)
     → Says (mailboxCciOf (turnOf m r .mailbox)) (mailboxNumberOf (turnOf m r .answer)) (take (turnOf m r .line .len) (turnOf m r .line .bytes))
-turn-says m r h = rw (turn-line m r) (line-says _ _ h (number-small (turnOf m r .answer)))
+unfolding turnOf outcomeOf
+turn-says {count} {m} reached r =
+    rw (turn-line m r) (line-says _ _ (reached-width (reached-next count m (eventIn r) reached)) (number-small (turnOf m r .answer)))
 
 -- That many zero bytes: all 256 are zero.
 pub success-zeros : (m : Mailbox) (n : ℕ) → runsOf (m .state .status) ≡ true → n ≤ 255 → messageInOf (outcomeOf m (Success n) .mailbox) ≡ replicate 256 0
