@@ -21,9 +21,12 @@
  * - A state is tested before everything else. It is no session and no mailbox if it has a phase, a
  *   flag or a `told` that its comment does not name, a number other than 0 where its comment says
  *   0, a reason other than 40 to 45 in Failed, or settings, a capacity, a file's length or a count
- *   of connectors that its start refuses: every call then answers 29 and changes nothing. All bytes
- *   zero is such a state, so memory that no start has filled is safe to hand in. Other values that
- *   no call hands out, as more accepted than the capacity, are answered by the rules as they stand.
+ *   of connectors that its start refuses; no mailbox either if a connector above its count is shown
+ *   or waits, or if it is Busy with a command that never runs, with a connector that the command
+ *   does not get, or with notifications off. Every call then answers 29 and changes nothing. All
+ *   bytes zero is such a state, so memory that no start has filled is safe to hand in. What a call
+ *   leaves of a session or a mailbox is one again. Other values that no call hands out, as more
+ *   accepted than the capacity, are answered by the rules as they stand.
  * - A refused start hands out a state of zeros. Look at its number before the loop: the phase of
  *   zeros reads as the first one.
  *
@@ -330,8 +333,9 @@ enum harsolvek_told {
     HARSOLVEK_TOLD_ACKNOWLEDGED = 7
 };
 
-/* What the port is to do: its code, the connector or 0 for none, and of CONNECTOR_RESET the reset
- * type. */
+/* What the port is to do. `code` is CONNECTOR_RESET, GET_CAPABILITY, GET_CONNECTOR_CAPABILITY or
+ * GET_CONNECTOR_STATUS: no other command runs. `connector` is 1 to the count, 0 for GET_CAPABILITY,
+ * and `reset_type` is CONNECTOR_RESET's. */
 typedef struct harsolvek_command {
     uint8_t code;
     uint8_t connector;
@@ -339,8 +343,9 @@ typedef struct harsolvek_command {
 } harsolvek_command;
 
 /* A mailbox. `told` is an enum harsolvek_told; `command` is 0 unless it is Busy, `length` unless it
- * is Completed. `notifications` is 1 or 0, and `mask` is 0 while they are off. Connector c waits if
- * waiting[c - 1] is 1, else it is 0. `shown` is the connector shown, 0 for none. */
+ * is Completed. `notifications` is 1 or 0, and 1 while it is Busy; `mask` is 0 while they are off.
+ * Connector c waits if waiting[c - 1] is 1, else it is 0; of those above the count it is 0. `shown`
+ * is the connector shown, 1 to the count, or 0 for none. */
 typedef struct harsolvek_mailbox {
     uint8_t message_in[HARSOLVEK_MESSAGE_IN_SIZE];
     uint8_t waiting[HARSOLVEK_CONNECTORS_MOST];

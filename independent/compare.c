@@ -14,7 +14,7 @@ static const char *number_wrong(enum second_part part, unsigned number)
 }
 
 /* Numbers that are no state get 29 whatever the inputs are, and come back as they are. What other
- * damaged numbers lead to no rule says, but some things hold of every state. */
+ * damaged numbers lead to is the part's to judge. */
 static int damaged_differs(compare_run *run, const compare_part *part)
 {
     unsigned number;

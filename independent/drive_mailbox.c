@@ -413,9 +413,8 @@ static int over(choice *from)
 
 /* ---- Damaged states ---- */
 
-/* What the library's header says of a mailbox. `shown` may be any number, and so may what a command
- * that runs is; a connector above the count may wait. */
-static int is_mailbox(const harsolvek_mailbox *state)
+/* What the library's header says of the fields of a mailbox, each by itself. */
+static int has_fields(const harsolvek_mailbox *state)
 {
     int commanded =
         state->command.code != 0 || state->command.connector != 0 || state->command.reset_type != 0;
@@ -436,6 +435,45 @@ static int is_mailbox(const harsolvek_mailbox *state)
            (state->told == HARSOLVEK_TOLD_COMPLETED || state->length == 0);
 }
 
+static int is_mailbox(const harsolvek_mailbox *state)
+{
+    const second_mailbox wide = widened(state);
+    return has_fields(state) && second_mailbox_stands(&wide);
+}
+
+/* A command that runs, or nearly: the codes around those that do, connectors around the count. */
+static void damage_run(choice *from, harsolvek_mailbox *state)
+{
+    static const uint32_t codes[] = {CONNECTOR_RESET,
+                                     GET_CAPABILITY,
+                                     GET_CONNECTOR_CAPABILITY,
+                                     GET_CONNECTOR_STATUS,
+                                     SET_NOTIFICATION_ENABLE,
+                                     GET_CONNECTOR_CAPABILITY + 1,
+                                     GET_CONNECTOR_STATUS - 1,
+                                     CODES,
+                                     0,
+                                     255};
+    const uint32_t connectors[] = {0, 1, state->connectors, state->connectors + 1u, 255};
+    state->told = HARSOLVEK_TOLD_BUSY;
+    state->length = 0;
+    state->command.code =
+        (uint8_t)(choice_one_in(from, 4) ? choice_below(from, 256) : CHOICE_OF(from, codes));
+    state->command.connector = (uint8_t)CHOICE_OF(from, connectors);
+    if (!choice_one_in(from, 3)) {
+        state->notifications = 1;
+    }
+}
+
+/* The flag of a connector around the count. */
+static void damage_waiting(choice *from, harsolvek_mailbox *state)
+{
+    const unsigned first = state->connectors - choice_below(from, 2);
+    if (first < HARSOLVEK_CONNECTORS_MOST) {
+        state->waiting[first] = 1;
+    }
+}
+
 static void damage_command(choice *from, harsolvek_command *command)
 {
     uint8_t value = (uint8_t)draw_wrong(from, 1, 255);
@@ -454,7 +492,9 @@ static void damage_command(choice *from, harsolvek_command *command)
 
 static void damage_state(choice *from, harsolvek_mailbox *state)
 {
-    switch (draw_damage(from, 12, state, sizeof *state)) {
+    const uint32_t shown[] = {state->connectors, state->connectors + 1u, 255,
+                              choice_below(from, 256)};
+    switch (draw_damage(from, 14, state, sizeof *state)) {
     case 1:
         state->told = draw_code(from, 8);
         break;
@@ -475,9 +515,10 @@ static void damage_state(choice *from, harsolvek_mailbox *state)
         break;
     case 7:
         state->notifications = 0;
+        state->mask = (uint16_t)(choice_one_in(from, 2) ? 0 : state->mask);
         break;
     case 8:
-        state->shown = (uint8_t)draw_wrong(from, state->connectors + 1u, 255);
+        state->shown = (uint8_t)CHOICE_OF(from, shown);
         break;
     case 9:
         memset(state->waiting, 1, sizeof state->waiting);
@@ -489,6 +530,12 @@ static void damage_state(choice *from, harsolvek_mailbox *state)
         break;
     case 11:
         damage_command(from, &state->command);
+        break;
+    case 12:
+        damage_run(from, state);
+        break;
+    case 13:
+        damage_waiting(from, state);
         break;
     }
 }
@@ -508,22 +555,15 @@ static int damage(choice *from)
     return stands;
 }
 
-/* No rule says what such a connector leads to, but it stays a mailbox and the lent bytes are
- * kept. */
+/* The rules say of every mailbox what a call leads to, also of one that no call hands out, and it
+ * stays a mailbox. */
 static const char *wrong(void)
 {
-    const answer *given = &session.said[COMPARE_LIBRARY];
-    const harsolvek_mailbox *after = &session.tried.library;
-    if (!is_mailbox(after)) {
+    if (!is_mailbox(&session.tried.library)) {
         return "state, which is no mailbox";
     }
-    if (given->seen != HARSOLVEK_TAKEN) {
-        return "number of CCI or MESSAGE_IN";
-    }
-    if (memcmp(given->message_in, after->message_in, sizeof given->message_in) != 0) {
-        return "MESSAGE_IN";
-    }
-    return lent_held(&session.bytes, session.made.length, 0, 0) ? NULL : "lent bytes";
+    ask_second();
+    return difference();
 }
 
 /* ---- The calls ---- */

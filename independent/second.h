@@ -100,6 +100,9 @@ int second_mailbox_failure(second_mailbox *m);
 int second_mailbox_change(second_mailbox *m, unsigned connector, unsigned reason);
 uint32_t second_mailbox_cci(const second_mailbox *m);
 
+/* Whether calls can lead to a mailbox with these connectors, and with this command running. */
+int second_mailbox_stands(const second_mailbox *m);
+
 /* ---- Seeded faults ---- */
 
 /* Which call's comparison is to find a fault. */

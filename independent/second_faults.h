@@ -212,7 +212,21 @@
     X(MAILBOX_CANCEL_WITHOUT_COMPLETE, SECOND_PART_MAILBOX, \
       "CANCEL sets bit 26 without bit 31.") \
     X(MAILBOX_BUSY_SHOWS_CONNECTOR, SECOND_PART_MAILBOX, \
-      "CCI shows the connector while a command runs.")
+      "CCI shows the connector while a command runs.") \
+    X(MAILBOX_SHOWN_ABOVE_COUNT_STANDS, SECOND_PART_MAILBOX, \
+      "A state that shows a connector above the count is a mailbox.") \
+    X(MAILBOX_WAITING_ABOVE_COUNT_STANDS, SECOND_PART_MAILBOX, \
+      "A state in which a connector above the count waits is a mailbox.") \
+    X(MAILBOX_RUN_WHILE_OFF_STANDS, SECOND_PART_MAILBOX, \
+      "A state in which a command runs while notifications are off is a mailbox.") \
+    X(MAILBOX_RUN_OF_ANY_CODE_STANDS, SECOND_PART_MAILBOX, \
+      "A state in which a command runs that never does is a mailbox.") \
+    X(MAILBOX_RUN_WITHOUT_CONNECTOR_STANDS, SECOND_PART_MAILBOX, \
+      "A state in which a command runs without the connector that it needs is a mailbox.") \
+    X(MAILBOX_RUN_ABOVE_COUNT_STANDS, SECOND_PART_MAILBOX, \
+      "A state in which a command runs on a connector above the count is a mailbox.") \
+    X(MAILBOX_CAPABILITY_OF_A_CONNECTOR_STANDS, SECOND_PART_MAILBOX, \
+      "A state in which GET_CAPABILITY runs on a connector is a mailbox.")
 /* clang-format on */
 
 #define SECOND_FAULT_NAME(name, part, what) name,

@@ -319,3 +319,33 @@ uint32_t second_mailbox_cci(const second_mailbox *m)
     }
     return m->cci | (uint32_t)m->shown << 1;
 }
+
+/* 01: all but GET_CAPABILITY need a connector number from 1 to the count, and no other command
+ * runs. */
+static int may_run(const second_mailbox *m)
+{
+    switch (m->code) {
+    case GET_CAPABILITY:
+        return m->connector == 0 || fault(MAILBOX_CAPABILITY_OF_A_CONNECTOR_STANDS);
+    case CONNECTOR_RESET:
+    case GET_CONNECTOR_CAPABILITY:
+    case GET_CONNECTOR_STATUS:
+        return (m->connector >= 1 || fault(MAILBOX_RUN_WITHOUT_CONNECTOR_STANDS)) &&
+               (m->connector <= m->connectors || fault(MAILBOX_RUN_ABOVE_COUNT_STANDS));
+    default:
+        return fault(MAILBOX_RUN_OF_ANY_CODE_STANDS);
+    }
+}
+
+/* 01: a change on a connector above the count is refused, so none is shown and none waits; with
+ * notifications off no command is started. */
+int second_mailbox_stands(const second_mailbox *m)
+{
+    if (m->shown > m->connectors && !fault(MAILBOX_SHOWN_ABOVE_COUNT_STANDS)) {
+        return 0;
+    }
+    if (m->waiting >> m->connectors != 0 && !fault(MAILBOX_WAITING_ABOVE_COUNT_STANDS)) {
+        return 0;
+    }
+    return !m->running || ((m->on || fault(MAILBOX_RUN_WHILE_OFF_STANDS)) && may_run(m));
+}

@@ -1,5 +1,6 @@
 -- The mailbox for C keeps step with the proved one: on a mailbox's numbers a call is the mailbox's own through the conversion, and other
--- numbers get 29. Every state that comes of a start which was taken is a mailbox that events lead to from a fresh one.
+-- numbers get 29. What a start that is taken makes, and what any call leaves of a mailbox, is a mailbox; every state that comes of such a
+-- start is one that events lead to from a fresh one.
 use Prim.Native.Nat.{ℕ, _≤_, _<_}
 use mathlib.Core.Bool.{true, false}
 use mathlib.Core.Path.{_≡_, refl, sym, _∙_, ap, subst}
@@ -16,12 +17,13 @@ use Rattle.mailbox_rules.specs.Events as event
 use Rattle.mailbox_rules.specs.Events.{Event, eventOf}
 use Rattle.mailbox_rules.specs.History.{Reached}
 use Rattle.mailbox_rules.proofs.Laws.{fresh-made, fresh-29-zero, fresh-29-above}
-use Rattle.mailbox_rules.proofs.Reached.{reached-fresh, reached-next, reached-formed}
+use Rattle.mailbox_rules.proofs.Reached.{made, reached-fresh, reached-next, reached-formed}
+use Rattle.mailbox_rules.proofs.WellFormed.{fresh-formed, event-formed}
 use Rattle.mailbox_flat.specs.Flat.{mailboxPackOf, mailboxUnpackOf, isMailbox, zeroMailbox}
 use Rattle.mailbox_flat.specs.Waiting.{waitingBytesOf}
 use Rattle.mailbox_flat.specs.Status.{flatStatusOf}
 use Rattle.mailbox_flat.specs.declared.flat.FlatMailbox.{FlatMailbox}
-use Rattle.mailbox_flat.proofs.Inverse.{unpack-pack, pack-unpack, pack-mailbox}
+use Rattle.mailbox_flat.proofs.Inverse.{unpack-pack, pack-unpack, pack-mailbox, mailbox-formed}
 use Rattle.link.specs.Mailbox.{mailboxOutcome, flatEventOf, harsolvekMailboxFresh, harsolvekMailboxWrite, harsolvekMailboxSuccess, harsolvekMailboxFailure, harsolvekMailboxChange, flatCci, harsolvekMailboxCci, flatMessageIn, harsolvekMailboxMessageIn}
 use Rattle.link.specs.declared.mailbox_calls.MailboxOutcome.{MailboxOutcome}
 use Rattle.link.specs.Handed.{HandedMailbox, starts, writes, succeeds, fails, changes}
@@ -36,6 +38,11 @@ module _ (f : FlatMailbox) (e : Event) where
 
   pub event-29 : isMailbox f ≡ false → flatEventOf f e ≡ mailboxOutcome f 29
   event-29 is = pick-yes _ _ _ (not-yes _ is)
+
+  -- What the call leaves of a mailbox's numbers is a mailbox's again.
+  pub event-mailbox : isMailbox f ≡ true → isMailbox (flatEventOf f e .state) ≡ true
+  event-mailbox is =
+      ap (λ x. isMailbox (x .state)) (event-through is) ∙ pack-mailbox (outcome .mailbox) (event-formed (mailboxUnpackOf f .state) e (mailbox-formed f is))
 
   pub event-next : isMailbox f ≡ true → mailboxUnpackOf (flatEventOf f e .state) ≡ outcome .mailbox
   event-next is = ap (λ x. mailboxUnpackOf (x .state)) (event-through is) ∙ unpack-pack (outcome .mailbox)
@@ -55,6 +62,18 @@ module _ (f : FlatMailbox) (is : isMailbox f ≡ true) where
 
   pub change-through : (connector reason : ℕ) → harsolvekMailboxChange f connector reason ≡ through (eventOf (mailboxUnpackOf f) (event.changes connector reason))
   change-through connector reason = event-through f (event.changes connector reason) is
+
+  pub write-mailbox : (control : List ℕ) → isMailbox (harsolvekMailboxWrite f control .state) ≡ true
+  write-mailbox control = event-mailbox f (event.writes control) is
+
+  pub success-mailbox : (bytes : List ℕ) → isMailbox (harsolvekMailboxSuccess f bytes .state) ≡ true
+  success-mailbox bytes = event-mailbox f (event.succeeds bytes) is
+
+  pub failure-mailbox : isMailbox (harsolvekMailboxFailure f .state) ≡ true
+  failure-mailbox = event-mailbox f event.fails is
+
+  pub change-mailbox : (connector reason : ℕ) → isMailbox (harsolvekMailboxChange f connector reason .state) ≡ true
+  change-mailbox connector reason = event-mailbox f (event.changes connector reason) is
 
 module _ (f : FlatMailbox) where
   pub cci-through : isMailbox f ≡ true → harsolvekMailboxCci f ≡ flatCci (mailboxCciOf (mailboxUnpackOf f)) 0
@@ -88,6 +107,11 @@ module _ (count : ℕ) where
   pub fresh-refused-above : 8 < count → harsolvekMailboxFresh count ≡ mailboxOutcome zeroMailbox 29
   fresh-refused-above h = ap flatFresh (fresh-29-above count h) ∙ ap (λ f. mailboxOutcome f 29) zero-none
 
+  pub fresh-mailbox : harsolvekMailboxFresh count .number ≡ 0 → isMailbox (harsolvekMailboxFresh count .state) ≡ true
+  fresh-mailbox e =
+      let m = made count e in
+      ap (λ x. isMailbox (mailboxPackOf x)) (m .fresh) ∙ pack-mailbox (freshMailbox count) (fresh-formed count (m .low) (m .high))
+
 module _ (count : ℕ) where
   -- The numbers are a mailbox's, and it is one that events lead to.
   pub record Reaches (f : FlatMailbox) : Type 0 where
@@ -97,7 +121,7 @@ module _ (count : ℕ) where
   reaches : (m : Mailbox) → Reached count m → Reaches (mailboxPackOf m)
   reaches m r =
       record {
-        is = pack-mailbox m (reached-formed r .low) (reached-formed r .high);
+        is = pack-mailbox m (reached-formed r);
         reached = subst (Reached count) (sym (unpack-pack m)) r;
       }
 

@@ -42,6 +42,12 @@ module _ (settings : Settings) (identity : Identity) (capacity : ℕ) where
   unfolding flatReceiverMade
   start-refused e = rw e
 
+  pub start-session : harsolvekReceiverStart settings identity capacity .number ≡ 0 → isReceiverSession (harsolvekReceiverStart settings identity capacity .state) ≡ true
+  start-session e =
+      let taken = taken-within (settings .limit) (settings .resends) identity capacity e in
+      let made = fresh (settings .limit) (settings .resends) identity capacity in
+      ap (λ o. isReceiverSession (o .state)) (start-taken (taken .0) (taken .1)) ∙ pack-session made (taken .0) (taken .1)
+
 -- A session with the settings and the capacity of valid numbers has valid numbers.
 keeps-session : (f : FlatReceiver) (next : Receiver) → isReceiverSession f ≡ true → next .settings ≡ f .settings → next .capacity ≡ f .capacity
     → isReceiverSession (receiverPackOf next) ≡ true
@@ -107,10 +113,7 @@ sum-rows s = (refl, refl)
 
 -- Every state that is handed out is a session, and the conversions are each other's inverse on it.
 pub handed-session : {f : FlatReceiver} → HandedReceiver f → isReceiverSession f ≡ true
-handed-session (starts settings identity capacity e) =
-    let taken = taken-within (settings .limit) (settings .resends) identity capacity e in
-    let made = fresh (settings .limit) (settings .resends) identity capacity in
-    ap (λ o. isReceiverSession (o .state)) (start-taken settings identity capacity (taken .0) (taken .1)) ∙ pack-session made (taken .0) (taken .1)
+handed-session (starts settings identity capacity e) = start-session settings identity capacity e
 handed-session (asks {f = f} h image message readiness verdict later out) =
     request-session f image message readiness verdict later out (handed-session h)
 handed-session (passes {f = f} h elapsed out) = time-session f elapsed out (handed-session h)

@@ -1,5 +1,6 @@
 pub mod Flags
+pub mod Classes
 pub mod Mailboxes
-pub mod Inverse
 pub mod Rows
+pub mod Inverse
 pub mod Unique

@@ -1,37 +1,63 @@
 -- Numbers are taken for a mailbox exactly where they are valid in the paper's own numbers.
-use Prim.Native.Nat.{ℕ, zero, suc, _≤_}
-use mathlib.Core.Bool.{Bool, true, false, true≢false}
+use Prim.Native.Nat.{ℕ, zero, suc, _+_, _≤_}
+use mathlib.Core.Bool.{Bool, true}
 use mathlib.Core.List.{List, [], _∷_}
-use mathlib.Core.Path.{_≡_, refl, sym}
+use mathlib.Core.Path.{_≡_, refl, sym, _∙_, ap, subst}
+use native.Mathlib.Nat.{add-zero, add-suc, suc-add}
 use native.Mathlib.Omega.{arith}
-use borrow.Author.Tests.{ltb-false, leb-true, eqb-true, eqb-false}
-use lib.Dec.{eqb, leb, ltb}
+use borrow.Author.Tests.{ltb-true, ltb-false, le-leb, leb-true, eq-eqb, eqb-true, eqb-false}
+use lib.Dec.{eqb, ltb}
 use lib.ListN.{getD}
-use Rattle.basis.specs.Pick.{pick-all, pick-both, tests}
+use Rattle.basis.specs.Pick.{pick-yes, pick-no, pick-all, pick-both, tests}
+use Rattle.commands.specs.Table.{entryOf}
+use Rattle.commands.specs.declared.table.Class.the-variants.{Run}
 use Rattle.mailbox_state.specs.Connectors.{connectorsNumberOf}
 use Rattle.mailbox_state.proofs.Numbers.{counted-0, counted-within}
-use Rattle.mailbox_flat.specs.Waiting.{areFlags}
+use Rattle.mailbox_state.specs.declared.status.Command.{Command}
+use Rattle.mailbox_rules.specs.Refusal.{is}
+use Rattle.mailbox_rules.specs.WellFormed.{MayRun}
+use Rattle.mailbox_rules.proofs.Absent.{is-there, there-only}
+use Rattle.mailbox_flat.specs.Waiting.{isFlagOf, flagsFrom}
 use Rattle.mailbox_flat.specs.Notifying.{notifiesOf}
-use Rattle.mailbox_flat.specs.Status.{idleOf, isRestOf, isStatusOf}
-use Rattle.mailbox_flat.specs.Flat.{flatStatusIn, saysMailbox, isMailbox, zeroMailbox}
+use Rattle.mailbox_flat.specs.Running.{placedOf, mayRunOf, isRunningOf}
+use Rattle.mailbox_flat.specs.Status.{idleOf, isRestOf, isBusyOf, isStatusOf}
+use Rattle.mailbox_flat.specs.Flat.{flatStatusIn, saysMailbox, showsMailbox, isMailbox, zeroMailbox}
 use Rattle.mailbox_flat.specs.Valid.{MailboxStatusValid, MailboxValid}
 use Rattle.mailbox_flat.specs.declared.status.FlatStatus.{FlatStatus}
 use Rattle.mailbox_flat.specs.declared.flat.FlatMailbox.{FlatMailbox}
+use Rattle.mailbox_flat.proofs.Classes.{is-run}
 
-flags-each : (b : List ℕ) → areFlags b ≡ true → (i : ℕ) → getD b i 0 ≤ 1
-unfolding areFlags
-flags-each [] e i = omega arith
-flags-each (x ∷ b) e zero = pick-all (λ (t : Bool). t ≡ true → x ≤ 1) (ltb 1 x) _ _ (λ _ h. absurd (true≢false (sym h))) (λ t _. ltb-false 1 x t) e
-flags-each (x ∷ b) e (suc i) =
-    pick-all (λ (t : Bool). t ≡ true → getD b i 0 ≤ 1) (ltb 1 x) _ _ (λ _ h. absurd (true≢false (sym h))) (λ _ h. flags-each b h i) e
+-- A flag at the place of a connector, and else 0.
+abbrev Flag : ℕ → ℕ → ℕ → Type 0
+Flag place count byte = (byte ≤ 1) × (count ≤ place → byte ≡ 0)
 
-each-flags : (b : List ℕ) → ((i : ℕ) → getD b i 0 ≤ 1) → areFlags b ≡ true
-unfolding areFlags
-each-flags [] h = refl
-each-flags (x ∷ b) h =
-    let small : x ≤ 1 = h zero in
-    let rest = each-flags b (λ i. h (suc i)) in
-    search (rest, tests)
+module _ (place count byte : ℕ) where
+  is-flag : isFlagOf (ltb place count) byte ≡ true → Flag place count byte
+  unfolding isFlagOf
+  is-flag =
+      pick-all (λ (b : Bool). b ≡ true → Flag place count byte) (ltb place count) _ _
+      (λ t e. let below = ltb-true place count t in (leb-true byte 1 e, λ high. absurd (omega arith)))
+      (λ _ e. let zero = eqb-true byte 0 e in (omega arith, λ _. zero))
+
+  flag-is : Flag place count byte → isFlagOf (ltb place count) byte ≡ true
+  unfolding isFlagOf
+  flag-is (few, none) =
+      pick-all (λ (b : Bool). b ≡ true) (ltb place count) _ _ (λ _. le-leb byte 1 few)
+      (λ t. eq-eqb byte 0 (none (ltb-false place count t)))
+
+flags-each : (place count : ℕ) (b : List ℕ) → flagsFrom place count b ≡ true → (i : ℕ) → Flag (place + i) count (getD b i 0)
+unfolding flagsFrom
+flags-each place count [] e i = (omega arith, λ _. refl)
+flags-each place count (x ∷ b) e zero = subst (λ (k : ℕ). Flag k count x) (sym (add-zero place)) (is-flag place count x (pick-both _ _ e .0))
+flags-each place count (x ∷ b) e (suc i) =
+    subst (λ (k : ℕ). Flag k count (getD b i 0)) (suc-add place i ∙ sym (add-suc place i)) (flags-each (suc place) count b (pick-both _ _ e .1) i)
+
+each-flags : (place count : ℕ) (b : List ℕ) → ((i : ℕ) → Flag (place + i) count (getD b i 0)) → flagsFrom place count b ≡ true
+unfolding flagsFrom
+each-flags place count [] h = refl
+each-flags place count (x ∷ b) h =
+    pick-yes _ _ _ (flag-is place count x (subst (λ (k : ℕ). Flag k count x) (add-zero place) (h zero)))
+    ∙ each-flags (suc place) count b (λ i. subst (λ (k : ℕ). Flag k count (getD b i 0)) (add-suc place i ∙ sym (suc-add place i)) (h (suc i)))
 
 module _ (on mask : ℕ) where
   notifies-numbers : notifiesOf on mask ≡ true → (on ≤ 1) × (on ≡ 0 → mask ≡ 0)
@@ -47,7 +73,33 @@ module _ (on mask : ℕ) where
       pick-all (λ (b : Bool). b ≡ true) (eqb on 1) _ _ (λ _. refl)
       (λ t. let zero : on ≡ 0 = omega (arith, eqb-false on 1 t) in let no = zeroMailbox zero in search tests)
 
-module _ (t : FlatStatus) where
+module _ (count on : ℕ) (command : Command) where
+  abbrev needs : Bool
+  needs = entryOf (command .code) .connector
+
+  running-valid : isRunningOf count on command ≡ true → (on ≡ 1) × MayRun count command
+  unfolding isRunningOf mayRunOf placedOf
+  running-valid e =
+      let a = pick-both _ _ e in
+      let b = pick-both _ _ (a .1) in (
+        eqb-true on 1 (a .0),
+        record {
+          class = is-run _ (b .0);
+          there = λ yes. there-only _ _ (sym (pick-yes needs _ _ yes) ∙ b .1);
+          none = λ no. eqb-true (command .connector) 0 (sym (pick-no needs _ _ no) ∙ b .1);
+        },
+      )
+
+  valid-running : on ≡ 1 → MayRun count command → isRunningOf count on command ≡ true
+  unfolding isRunningOf mayRunOf placedOf
+  valid-running one m =
+      pick-yes _ _ _ (eq-eqb on 1 one)
+      ∙ pick-yes _ _ _ (ap (is Run) (m .class))
+      ∙ pick-all (λ (b : Bool). b ≡ true) needs _ _
+      (λ yes. let c = m .there yes in is-there (command .connector) count (c .0) (c .1))
+      (λ no. eq-eqb (command .connector) 0 (m .none no))
+
+module _ (count on : ℕ) (t : FlatStatus) where
   idle-none : idleOf (t .command) ≡ true → (t .command .code ≡ 0) × (t .command .connector ≡ 0) × (t .command .«reset_type» ≡ 0)
   unfolding idleOf
   idle-none e =
@@ -56,32 +108,44 @@ module _ (t : FlatStatus) where
       (eqb-true (t .command .code) 0 (a .0), eqb-true (t .command .connector) 0 (b .0), eqb-true (t .command .«reset_type») 0 (b .1))
 
   rest-valid : (t .code ≡ 2 → ⊥) → (t .command .code ≡ 0) × (t .command .connector ≡ 0) × (t .command .«reset_type» ≡ 0) → isRestOf t ≡ true
-      → MailboxStatusValid t
+      → MailboxStatusValid count on t
   unfolding isRestOf
   rest-valid not idle =
-      pick-all (λ (b : Bool). b ≡ true → MailboxStatusValid t) (eqb (t .code) 3) _ _
-      (λ u _. let three = eqb-true (t .code) 3 u in record { codes = omega arith; busy-alone = λ _. idle; completed-alone = λ n. absurd (n three) })
-      (λ _ e.
-      let both = pick-both (eqb (t .length) 0) _ e in
-      record { codes = leb-true (t .code) 7 (both .1); busy-alone = λ _. idle; completed-alone = λ _. eqb-true (t .length) 0 (both .0) })
+      pick-all (λ (b : Bool). b ≡ true → MailboxStatusValid count on t) (eqb (t .code) 3) _ _
+      (λ u _. let three = eqb-true (t .code) 3 u in at-rest (omega arith) (λ n. absurd (n three)))
+      (λ _ e. let both = pick-both (eqb (t .length) 0) _ e in at-rest (leb-true (t .code) 7 (both .1)) (λ _. eqb-true (t .length) 0 (both .0)))
+    where
+      at-rest : t .code ≤ 7 → ((t .code ≡ 3 → ⊥) → t .length ≡ 0) → MailboxStatusValid count on t
+      at-rest few none =
+          record { codes = few; busy-alone = λ _. idle; busy-on = λ e. absurd (not e); busy-runs = λ e. absurd (not e); completed-alone = none }
 
-  status-valid : isStatusOf t ≡ true → MailboxStatusValid t
-  unfolding isStatusOf
+  status-valid : isStatusOf t count on ≡ true → MailboxStatusValid count on t
+  unfolding isStatusOf isBusyOf
   status-valid =
-      pick-all (λ (b : Bool). b ≡ true → MailboxStatusValid t) (eqb (t .code) 2) _ _
+      pick-all (λ (b : Bool). b ≡ true → MailboxStatusValid count on t) (eqb (t .code) 2) _ _
       (λ u e.
       let two = eqb-true (t .code) 2 u in
-      record { codes = omega arith; busy-alone = λ n. absurd (n two); completed-alone = λ _. eqb-true (t .length) 0 e })
+      let both = pick-both (eqb (t .length) 0) _ e in
+      let running = running-valid count on (t .command) (both .1) in
+      record {
+        codes = omega arith;
+        busy-alone = λ n. absurd (n two);
+        busy-on = λ _. running .0;
+        busy-runs = λ _. running .1;
+        completed-alone = λ _. eqb-true (t .length) 0 (both .0);
+      })
       (λ u e.
       let both = pick-both (idleOf (t .command)) _ e in
       rest-valid (eqb-false (t .code) 2 u) (idle-none (both .0)) (both .1))
 
-  valid-status : MailboxStatusValid t → isStatusOf t ≡ true
-  unfolding isStatusOf idleOf isRestOf
+  valid-status : MailboxStatusValid count on t → isStatusOf t count on ≡ true
+  unfolding isStatusOf isBusyOf idleOf isRestOf
   valid-status s =
       let P : Bool → Type 0 = λ b. b ≡ true in
       let few = s .codes in
-      pick-all P (eqb (t .code) 2) _ _ (λ u. let two = eqb-true (t .code) 2 u in let zeroMailbox = s .completed-alone (λ e. omega arith) in search tests)
+      pick-all P (eqb (t .code) 2) _ _ (λ u. let two = eqb-true (t .code) 2 u in
+      pick-yes _ _ _ (eq-eqb (t .length) 0 (s .completed-alone (λ e. omega arith)))
+      ∙ valid-running count on (t .command) (s .busy-on two) (s .busy-runs two))
       (λ u.
       let idle = s .busy-alone (eqb-false (t .code) 2 u) in
       let code = idle .0 in
@@ -92,30 +156,35 @@ module _ (t : FlatStatus) where
       rw (rest, rests) (search tests))
 
 pub mailbox-valid : (f : FlatMailbox) → isMailbox f ≡ true → MailboxValid f
-unfolding isMailbox saysMailbox
+unfolding isMailbox showsMailbox saysMailbox
 mailbox-valid f e =
     let a = pick-both (eqb (connectorsNumberOf (f .connectors)) 0) _ e in
-    let b = pick-both (areFlags (f .waiting)) _ (a .1) in
+    let b = pick-both (showsMailbox f) _ (a .1) in
+    let s = pick-both _ _ (b .0) in
     let c = pick-both (notifiesOf (f .notifications) (f .mask)) _ (b .1) in
+    let each = flags-each 0 (f .connectors) (f .waiting) (s .1) in
     let count = counted-within (f .connectors) (eqb-true _ 0 (a .0)) in
     let on = notifies-numbers (f .notifications) (f .mask) (c .0) in
     record {
       least = count .0;
       most = count .1;
-      flags = flags-each (f .waiting) (b .0);
+      shown = leb-true (f .shown) (f .connectors) (s .0);
+      flags = λ i. each i .0;
+      waiting = λ i high. each i .1 (omega (arith, high));
       on = on .0;
       off-no-mask = on .1;
-      statusValid = status-valid (flatStatusIn f) (c .1);
+      statusValid = status-valid (f .connectors) (f .notifications) (flatStatusIn f) (c .1);
     }
 
 pub valid-mailbox : (f : FlatMailbox) → MailboxValid f → isMailbox f ≡ true
-unfolding isMailbox saysMailbox
+unfolding isMailbox showsMailbox saysMailbox
 valid-mailbox f w =
     rw (
       counted-0 (f .connectors) (w .least) (w .most),
-      each-flags (f .waiting) (w .flags),
+      le-leb (f .shown) (f .connectors) (w .shown),
+      each-flags 0 (f .connectors) (f .waiting) (λ i. (w .flags i, λ high. w .waiting i (omega (arith, high)))),
       numbers-notify (f .notifications) (f .mask) (w .on) (w .off-no-mask),
-      valid-status (flatStatusIn f) (w .statusValid),
+      valid-status (f .connectors) (f .notifications) (flatStatusIn f) (w .statusValid),
     )
     (search tests)
 

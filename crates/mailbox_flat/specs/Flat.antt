@@ -2,7 +2,7 @@
 use Prim.Native.Nat.{ℕ}
 use mathlib.Core.Bool.{Bool, false}
 use mathlib.Core.List.{List}
-use lib.Dec.{eqb}
+use lib.Dec.{eqb, leb}
 use lib.ListN.{replicate}
 use Rattle.basis.specs.Pick.{pick}
 use Rattle.mailbox_state.specs.Connectors.{connectorsNumberOf}
@@ -48,11 +48,15 @@ mailboxUnpackOf f =
     (f .«message_in»)
 
 unfoldable pub saysMailbox : FlatMailbox → Bool
-saysMailbox f = pick (notifiesOf (f .notifications) (f .mask)) (isStatusOf (flatStatusIn f)) false
+saysMailbox f = pick (notifiesOf (f .notifications) (f .mask)) (isStatusOf (flatStatusIn f) (f .connectors) (f .notifications)) false
 
--- The numbers of a mailbox: a count that it may have, flags, a mask only while notifications are on, and a status.
+-- The connector shown and those that wait are among those that there are.
+unfoldable pub showsMailbox : FlatMailbox → Bool
+showsMailbox f = pick (leb (f .shown) (f .connectors)) (areFlags (f .waiting) (f .connectors)) false
+
+-- The numbers of a mailbox: a count that it may have, connectors among them, a mask only while notifications are on, and a status.
 unfoldable pub isMailbox : FlatMailbox → Bool
-isMailbox f = pick (eqb (connectorsNumberOf (f .connectors)) 0) (pick (areFlags (f .waiting)) (saysMailbox f) false) false
+isMailbox f = pick (eqb (connectorsNumberOf (f .connectors)) 0) (pick (showsMailbox f) (saysMailbox f) false) false
 
 -- All zero: what is returned beside a 29.
 abbrev pub zeroMailbox : FlatMailbox

@@ -6,6 +6,7 @@ use Rattle.basis.specs.Pick.{pick}
 use Rattle.mailbox_state.specs.declared.status.Command.{Command}
 use Rattle.mailbox_state.specs.declared.status.CommandStatus.{CommandStatus}
 use Rattle.mailbox_state.specs.declared.status.CommandStatus.the-variants.{Nothing, ResetDone, Busy, Completed, Failed, NotSupported, Cancelled, Acknowledged}
+use Rattle.mailbox_flat.specs.Running.{isRunningOf}
 use Rattle.mailbox_flat.specs.declared.status.FlatStatus.{FlatStatus}
 
 abbrev pub flatStatus : ℕ → ℕ → Command → FlatStatus
@@ -47,6 +48,10 @@ idleOf command = pick (eqb (command .code) 0) (pick (eqb (command .connector) 0)
 unfoldable pub isRestOf : FlatStatus → Bool
 isRestOf t = pick (eqb (t .code) 3) true (pick (eqb (t .length) 0) (leb (t .code) 7) false)
 
--- The numbers of a status: a command in Busy alone, a length in Completed alone.
-unfoldable pub isStatusOf : FlatStatus → Bool
-isStatusOf t = pick (eqb (t .code) 2) (eqb (t .length) 0) (pick (idleOf (t .command)) (isRestOf t) false)
+unfoldable pub isBusyOf : FlatStatus → ℕ → ℕ → Bool
+isBusyOf t count on = pick (eqb (t .length) 0) (isRunningOf count on (t .command)) false
+
+-- The numbers of a status, with so many connectors and notifications on or off: a command in Busy alone, one that runs, and a length in
+-- Completed alone.
+unfoldable pub isStatusOf : FlatStatus → ℕ → ℕ → Bool
+isStatusOf t count on = pick (eqb (t .code) 2) (isBusyOf t count on) (pick (idleOf (t .command)) (isRestOf t) false)

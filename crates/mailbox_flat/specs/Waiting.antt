@@ -1,8 +1,8 @@
 -- The connectors that wait, a byte for each, and back.
-use Prim.Native.Nat.{ℕ}
+use Prim.Native.Nat.{ℕ, suc}
 use mathlib.Core.Bool.{Bool, true, false}
 use mathlib.Core.List.{List, [], _∷_}
-use lib.Dec.{eqb, ltb}
+use lib.Dec.{eqb, leb, ltb}
 use Rattle.basis.specs.Flag.{byteOf}
 use Rattle.basis.specs.Pick.{pick}
 
@@ -14,7 +14,14 @@ unfoldable pub flagsOf : List ℕ → List Bool
 flagsOf [] = []
 flagsOf (byte ∷ rest) = eqb byte 1 ∷ flagsOf rest
 
--- Whether each is 0 or 1.
-unfoldable pub areFlags : List ℕ → Bool
-areFlags [] = true
-areFlags (byte ∷ rest) = pick (ltb 1 byte) false (areFlags rest)
+-- 0 or 1 at the place of a connector, and else 0.
+unfoldable pub isFlagOf : Bool → ℕ → Bool
+isFlagOf there byte = pick there (leb byte 1) (eqb byte 0)
+
+-- Whether all are, of so many connectors, where the list's first is at this place.
+unfoldable pub flagsFrom : ℕ → ℕ → List ℕ → Bool
+flagsFrom place count [] = true
+flagsFrom place count (byte ∷ rest) = pick (isFlagOf (ltb place count) byte) (flagsFrom (suc place) count rest) false
+
+abbrev pub areFlags : List ℕ → ℕ → Bool
+areFlags bytes count = flagsFrom 0 count bytes

@@ -2,6 +2,7 @@
 mod flat;
 mod notifying;
 mod pack;
+mod running;
 mod status;
 mod unpack;
 mod waiting;

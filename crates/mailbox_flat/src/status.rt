@@ -1,8 +1,9 @@
 // The status of the last command as numbers, and back.
+use crate::running::is_running;
 use mailbox_state::status::Command;
 use mailbox_state::status::CommandStatus;
 ghost use mathlib.Core.Path.{_≡_};
-ghost use Rattle.mailbox_flat.specs.Status.{flatStatus, bare, flatStatusOf, statusOf, restOf, idleOf, isRestOf, isStatusOf};
+ghost use Rattle.mailbox_flat.specs.Status.{flatStatus, bare, flatStatusOf, statusOf, restOf, idleOf, isRestOf, isBusyOf, isStatusOf};
 
 pub(crate) struct FlatStatus {
     pub code: u8,
@@ -84,16 +85,27 @@ impl FlatStatus {
         rest(self.code)
     }
 
-    // Whether the numbers are those of a status: a command in Busy alone, a length in Completed alone.
-    pub(crate) fn is_status(self) -> bool
-        ensures { λ r. ⌜ r ≡ isStatusOf self ⌝ }
+    // Whether the numbers are those of a status, with so many connectors and notifications on or off: a command in Busy alone, one that
+    // runs, and a length in Completed alone.
+    pub(crate) fn is_status(self, count: u8, on: u8) -> bool
+        ensures { λ r. ⌜ r ≡ isStatusOf self count on ⌝ }
     {
         let command = self.command;
         if self.code == BUSY {
-            return self.length == 0;
+            return self.is_busy(count, on);
         }
         if idle(command) {
             return self.is_rest();
+        }
+        false
+    }
+
+    fn is_busy(self, count: u8, on: u8) -> bool
+        ensures { λ r. ⌜ r ≡ isBusyOf self count on ⌝ }
+    {
+        let command = self.command;
+        if self.length == 0 {
+            return is_running(count, on, command);
         }
         false
     }

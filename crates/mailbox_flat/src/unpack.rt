@@ -9,7 +9,7 @@ use mailbox_state::mailbox::Mailbox;
 use mailbox_state::state::Changes;
 use mailbox_state::state::State;
 ghost use mathlib.Core.Path.{_≡_};
-ghost use Rattle.mailbox_flat.specs.Flat.{flatStatusIn, mailboxUnpackOf, saysMailbox, isMailbox};
+ghost use Rattle.mailbox_flat.specs.Flat.{flatStatusIn, mailboxUnpackOf, saysMailbox, showsMailbox, isMailbox};
 
 impl FlatMailbox {
     pub fn unpack(self) -> Mailbox
@@ -40,9 +40,19 @@ impl FlatMailbox {
         if mailbox_decide::connectors_number(self.connectors) != 0 {
             return false;
         }
-        let bytes = self.waiting;
-        if are_flags(bytes) {
+        if self.shows() {
             return self.says();
+        }
+        false
+    }
+
+    // The connector shown and those that wait are among those that there are.
+    fn shows(self) -> bool
+        ensures { λ r. ⌜ r ≡ showsMailbox self ⌝ }
+    {
+        let bytes = self.waiting;
+        if self.shown <= self.connectors {
+            return are_flags(bytes, self.connectors);
         }
         false
     }
@@ -52,7 +62,7 @@ impl FlatMailbox {
     {
         let flat_status = self.flat_status();
         if notifies(self.notifications, self.mask) {
-            return flat_status.is_status();
+            return flat_status.is_status(self.connectors, self.notifications);
         }
         false
     }

@@ -1,6 +1,6 @@
 // The connectors that wait, a byte for each, and back.
 ghost use mathlib.Core.Path.{_≡_};
-ghost use Rattle.mailbox_flat.specs.Waiting.{waitingBytesOf, flagsOf, areFlags};
+ghost use Rattle.mailbox_flat.specs.Waiting.{waitingBytesOf, flagsOf, isFlagOf, areFlags};
 
 const PLACES: usize = 8;
 
@@ -34,16 +34,26 @@ pub(crate) fn flags_of(b: [u8; 8]) -> [bool; 8]
     ]
 }
 
-// Whether each is 0 or 1.
-pub(crate) fn are_flags(b: [u8; 8]) -> bool
-    ensures { λ r. ⌜ r ≡ areFlags b ⌝ }
+// Whether each is 0 or 1, and 0 above so many connectors.
+pub(crate) fn are_flags(b: [u8; 8], count: u8) -> bool
+    ensures { λ r. ⌜ r ≡ areFlags b count ⌝ }
 {
+    let connectors = count as usize;
     let mut place: usize = 0;
     while place < PLACES {
-        if 1 < b[place] {
+        if !is_flag(place < connectors, b[place]) {
             return false;
         }
         place += 1;
     }
     true
+}
+
+fn is_flag(there: bool, byte: u8) -> bool
+    ensures { λ r. ⌜ r ≡ isFlagOf there byte ⌝ }
+{
+    if there {
+        return byte <= 1;
+    }
+    byte == 0
 }

@@ -19,6 +19,7 @@ use Rattle.mailbox_state.specs.Status.{runsOf}
 use Rattle.mailbox_state.specs.declared.answer.Answer.the-variants.{Taken}
 use Rattle.mailbox_state.specs.declared.state.State.{State}
 use Rattle.mailbox_state.specs.declared.status.Command.{Command}
+use Rattle.mailbox_state.specs.declared.status.CommandStatus.{CommandStatus}
 use Rattle.mailbox_state.specs.declared.status.CommandStatus.the-variants.{Busy, Completed, Failed}
 use Rattle.mailbox_state.specs.declared.step.Step.{Step}
 use Rattle.mailbox_rules.specs.Events.{Event, writes, succeeds, fails, changes, parsedStepOf, eventStepOf}
@@ -34,12 +35,15 @@ use Rattle.mailbox_rules.proofs.Noted.{change-alters}
 use Rattle.mailbox_rules.proofs.Places.{none-within, noted-within, next-within}
 use Rattle.mailbox_rules.proofs.Steps.{event-connectors, event-changes}
 
-still : (state : State) → runsOf (state .status) ≡ false → RunsWell state
+pub not-busy : (status : CommandStatus) (command : Command) → runsOf status ≡ false → status ≡ Busy command → ⊥
 unfolding runsOf
-still state e command busy = absurd (true≢false (sym (ap runsOf busy) ∙ e))
+not-busy status command e busy = true≢false (sym (ap runsOf busy) ∙ e)
 
-busy-same : (a b : Command) → Busy a ≡ Busy b → a ≡ b
+pub busy-same : (a b : Command) → Busy a ≡ Busy b → a ≡ b
 busy-same a b e = cc
+
+still : (state : State) → runsOf (state .status) ≡ false → RunsWell state
+still state e command busy = absurd (not-busy (state .status) command e busy)
 
 module _ (state : State) (control : Control) where
   abbrev needs-of : Bool

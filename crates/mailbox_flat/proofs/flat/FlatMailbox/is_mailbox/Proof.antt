@@ -13,5 +13,5 @@ is-mailbox-spec =
     (λ c. search (← (c .before .connectors-number .ensures), tests))
     (λ c κs. search needs)
     (λ c κs. search needs)
-    (λ c. let flags = c .before .before in search (← (flags .before .before .before .connectors-number .ensures), ← (flags .are-flags .ensures), c .says .ensures, tests))
-    (λ c. let flags = c .before in search (← (flags .before .before .before .connectors-number .ensures), ← (flags .are-flags .ensures), tests)))
+    (λ c. let shows = c .before .before in search (← (shows .before .before .connectors-number .ensures), ← (shows .shows .ensures), c .says .ensures, tests))
+    (λ c. let shows = c .before in search (← (shows .before .before .connectors-number .ensures), ← (shows .shows .ensures), tests)))

@@ -9,7 +9,8 @@ unfolding isStatusOf
 is-status-spec =
     tie.close
     (tie.spec
-    (λ c. search tests)
+    (λ c κs. search needs)
+    (λ c. search (c .is-busy .ensures, tests))
     (λ c κs. search needs)
     (λ c κs. search needs)
     (λ c. search (← (c .before .before .idle .ensures), c .is-rest .ensures, tests))
