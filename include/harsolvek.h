@@ -35,10 +35,12 @@
  * 0): that time is then forgotten. More than 65,535 ms go over in several calls. One call is at
  * most one expiry of the silence limit, and an expiry sets the silence to 0.
  *
- * Limits: the receiver's has to be well below the indoor end's, since only the receiver heals a
- * loss in Transfer, and the receiver's limit times one more than its resends a few times the indoor
- * end's limit, so that it is still there for a VALIDATE that is sent again. The receiver's silence
- * grows also in a wait that it asked for.
+ * Limits: without waits one lost message of any kind but ABORT is made good, if the indoor end has
+ * at least one resend and both bounds are kept (docs/HAZARDS.md, part 6):
+ *     receiver's limit + round trip < indoor end's limit
+ *     indoor end's limit + round trip < receiver's limit * (receiver's resends + 1)
+ * Only the receiver heals a loss in Transfer, and it has to be in Await still for a VALIDATE that is
+ * sent again. The receiver's silence grows also in a wait that it asked for.
  */
 #ifndef HARSOLVEK_H
 #define HARSOLVEK_H

@@ -29,8 +29,8 @@
 /* The indoor end's first expiry in Transfer is a failure (01, The indoor end's phases), so the
  * receiver has to heal a loss there: it asks four times before. In Await its own eleven expiries up
  * to Idle, 4,400 ms, leave room for two further VALIDATEs where the first is lost, at 2,000 and
- * 4,000 ms. The limits are this long because on a loaded machine a process may stand still for a
- * second; shorter ones in the same relations heal a loss sooner. */
+ * 4,000 ms (docs/HAZARDS.md, part 6). The limits are this long because on a loaded machine a process
+ * may stand still for a second; shorter ones in the same relations heal a loss sooner. */
 #define RECEIVER_LIMIT_MS 400
 #define INDOOR_LIMIT_MS   2000
 #define RESENDS           HARSOLVEK_RESENDS_MOST

@@ -15,8 +15,8 @@ ghost use mathlib.Core.Path.{_≡_};
 ghost use Rattle.indoor_state.specs.declared.phase.Phase.the-variants.{Done};
 ghost use Rattle.lossy_ends.specs.Over.{Over, Delivered};
 
-// The receiver's limit is far below the indoor end's, since it alone heals a loss in Transfer (docs/HAZARDS.md), and with its resends it
-// lasts for some of the indoor end's (include/harsolvek.h, Limits).
+// Both bounds of docs/HAZARDS.md, part 6: the receiver's limit and a round trip are below the indoor end's limit, since the receiver alone
+// heals a loss in Transfer, and with its ten resends it is in Await for 2,200 ms, so still there for a VALIDATE that is sent again.
 const ROOF_LIMIT: u16 = 200;
 
 const INDOORS_LIMIT: u16 = 1000;
