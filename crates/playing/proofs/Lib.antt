@@ -4,6 +4,8 @@ pub mod Lines
 pub mod Mid
 pub mod PartAll
 pub mod PartLaws
+pub mod Parts
+pub mod Roomy
 pub mod Steps
 pub mod Unique
 pub mod Zeros

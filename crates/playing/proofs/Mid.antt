@@ -38,7 +38,7 @@ pub record Mid (started : Mailbox) (part before : List ℕ) (mailbox : Mailbox) 
   pub place : taken ≤ length part
 
 -- Bytes and lines that follow others are joined with them.
-regroup : (t k n : ℕ) (x y z : List ℕ) (q : Plays) → n ≡ t + k → z ≡ x ++ y → after t x (after k y q) ≡ after n z q
+pub regroup : (t k n : ℕ) (x y z : List ℕ) (q : Plays) → n ≡ t + k → z ≡ x ++ y → after t x (after k y q) ≡ after n z q
 regroup t k n x y z q e f = rw (e, f, add-assoc t k (q .taken), append-assoc x y (q .text))
 
 pub mid-begins : (started : Mailbox) (part before : List ℕ) → Mid started part before started 0 0 before

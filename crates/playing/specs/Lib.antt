@@ -2,3 +2,4 @@ pub mod Turn
 pub mod Step
 pub mod Replay
 pub mod Part
+pub mod Parts

@@ -50,7 +50,10 @@ leadsOf p out = left (record { mailbox = p .mailbox; taken = p .taken; written =
 abbrev pub playOf : Mailbox → List ℕ → List ℕ → Left Played
 playOf m part out = leadsOf (partOf m (length out) (apartOf part)) out
 
--- The line that closes a recording which ends here.
+-- What closes a recording which ends here. Where a record waits for room it has not ended.
+abbrev pub endingText : Stop → List ℕ
+endingText (Ended ending) = closingText ending
+endingText Full = []
+
 unfoldable pub closingOf : Stop → Line
-closingOf (Ended ending) = lineIn (closingText ending)
-closingOf Full = lineIn []
+closingOf stop = lineIn (endingText stop)
