@@ -1,7 +1,7 @@
 -- Parts of a recording, one after the other: wherever it is cut, they come to what the whole comes to (01, Replay program).
-use Prim.Native.Nat.{ℕ, _+_, _*_, _-_, _≤_}
-use mathlib.Core.Bool.{Bool, true, false, true≢false}
-use mathlib.Core.Path.{_≡_, refl, sym, _∙_, ap, subst}
+use Prim.Native.Nat.{ℕ, _*_, _-_, _≤_}
+use mathlib.Core.Bool.{true, false, true≢false}
+use mathlib.Core.Path.{_≡_, refl, sym, _∙_, ap}
 use mathlib.Core.List.{List, [], _∷_, _++_, append-assoc, append-nil}
 use native.Mathlib.Nat.{le-refl}
 use native.Mathlib.Omega.{arith}
@@ -10,15 +10,14 @@ use lib.Seq.{drop-drop, drop-append-le}
 use Rattle.basis.specs.Pick.{pick, pick-all}
 use Rattle.printing.specs.Line.{lineLongest}
 use Rattle.recording.specs.Reading.{nextRecordOf}
-use Rattle.recording.specs.Apart.{apartOf}
 use Rattle.recording.proofs.ByKind.{nothing-there}
 use Rattle.recording.proofs.Moved.{unknown-stays}
 use Rattle.recording.specs.declared.reader.Read.the-variants.{Ended}
 use Rattle.recording.specs.declared.reader.Ending.the-variants.{Whole, Cut, UnknownKind}
 use Rattle.mailbox_state.specs.declared.mailbox.Mailbox.{Mailbox}
 use Rattle.playing.specs.Replay.{begun, Replayed, replayed, replayOf, printedOf}
-use Rattle.playing.specs.Part.{Plays, endingText}
-use Rattle.playing.specs.Parts.{Reached, reached, reachedFirst, roomyOf, restedOf, furtherOf, partsOf, joined, closedOf, unknownOf, readOf, lastOf, readsOf, untilNothing}
+use Rattle.playing.specs.Part.{endingText}
+use Rattle.playing.specs.Parts.{Reached, reached, reachedFirst, roomyOf, restedOf, furtherOf, partsOf, joined, closedOf, unknownOf, readsOf, untilNothing}
 use Rattle.playing.proofs.Endings.{replay-ended}
 use Rattle.playing.proofs.PartLaws.{part-within, NotFull, never-full, behindLines, part-joins, Because, part-stops, Leaves, part-leaves}
 use Rattle.playing.proofs.Roomy.{part-ended, part-on}
@@ -60,18 +59,6 @@ further-few r part u =
     leaves bytes (Stop.Ended UnknownKind) l n u = absurd (true≢false u)
     leaves bytes Stop.Full l n u = absurd n
 
--- A part of no bytes changes nothing.
-pub further-nothing : (r : Reached) → Waiting (r .held) (r .stop) → furtherOf r [] ≡ r
-unfolding furtherOf
-further-nothing r w = waits (r .stop) w
-  where
-    waits : (stop : Stop) → Waiting (r .held) stop → restedOf (r .text) (r .held ++ []) (roomyOf (r .mailbox) (r .held ++ [])) ≡ reached (r .mailbox) (r .held) stop (r .text)
-    waits (Stop.Ended ending) e =
-        ap (λ (s : List ℕ). restedOf (r .text) s (roomyOf (r .mailbox) s)) (append-nil (r .held))
-        ∙ ap (restedOf (r .text) (r .held)) (part-ended (r .mailbox) (lineLongest * length (r .held)) (r .held) ending e)
-        ∙ ap (reached (r .mailbox) (r .held) (Stop.Ended ending)) (append-nil (r .text))
-    waits Stop.Full e = absurd e
-
 -- One part and then another are the two joined.
 pub further-on : (r : Reached) (part more : List ℕ) → furtherOf (furtherOf r part) more ≡ furtherOf r (part ++ more)
 unfolding furtherOf
@@ -87,6 +74,18 @@ further-on r part more =
     ∙ ap (λ (held : List ℕ). reached (q .mailbox) held (q .stop) (r .text ++ (p .text ++ q .text)))
     (sym (drop-drop (q .taken) (p .taken) (bytes ++ more)) ∙ ap (drop (q .taken)) (drop-append-le (p .taken) bytes more (within .0)))
     ∙ ap (reached (q .mailbox) (drop (q .taken) rest) (q .stop)) (sym (append-assoc (r .text) (p .text) (q .text))))
+
+-- A part of no bytes changes nothing.
+pub further-nothing : (r : Reached) → Waiting (r .held) (r .stop) → furtherOf r [] ≡ r
+unfolding furtherOf
+further-nothing r w = waits (r .stop) w
+  where
+    waits : (stop : Stop) → Waiting (r .held) stop → restedOf (r .text) (r .held ++ []) (roomyOf (r .mailbox) (r .held ++ [])) ≡ reached (r .mailbox) (r .held) stop (r .text)
+    waits (Stop.Ended ending) e =
+        ap (λ (s : List ℕ). restedOf (r .text) s (roomyOf (r .mailbox) s)) (append-nil (r .held))
+        ∙ ap (restedOf (r .text) (r .held)) (part-ended (r .mailbox) (lineLongest * length (r .held)) (r .held) ending e)
+        ∙ ap (reached (r .mailbox) (r .held) (Stop.Ended ending)) (append-nil (r .text))
+    waits Stop.Full e = absurd e
 
 -- However a recording is cut, its parts one after the other come to what they come to at once.
 pub parts-at-once : (r : Reached) (parts : List (List ℕ)) → Waiting (r .held) (r .stop) → partsOf r parts ≡ furtherOf r (joined parts)
@@ -152,6 +151,6 @@ reads-parts r ((byte ∷ bytes) ∷ parts) w =
 pub reads-whole : (m : Mailbox) (parts : List (List ℕ)) → closedOf (readsOf (reachedFirst m) parts) ≡ replayOf m (joined (untilNothing parts))
 reads-whole m parts = reads-parts (reachedFirst m) parts (first-waits m) ∙ parts-whole m (untilNothing parts)
 
--- What the replay program prints, in how many reads the recording may come.
+-- What the replay program prints, however many reads the recording comes in.
 pub reads-printed : (parts : List (List ℕ)) → closedOf (readsOf (reachedFirst begun) parts) .text ≡ printedOf (joined (untilNothing parts))
 reads-printed parts = ap (λ (r : Replayed). r .text) (reads-whole begun parts)

@@ -1,2 +1,4 @@
+pub mod Answers
 pub mod Carry
 pub mod Front
+pub mod Run

@@ -1,13 +1,17 @@
 // Plays the recording on standard input on a mailbox with two connectors, and prints a line for each record (01, Replay program).
 mod buffer;
+mod course;
 mod progress;
 mod say;
 
+use course::End;
+use course::end_of;
+use course::runs;
 use progress::Progress;
 ghost use Prim.Native.Nat.{_*_, _<_, _≤_};
 ghost use lib.ListN.{length};
 ghost use Rattle.printing.specs.Line.{lineLongest};
-ghost use Rattle.replay.specs.Held.{heldMost};
+ghost use Rattle.replay.specs.Turns.{heldMost, Ran};
 
 // As much as is read at once.
 const ROOM: usize = 65536;
@@ -23,21 +27,27 @@ fn main() {
 
 // Here the arrays become slices: their lengths are known from their types, and no proof counts their bytes.
 fn over(buffer: &mut [u8; ROOM], out: &mut [u8; LINES]) {
-    replay(buffer, out);
+    let end = replay(buffer, out);
+    say::tell(end);
 }
 
-// A proved loop has to end, and nothing says that a recording does: the turns are counted down from a number that no run uses up.
-fn replay(buffer: &mut [u8], out: &mut [u8])
+// A proved loop has to end, and nothing says that a recording does: the turns are counted down from a number that no run uses up, and a
+// run that did so would be told.
+fn replay(buffer: &mut [u8], out: &mut [u8]) -> End
     requires { ⌜ heldMost < length (now buffer) ⌝ }
     requires { ⌜ lineLongest * length (now buffer) ≤ length (now out) ⌝ }
+    ensures { λ r. ⌜ Ran r ⌝ }
 {
     let mut progress = Progress::begin();
     let mut turns = u64::MAX;
     while turns > 0 {
-        if !progress.runs {
+        let course = progress.course;
+        if !runs(course) {
             break;
         }
         progress = progress.turn(buffer, out);
         turns -= 1;
     }
+    let course = progress.course;
+    end_of(course)
 }
