@@ -1,5 +1,6 @@
 -- Every session that calls lead to has written nothing but what the paper allows, and never closes early (01, The indoor end's phases).
 use Prim.Native.Nat.{ℕ, _≤_, _<_}
+use mathlib.Core.Bool.{false}
 use mathlib.Core.Path.{_≡_, sym, subst}
 use mathlib.Core.List.{List, [], _∷_, List·Memᴰ, List·Memᴰ·head, List·Memᴰ·tail}
 use native.Mathlib.Omega.{arith}
@@ -9,17 +10,22 @@ use Rattle.wire.specs.Fields.{Words}
 use Rattle.wire.specs.Request as message
 use Rattle.wire.specs.declared.request.Versions.{Versions}
 use Rattle.wire.specs.Written.{requestBytes, bareBytes}
+use Rattle.wire.specs.declared.response.Response.the-variants as Res
+use Rattle.indoor_state.specs.Phase.{indoorProgress, indoorState}
 use Rattle.indoor_state.specs.declared.plan.Plan.{Plan}
 use Rattle.indoor_state.specs.declared.plan.Release.{Release}
 use Rattle.indoor_state.specs.declared.phase.Progress.{Progress}
 use Rattle.indoor_state.specs.declared.phase.Phase.{Phase}
-use Rattle.indoor_state.specs.declared.phase.Phase.the-variants.{Transfer, Validate, Done}
-use Rattle.indoor_state.specs.declared.answer.Answer.the-variants.{Identifying}
+use Rattle.indoor_state.specs.declared.phase.Phase.the-variants.{Initiate, Transfer, Validate, Done}
+use Rattle.indoor_state.specs.declared.answer.Answer.the-variants.{Identifying, Sending}
+use Rattle.indoor_rules.specs.Decide.{indoorDecideOf}
 use Rattle.indoor_rules.specs.Send.{sendsBytes}
 use Rattle.indoor_rules.specs.Response.{indoorResponseOf}
 use Rattle.indoor_rules.specs.History.{Reached, starts, hears, passes, Genuine, AllGenuine, emptyBlock}
 use Rattle.indoor_state.specs.declared.session.Indoor.{Indoor}
 use Rattle.indoor_rules.specs.Step.{emptyNumber}
+use Rattle.indoor_rules.proofs.Accepted.{last-enough}
+use Rattle.indoor_rules.proofs.Orders.{accepted, initiated}
 use Rattle.indoor_rules.proofs.Owes.{Fit}
 use Rattle.indoor_rules.proofs.Elapsed.{stays-below}
 use Rattle.indoor_rules.proofs.Walk.{time-walk}
@@ -97,3 +103,14 @@ module _ (file : List ℕ) (release : Release) (s : Indoor) (sent : List (List �
 
   pub asked-within : (p : Progress) → s .state .phase ≡ Transfer p → p .asked ≤ emptyNumber (s .plan)
   asked-within p e = fit-at (s .plan) (s .state .phase) (Transfer p) e (reach-holds file release s sent words reached .fit)
+
+  -- So a ready INITIATE answer that has room for the file brings block 0: there is one.
+  pub ready-brings-0 : (left silence resends size : ℕ) → length file ≤ size
+      → indoorDecideOf (s .plan) (indoorState (Initiate left) silence resends) (Res.Initiate 0 0 size)
+      ≡ accepted (Transfer (indoorProgress 0 0 false)) (Sending 0)
+  ready-brings-0 left silence resends size room =
+      let w = length-within in
+      let some = w .0 in
+      let same = w .2 in
+      let blocks = last-enough (s .plan) in
+      initiated (s .plan) silence resends left size (omega (arith, room, same)) (omega (arith, some, same, blocks))

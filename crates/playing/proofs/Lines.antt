@@ -3,9 +3,11 @@ use Prim.Native.Nat.{ℕ, _+_, _-_, _<_, _≤_}
 use mathlib.Core.Bool.{true}
 use mathlib.Core.Path.{_≡_, _∙_, ap}
 use native.Mathlib.Omega.{arith}
-use lib.ListN.{length, take, replicate, length-replicate, replicate-append-replicate}
+use lib.ListN.{length, getD, take, replicate, length-replicate, replicate-append-replicate}
 use Rattle.printing.specs.Line.{lineLongest, textOf}
-use Rattle.printing.proofs.Texts.{line-holds, line-sized, Says, line-says}
+use Rattle.printing.specs.Digits.{figure, decimalOf}
+use Rattle.printing.proofs.Digits.{Figures, decimal-figures}
+use Rattle.printing.proofs.Texts.{line-holds, line-sized, Says, line-says, no-zero-in-front}
 use Rattle.recording.specs.declared.record.Record.{Record}
 use Rattle.recording.specs.declared.record.Record.the-variants.{Success}
 use Rattle.mailbox_state.specs.Answer.{mailboxNumberOf}
@@ -47,6 +49,16 @@ pub turn-says : {count : ℕ} {m : Mailbox} → Reached count m → (r : Record)
 unfolding turnOf outcomeOf
 turn-says {count} {m} reached r =
     rw (turn-line m r) (line-says _ _ (reached-width (reached-next count m (eventIn r) reached)) (number-small (turnOf m r .answer)))
+
+-- The answer's number has figures alone, and no zero in front.
+pub turn-figures : (m : Mailbox) (r : Record) → Figures (decimalOf (mailboxNumberOf (turnOf m r .answer)))
+turn-figures m r = let small = number-small (turnOf m r .answer) in decimal-figures (mailboxNumberOf (turnOf m r .answer)) (omega (arith, small))
+
+pub turn-no-zero : (m : Mailbox) (r : Record) → 1 < length (decimalOf (mailboxNumberOf (turnOf m r .answer)))
+    → figure 0 < getD (decimalOf (mailboxNumberOf (turnOf m r .answer))) 0 0
+turn-no-zero m r =
+    let small = number-small (turnOf m r .answer) in
+    no-zero-in-front (mailboxNumberOf (turnOf m r .answer)) (omega (arith, small))
 
 -- That many zero bytes: all 256 are zero.
 pub success-zeros : (m : Mailbox) (n : ℕ) → runsOf (m .state .status) ≡ true → n ≤ 255 → messageInOf (outcomeOf m (Success n) .mailbox) ≡ replicate 256 0

@@ -23,6 +23,14 @@ capital n h = pick-all (λ (c : ℕ). ((0x30 ≤ c) × (c ≤ 0x39)) ⊎ ((0x41 
     (λ t. let k = ltb-true n 10 t in inl (omega arith, omega arith))
     (λ t. let k = ltb-false n 10 t in inr (omega arith, omega arith))
 
+abbrev pub Capitals : List ℕ → Type 0
+Capitals [] = Unit
+Capitals (c ∷ cs) = (((0x30 ≤ c) × (c ≤ 0x39)) ⊎ ((0x41 ≤ c) × (c ≤ 0x46))) × Capitals cs
+
+pub hex-capitals : (k x : ℕ) → Capitals (hexOf k x)
+hex-capitals zero x = tt
+hex-capitals (suc k) x = (capital (x / 16 ^ k % 16) (omega arith), hex-capitals k x)
+
 pub digit-read : (n : ℕ) → n < 16 → digitIn (digitOf n) ≡ n
 unfolding digitOf digitIn
 digit-read n h = pick-all (λ (c : ℕ). digitIn c ≡ n) (ltb n 10) _ _

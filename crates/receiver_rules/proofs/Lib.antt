@@ -20,5 +20,6 @@ pub mod Fresh
 pub mod Reached
 pub mod InPlace
 pub mod OfFile
+pub mod ReadBack
 pub mod Truthful
 pub mod NotBuilt
