@@ -22,11 +22,11 @@
  *   flag or a `told` that its comment does not name, a number other than 0 where its comment says
  *   0, a reason other than 40 to 45 in Failed, or settings, a capacity, a file's length or a count
  *   of connectors that its start refuses; no mailbox either if a connector above its count is shown
- *   or waits, or if it is Busy with a command that never runs, with a connector that the command
- *   does not get, or with notifications off. Every call then answers 29 and changes nothing. All
- *   bytes zero is such a state, so memory that no start has filled is safe to hand in. What a call
- *   leaves of a session or a mailbox is one again. Other values that no call hands out, as more
- *   accepted than the capacity, are answered by the rules as they stand.
+ *   or waits, or if it is Busy with a command that never runs, with a connector above its count, or
+ *   with notifications off. Every call then answers 29 and changes nothing. All bytes zero is such
+ *   a state, so memory that no start has filled is safe to hand in. What a call leaves of a session
+ *   or a mailbox is one again. Other values that no call hands out, as more accepted than the
+ *   capacity, are answered by the rules as they stand.
  * - A refused start hands out a state of zeros. Look at its number before the loop: the phase of
  *   zeros reads as the first one.
  *

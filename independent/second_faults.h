@@ -221,12 +221,8 @@
       "A state in which a command runs while notifications are off is a mailbox.") \
     X(MAILBOX_RUN_OF_ANY_CODE_STANDS, SECOND_PART_MAILBOX, \
       "A state in which a command runs that never does is a mailbox.") \
-    X(MAILBOX_RUN_WITHOUT_CONNECTOR_STANDS, SECOND_PART_MAILBOX, \
-      "A state in which a command runs without the connector that it needs is a mailbox.") \
     X(MAILBOX_RUN_ABOVE_COUNT_STANDS, SECOND_PART_MAILBOX, \
-      "A state in which a command runs on a connector above the count is a mailbox.") \
-    X(MAILBOX_CAPABILITY_OF_A_CONNECTOR_STANDS, SECOND_PART_MAILBOX, \
-      "A state in which GET_CAPABILITY runs on a connector is a mailbox.")
+      "A state in which a command runs on a connector above the count is a mailbox.")
 /* clang-format on */
 
 #define SECOND_FAULT_NAME(name, part, what) name,

@@ -320,18 +320,15 @@ uint32_t second_mailbox_cci(const second_mailbox *m)
     return m->cci | (uint32_t)m->shown << 1;
 }
 
-/* 01: all but GET_CAPABILITY need a connector number from 1 to the count, and no other command
- * runs. */
+/* 01: no other command runs, and none on a connector above the count. */
 static int may_run(const second_mailbox *m)
 {
     switch (m->code) {
-    case GET_CAPABILITY:
-        return m->connector == 0 || fault(MAILBOX_CAPABILITY_OF_A_CONNECTOR_STANDS);
     case CONNECTOR_RESET:
+    case GET_CAPABILITY:
     case GET_CONNECTOR_CAPABILITY:
     case GET_CONNECTOR_STATUS:
-        return (m->connector >= 1 || fault(MAILBOX_RUN_WITHOUT_CONNECTOR_STANDS)) &&
-               (m->connector <= m->connectors || fault(MAILBOX_RUN_ABOVE_COUNT_STANDS));
+        return m->connector <= m->connectors || fault(MAILBOX_RUN_ABOVE_COUNT_STANDS);
     default:
         return fault(MAILBOX_RUN_OF_ANY_CODE_STANDS);
     }

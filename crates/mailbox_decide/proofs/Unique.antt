@@ -1,13 +1,12 @@
 -- Each public contract leaves one answer and one state of the lent memory. Written from the contracts by tools/contracts.
 use Prim.Native.Nat.{ℕ}
-use mathlib.Core.Bool.{Bool}
 use mathlib.Core.Path.{_≡_}
 use Rattle.basis.specs.Only.{only}
 use Rattle.commands.specs.declared.control.Control.{Control}
 use Rattle.mailbox_rules.specs.Cci.{cciBitsOf}
 use Rattle.mailbox_rules.specs.Change.{changeStepOf}
 use Rattle.mailbox_rules.specs.Report.{successStepOf, failureStepOf}
-use Rattle.mailbox_rules.specs.Write.{controlStepOf, connectorThere}
+use Rattle.mailbox_rules.specs.Write.{controlStepOf}
 use Rattle.mailbox_state.specs.Answer.{mailboxNumberOf}
 use Rattle.mailbox_state.specs.Connectors.{connectorsNumberOf}
 use Rattle.mailbox_state.specs.Step.{refused}
@@ -45,12 +44,6 @@ pub one-change : (state : State) (connector reason : ℕ) (r r′ : Step)
     → r′ ≡ changeStepOf state connector reason
     → r ≡ r′
 one-change state connector reason r r′ is is′ = only is is′
-
-pub one-there : (connector count : ℕ) (r r′ : Bool)
-    → r ≡ connectorThere connector count
-    → r′ ≡ connectorThere connector count
-    → r ≡ r′
-one-there connector count r r′ is is′ = only is is′
 
 pub one-succeed : (state : State) (length : ℕ) (r r′ : Step)
     → r ≡ successStepOf state length

@@ -15,7 +15,6 @@ pub use bits::cci;
 pub use command::write;
 pub use connectors::connectors_number;
 pub use notice::change;
-pub use notice::there;
 pub use report::fail;
 pub use report::succeed;
 pub use step::refused;

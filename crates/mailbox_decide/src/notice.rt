@@ -69,7 +69,7 @@ fn note(state: State, connector: u8) -> Step
 }
 
 // A connector number from 1 to the count.
-pub fn there(connector: u8, count: u8) -> bool
+pub(crate) fn there(connector: u8, count: u8) -> bool
     ensures { λ r. ⌜ r ≡ connectorThere connector count ⌝ }
 {
     (1 <= connector) & (connector <= count)

@@ -16,10 +16,9 @@ use Rattle.mailbox_state.proofs.Numbers.{counted-0, counted-within}
 use Rattle.mailbox_state.specs.declared.status.Command.{Command}
 use Rattle.mailbox_rules.specs.Refusal.{is}
 use Rattle.mailbox_rules.specs.WellFormed.{MayRun}
-use Rattle.mailbox_rules.proofs.Absent.{is-there, there-only}
 use Rattle.mailbox_flat.specs.Waiting.{isFlagOf, flagsFrom}
 use Rattle.mailbox_flat.specs.Notifying.{notifiesOf}
-use Rattle.mailbox_flat.specs.Running.{placedOf, mayRunOf, isRunningOf}
+use Rattle.mailbox_flat.specs.Running.{mayRunOf, isRunningOf}
 use Rattle.mailbox_flat.specs.Status.{idleOf, isRestOf, isBusyOf, isStatusOf}
 use Rattle.mailbox_flat.specs.Flat.{flatStatusIn, saysMailbox, showsMailbox, isMailbox, zeroMailbox}
 use Rattle.mailbox_flat.specs.Valid.{MailboxStatusValid, MailboxValid}
@@ -74,30 +73,16 @@ module _ (on mask : ℕ) where
       (λ t. let zero : on ≡ 0 = omega (arith, eqb-false on 1 t) in let no = zeroMailbox zero in search tests)
 
 module _ (count on : ℕ) (command : Command) where
-  abbrev needs : Bool
-  needs = entryOf (command .code) .connector
-
   running-valid : isRunningOf count on command ≡ true → (on ≡ 1) × MayRun count command
-  unfolding isRunningOf mayRunOf placedOf
+  unfolding isRunningOf mayRunOf
   running-valid e =
       let a = pick-both _ _ e in
-      let b = pick-both _ _ (a .1) in (
-        eqb-true on 1 (a .0),
-        record {
-          class = is-run _ (b .0);
-          there = λ yes. there-only _ _ (sym (pick-yes needs _ _ yes) ∙ b .1);
-          none = λ no. eqb-true (command .connector) 0 (sym (pick-no needs _ _ no) ∙ b .1);
-        },
-      )
+      let b = pick-both _ _ (a .1) in
+      (eqb-true on 1 (a .0), record { class = is-run _ (b .0); there = leb-true (command .connector) count (b .1) })
 
   valid-running : on ≡ 1 → MayRun count command → isRunningOf count on command ≡ true
-  unfolding isRunningOf mayRunOf placedOf
-  valid-running one m =
-      pick-yes _ _ _ (eq-eqb on 1 one)
-      ∙ pick-yes _ _ _ (ap (is Run) (m .class))
-      ∙ pick-all (λ (b : Bool). b ≡ true) needs _ _
-      (λ yes. let c = m .there yes in is-there (command .connector) count (c .0) (c .1))
-      (λ no. eq-eqb (command .connector) 0 (m .none no))
+  unfolding isRunningOf mayRunOf
+  valid-running one m = pick-yes _ _ _ (eq-eqb on 1 one) ∙ pick-yes _ _ _ (ap (is Run) (m .class)) ∙ le-leb (command .connector) count (m .there)
 
 module _ (count on : ℕ) (t : FlatStatus) where
   idle-none : idleOf (t .command) ≡ true → (t .command .code ≡ 0) × (t .command .connector ≡ 0) × (t .command .«reset_type» ≡ 0)

@@ -2,10 +2,9 @@
 use commands::table::Class;
 use commands::table::Entry;
 use commands::table::look;
-use mailbox_decide::there;
 use mailbox_state::status::Command;
 ghost use mathlib.Core.Path.{_≡_};
-ghost use Rattle.mailbox_flat.specs.Running.{placedOf, mayRunOf, isRunningOf};
+ghost use Rattle.mailbox_flat.specs.Running.{mayRunOf, isRunningOf};
 
 // With so many connectors, and only while notifications are on.
 pub(crate) fn is_running(count: u8, on: u8, command: Command) -> bool
@@ -17,6 +16,7 @@ pub(crate) fn is_running(count: u8, on: u8, command: Command) -> bool
     false
 }
 
+// The table says so of its code, and its connector, or 0 for none, is among so many.
 fn may_run(entry: Entry, connector: u8, count: u8) -> bool
     ensures { λ r. ⌜ r ≡ mayRunOf entry connector count ⌝ }
 {
@@ -24,15 +24,5 @@ fn may_run(entry: Entry, connector: u8, count: u8) -> bool
     let Class::Run = class else {
         return false;
     };
-    placed(entry.connector, connector, count)
-}
-
-// A connector of so many where one is needed, else 0.
-fn placed(needs: bool, connector: u8, count: u8) -> bool
-    ensures { λ r. ⌜ r ≡ placedOf needs connector count ⌝ }
-{
-    if needs {
-        return there(connector, count);
-    }
-    connector == 0
+    connector <= count
 }

@@ -49,12 +49,11 @@ module _ (state : State) (control : Control) where
   abbrev needs-of : Bool
   needs-of = entryOf (control .code) .connector
 
-  may-run : (needs : Bool) → needs-of ≡ needs → entryOf (control .code) .class ≡ class.Run
+  may-run : (needs : Bool) → entryOf (control .code) .class ≡ class.Run
       → (needs && not (connectorThere (control .connector) (state .connectors))) ≡ false → MayRun (state .connectors) (commandOf needs control)
   unfolding pick
-  may-run true e run there =
-      record { class = run; there = λ _. there-only _ _ (not-false _ there); none = λ no. absurd (true≢false (sym e ∙ no)) }
-  may-run false e run there = record { class = run; there = λ yes. absurd (true≢false (sym yes ∙ e)); none = λ _. refl }
+  may-run true run there = record { class = run; there = there-only _ _ (not-false _ there) .1 }
+  may-run false run there = record { class = run; there = omega arith }
 
   -- A command is refused with 2 while notifications are off.
   not-off : refusalOf class.Run (situationOf state control) ≡ Taken → (off : Bool) → offOf (state .notifications) ≡ off → off ≡ false
@@ -67,7 +66,7 @@ module _ (state : State) (control : Control) where
   starts-well run taken =
       pick-all (λ (s : Step). RunsWell (s .state)) _ _ _ (λ absent. still (withStatus state Failed) refl)
       (λ there command busy.
-      record { on = not-off taken _ refl; mayRun = subst (MayRun (state .connectors)) (busy-same _ command busy) (may-run needs-of refl run there) })
+      record { on = not-off taken _ refl; mayRun = subst (MayRun (state .connectors)) (busy-same _ command busy) (may-run needs-of run there) })
 
   taken-well : (class : Class) → entryOf (control .code) .class ≡ class → refusalOf class (situationOf state control) ≡ Taken
       → RunsWell (takenStepOf state class needs-of control .state)

@@ -19,11 +19,10 @@ pub record Within (count : ℕ) (now : Changes) : Type 0 where
   pub shown : now .shown ≤ count
   pub waiting : (j : ℕ) → count ≤ j → getD (now .waiting) j false ≡ false
 
--- A command that may run: the table says so of its code, and its connector is one of so many where the code needs one, and else 0.
+-- A command that may run: the table says so of its code, and its connector, or 0 for none, is among so many.
 pub record MayRun (count : ℕ) (command : Command) : Type 0 where
   pub class : entryOf (command .code) .class ≡ Run
-  pub there : entryOf (command .code) .connector ≡ true → (1 ≤ command .connector) × (command .connector ≤ count)
-  pub none : entryOf (command .code) .connector ≡ false → command .connector ≡ 0
+  pub there : command .connector ≤ count
 
 -- A command runs only while notifications are on.
 pub record Running (count : ℕ) (notifications : Notifications) (command : Command) : Type 0 where

@@ -13,5 +13,4 @@ may-run-spec =
     (tie.spec
     (λ c. search needs)
     (λ c. sym (pick-no _ _ _ (not-run (c .before .args .entry .class) (c .match .keys2))))
-    (λ c κs. search needs)
-    (λ c. rw (c .before .enum-told .given .1) (c .placed .ensures)))
+    (λ c. rw (c .enum-told .given .1)))
