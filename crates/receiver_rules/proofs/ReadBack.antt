@@ -10,7 +10,7 @@ use Rattle.silence.specs.declared.Event.the-variants.{Quiet, Resend, NoneLeft}
 use Rattle.silence.specs.declared.Grown.{Grown}
 use Rattle.silence.specs.declared.Settings.{Settings}
 use Rattle.wire.specs.Codes.{imageSizeMost}
-use Rattle.wire.specs.Fields.{Words, BuiltResponse, Answerable, asRead}
+use Rattle.wire.specs.Fields.{Words, Answerable, asRead}
 use Rattle.wire.specs.Response.{parsedResponseOf}
 use Rattle.wire.specs.declared.request.Request.{Request}
 use Rattle.wire.specs.declared.request.Request.the-variants as Req
@@ -143,28 +143,28 @@ Sixteen i = (i .vendor < 65536) × (i .product < 65536) × Words (i .versions)
 
 abbrev Readable : Reply → Type 0
 Readable Nothing = Unit
-Readable (Sends sent) = BuiltResponse sent × Answerable sent
+Readable (Sends sent) = Answerable sent
 
 module _ (identity : Identity) (words : Sixteen identity) (capacity : ℕ) (room : capacity ≤ imageSizeMost) where
   reply-readable : (answer : Answer) → Numbered answer → Readable (replyOf identity capacity answer)
   unfolding replyOf getFwIdReply initiateReply dataReply validateReply
-  reply-readable Identified h = (tt, words)
-  reply-readable (Offered wait) h = (tt, room)
-  reply-readable (Asking wait number) h = (tt, h)
-  reply-readable (Closed number) h = (tt, h)
-  reply-readable Success h = (tt, tt)
-  reply-readable (Later wait) h = (tt, tt)
+  reply-readable Identified h = words
+  reply-readable (Offered wait) h = room
+  reply-readable (Asking wait number) h = h
+  reply-readable (Closed number) h = h
+  reply-readable Success h = tt
+  reply-readable (Later wait) h = tt
   reply-readable Aborted h = tt
   reply-readable Passed h = tt
   reply-readable Malformed h = tt
-  reply-readable UnexpectedInitiate h = (tt, omega arith)
-  reply-readable UnexpectedData h = (tt, omega arith)
-  reply-readable UnexpectedValidate h = (tt, tt)
+  reply-readable UnexpectedInitiate h = omega arith
+  reply-readable UnexpectedData h = omega arith
+  reply-readable UnexpectedValidate h = tt
   reply-readable Unexpected h = tt
-  reply-readable (NotDue due) h = (tt, h)
-  reply-readable PassesCapacity h = (tt, omega arith)
-  reply-readable WrongFile h = (tt, omega arith)
-  reply-readable VerdictBad h = (tt, tt)
+  reply-readable (NotDue due) h = h
+  reply-readable PassesCapacity h = omega arith
+  reply-readable WrongFile h = omega arith
+  reply-readable VerdictBad h = tt
   reply-readable OutOfRange h = tt
   reply-readable BufferShort h = tt
   reply-readable ImageLength h = tt
@@ -178,7 +178,7 @@ module _ {r : Receiver} {image₀ : List ℕ} {taken : List (List ℕ)} (reached
   finds : (out : List ℕ) (outcome : Outcome) (out′ : List ℕ) → Leads r out outcome out′ → Numbered (outcome .answer) → Finds r outcome out′
   finds out outcome out′ leads numbered sent e =
       let readable = subst Readable e (reply-readable (r .identity) words (r .capacity) (limits reached .2) (outcome .answer) numbered) in
-      read-back r out outcome out′ leads sent e (readable .0) (readable .1)
+      read-back r out outcome out′ leads sent e readable
 
   pub request-finds : (image request : List ℕ) (readiness : ℕ) (verdict : Verdict) (out : List ℕ)
       → Finds r (receiverRequestOf r image request readiness verdict out .outcome) (receiverRequestOf r image request readiness verdict out .out)
