@@ -1,0 +1,11 @@
+pub mod Carried
+pub mod Times
+pub mod Messages
+pub mod Stations
+pub mod Ticks
+pub mod Passing
+pub mod Arriving
+pub mod Answering
+pub mod Losing
+pub mod Reached
+pub mod MadeGood
