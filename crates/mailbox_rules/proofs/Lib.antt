@@ -26,3 +26,4 @@ pub mod Switch
 pub mod Taken
 pub mod Writes
 pub mod Sentences
+pub mod Judged

@@ -1,5 +1,5 @@
 use Rattle.basis.specs.Pick.{pick}
-use Rattle.mailbox_decide.proofs.Judged.{acknowledges}
+use Rattle.mailbox_rules.proofs.Judged.{acknowledges}
 use borrow.Author.Needs.{needs}
 use Rattle.mailbox_decide.proofs.refusal.acknowledge.Statement.{statement}
 use Rattle.mailbox_decide.proofs.refusal.acknowledge.Tie as tie

@@ -1,7 +1,7 @@
 use mathlib.Core.Path.{sym, _∙_}
 use Rattle.mailbox_rules.proofs.Answers.{reset-taken, running-3}
 use Rattle.mailbox_rules.proofs.Running.{off-in-run}
-use Rattle.mailbox_decide.proofs.Judged.{cancels}
+use Rattle.mailbox_rules.proofs.Judged.{cancels}
 use borrow.Author.Needs.{needs}
 use Rattle.mailbox_decide.proofs.refusal.in_run.Statement.{statement}
 use Rattle.mailbox_decide.proofs.refusal.in_run.Tie as tie

@@ -1,6 +1,6 @@
 use mathlib.Core.Path.{sym, _∙_}
 use Rattle.mailbox_rules.proofs.Answers.{reset-taken}
-use Rattle.mailbox_decide.proofs.Judged.{cancel, run, other, plain, enables}
+use Rattle.mailbox_rules.proofs.Judged.{cancel, run, other, plain, enables}
 use borrow.Author.Needs.{needs}
 use Rattle.mailbox_decide.proofs.refusal.outside.Statement.{statement}
 use Rattle.mailbox_decide.proofs.refusal.outside.Tie as tie
