@@ -1,13 +1,13 @@
 -- Numbers are taken for a mailbox exactly where they are valid in the paper's own numbers.
-use Prim.Native.Nat.{ℕ, zero, suc, _+_, _≤_}
-use mathlib.Core.Bool.{Bool, true}
+use Prim.Native.Nat.{ℕ, zero, suc, _+_, _-_, _≤_}
+use mathlib.Core.Bool.{Bool, true, true≢false}
 use mathlib.Core.List.{List, [], _∷_}
 use mathlib.Core.Path.{_≡_, refl, sym, _∙_, ap, subst}
-use native.Mathlib.Nat.{add-zero, add-suc, suc-add}
+use native.Mathlib.Nat.{zero-add, suc-add}
 use native.Mathlib.Omega.{arith}
 use borrow.Author.Tests.{ltb-true, ltb-false, le-leb, leb-true, eq-eqb, eqb-true, eqb-false}
 use lib.Dec.{eqb, ltb}
-use lib.ListN.{getD}
+use lib.ListN.{getD, drop}
 use Rattle.basis.specs.Pick.{pick-yes, pick-no, pick-all, pick-both, tests}
 use Rattle.commands.specs.Table.{entryOf}
 use Rattle.commands.specs.declared.table.Class.the-variants.{Run}
@@ -16,7 +16,7 @@ use Rattle.mailbox_state.proofs.Numbers.{counted-0, counted-within}
 use Rattle.mailbox_state.specs.declared.status.Command.{Command}
 use Rattle.mailbox_rules.specs.Refusal.{is}
 use Rattle.mailbox_rules.specs.WellFormed.{MayRun}
-use Rattle.mailbox_flat.specs.Waiting.{isFlagOf, flagsFrom}
+use Rattle.mailbox_flat.specs.Waiting.{atMost, areFlags}
 use Rattle.mailbox_flat.specs.Notifying.{notifiesOf}
 use Rattle.mailbox_flat.specs.Running.{mayRunOf, isRunningOf}
 use Rattle.mailbox_flat.specs.Status.{idleOf, isRestOf, isBusyOf, isStatusOf}
@@ -26,37 +26,44 @@ use Rattle.mailbox_flat.specs.declared.status.FlatStatus.{FlatStatus}
 use Rattle.mailbox_flat.specs.declared.flat.FlatMailbox.{FlatMailbox}
 use Rattle.mailbox_flat.proofs.Classes.{is-run}
 
--- A flag at the place of a connector, and else 0.
-abbrev Flag : ℕ → ℕ → ℕ → Type 0
-Flag place count byte = (byte ≤ 1) × (count ≤ place → byte ≡ 0)
+each-most : (most : ℕ) (b : List ℕ) → atMost most b ≡ true → (i : ℕ) → getD b i 0 ≤ most
+unfolding atMost
+each-most most [] e i = omega arith
+each-most most (x ∷ b) e zero = pick-all (λ (t : Bool). t ≡ true → x ≤ most) (ltb most x) _ _ (λ _ h. absurd (true≢false (sym h))) (λ t _. ltb-false most x t) e
+each-most most (x ∷ b) e (suc i) =
+    pick-all (λ (t : Bool). t ≡ true → getD b i 0 ≤ most) (ltb most x) _ _ (λ _ h. absurd (true≢false (sym h))) (λ _ h. each-most most b h i) e
 
-module _ (place count byte : ℕ) where
-  is-flag : isFlagOf (ltb place count) byte ≡ true → Flag place count byte
-  unfolding isFlagOf
-  is-flag =
-      pick-all (λ (b : Bool). b ≡ true → Flag place count byte) (ltb place count) _ _
-      (λ t e. let below = ltb-true place count t in (leb-true byte 1 e, λ high. absurd (omega arith)))
-      (λ _ e. let zero = eqb-true byte 0 e in (omega arith, λ _. zero))
+most-each : (most : ℕ) (b : List ℕ) → ((i : ℕ) → getD b i 0 ≤ most) → atMost most b ≡ true
+unfolding atMost
+most-each most [] h = refl
+most-each most (x ∷ b) h =
+    let small : x ≤ most = h zero in
+    let rest = most-each most b (λ i. h (suc i)) in
+    search (rest, tests)
 
-  flag-is : Flag place count byte → isFlagOf (ltb place count) byte ≡ true
-  unfolding isFlagOf
-  flag-is (few, none) =
-      pick-all (λ (b : Bool). b ≡ true) (ltb place count) _ _ (λ _. le-leb byte 1 few)
-      (λ t. eq-eqb byte 0 (none (ltb-false place count t)))
+behind : (count : ℕ) (b : List ℕ) (i : ℕ) → getD (drop count b) i 0 ≡ getD b (count + i) 0
+behind zero b i = ap (λ (k : ℕ). getD b k 0) (sym (zero-add i))
+behind (suc count) [] i = refl
+behind (suc count) (x ∷ b) i = behind count b i ∙ ap (λ (k : ℕ). getD (x ∷ b) k 0) (sym (suc-add count i))
 
-flags-each : (place count : ℕ) (b : List ℕ) → flagsFrom place count b ≡ true → (i : ℕ) → Flag (place + i) count (getD b i 0)
-unfolding flagsFrom
-flags-each place count [] e i = (omega arith, λ _. refl)
-flags-each place count (x ∷ b) e zero = subst (λ (k : ℕ). Flag k count x) (sym (add-zero place)) (is-flag place count x (pick-both _ _ e .0))
-flags-each place count (x ∷ b) e (suc i) =
-    subst (λ (k : ℕ). Flag k count (getD b i 0)) (suc-add place i ∙ sym (add-suc place i)) (flags-each (suc place) count b (pick-both _ _ e .1) i)
+-- Each is a flag, and 0 behind so many connectors.
+flags-each : (b : List ℕ) (count : ℕ) → areFlags b count ≡ true → ((i : ℕ) → getD b i 0 ≤ 1) × ((i : ℕ) → count ≤ i → getD b i 0 ≡ 0)
+unfolding areFlags
+flags-each b count e =
+    let both = pick-both _ _ e in (
+      each-most 1 b (both .0),
+      λ i high.
+          let place : count + (i - count) ≡ i = omega arith in
+          let none = each-most 0 (drop count b) (both .1) (i - count) in
+          let there = behind count b (i - count) ∙ ap (λ (k : ℕ). getD b k 0) place in
+          omega arith,
+    )
 
-each-flags : (place count : ℕ) (b : List ℕ) → ((i : ℕ) → Flag (place + i) count (getD b i 0)) → flagsFrom place count b ≡ true
-unfolding flagsFrom
-each-flags place count [] h = refl
-each-flags place count (x ∷ b) h =
-    pick-yes _ _ _ (flag-is place count x (subst (λ (k : ℕ). Flag k count x) (add-zero place) (h zero)))
-    ∙ each-flags (suc place) count b (λ i. subst (λ (k : ℕ). Flag k count (getD b i 0)) (add-suc place i ∙ sym (suc-add place i)) (h (suc i)))
+each-flags : (b : List ℕ) (count : ℕ) → ((i : ℕ) → getD b i 0 ≤ 1) → ((i : ℕ) → count ≤ i → getD b i 0 ≡ 0) → areFlags b count ≡ true
+unfolding areFlags
+each-flags b count few none =
+    pick-yes _ _ _ (most-each 1 b few)
+    ∙ most-each 0 (drop count b) (λ i. let there = behind count b i in let zero = none (count + i) (omega arith) in omega arith)
 
 module _ (on mask : ℕ) where
   notifies-numbers : notifiesOf on mask ≡ true → (on ≤ 1) × (on ≡ 0 → mask ≡ 0)
@@ -147,15 +154,15 @@ mailbox-valid f e =
     let b = pick-both (showsMailbox f) _ (a .1) in
     let s = pick-both _ _ (b .0) in
     let c = pick-both (notifiesOf (f .notifications) (f .mask)) _ (b .1) in
-    let each = flags-each 0 (f .connectors) (f .waiting) (s .1) in
+    let each = flags-each (f .waiting) (f .connectors) (s .1) in
     let count = counted-within (f .connectors) (eqb-true _ 0 (a .0)) in
     let on = notifies-numbers (f .notifications) (f .mask) (c .0) in
     record {
       least = count .0;
       most = count .1;
       shown = leb-true (f .shown) (f .connectors) (s .0);
-      flags = λ i. each i .0;
-      waiting = λ i high. each i .1 (omega (arith, high));
+      flags = each .0;
+      waiting = each .1;
       on = on .0;
       off-no-mask = on .1;
       statusValid = status-valid (f .connectors) (f .notifications) (flatStatusIn f) (c .1);
@@ -167,7 +174,7 @@ valid-mailbox f w =
     rw (
       counted-0 (f .connectors) (w .least) (w .most),
       le-leb (f .shown) (f .connectors) (w .shown),
-      each-flags 0 (f .connectors) (f .waiting) (λ i. (w .flags i, λ high. w .waiting i (omega (arith, high)))),
+      each-flags (f .waiting) (f .connectors) (w .flags) (w .waiting),
       numbers-notify (f .notifications) (f .mask) (w .on) (w .off-no-mask),
       valid-status (f .connectors) (f .notifications) (flatStatusIn f) (w .statusValid),
     )

@@ -1,6 +1,7 @@
 // The connectors that wait, a byte for each, and back.
 ghost use mathlib.Core.Path.{_≡_};
-ghost use Rattle.mailbox_flat.specs.Waiting.{waitingBytesOf, flagsOf, isFlagOf, areFlags};
+ghost use lib.ListN.{drop};
+ghost use Rattle.mailbox_flat.specs.Waiting.{waitingBytesOf, flagsOf, atMost, areFlags};
 
 const PLACES: usize = 8;
 
@@ -34,26 +35,26 @@ pub(crate) fn flags_of(b: [u8; 8]) -> [bool; 8]
     ]
 }
 
-// Whether each is 0 or 1, and 0 above so many connectors.
+// Whether each is 0 or 1, and 0 behind so many connectors.
 pub(crate) fn are_flags(b: [u8; 8], count: u8) -> bool
     ensures { λ r. ⌜ r ≡ areFlags b count ⌝ }
 {
-    let connectors = count as usize;
-    let mut place: usize = 0;
+    if at_most(b, 0, 1) {
+        return at_most(b, count as usize, 0);
+    }
+    false
+}
+
+// Whether each from a place on is at most so much.
+fn at_most(b: [u8; 8], from: usize, most: u8) -> bool
+    ensures { λ r. ⌜ r ≡ atMost most (drop from b) ⌝ }
+{
+    let mut place = from;
     while place < PLACES {
-        if !is_flag(place < connectors, b[place]) {
+        if most < b[place] {
             return false;
         }
         place += 1;
     }
     true
-}
-
-fn is_flag(there: bool, byte: u8) -> bool
-    ensures { λ r. ⌜ r ≡ isFlagOf there byte ⌝ }
-{
-    if there {
-        return byte <= 1;
-    }
-    byte == 0
 }
