@@ -27,3 +27,4 @@ pub mod Taken
 pub mod Writes
 pub mod Sentences
 pub mod Judged
+pub mod Classes
