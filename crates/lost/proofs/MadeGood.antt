@@ -46,7 +46,7 @@ use Rattle.lost.proofs.Passing.{passes-on}
 use Rattle.lost.proofs.Arriving.{Fits, rises-on}
 use Rattle.lost.proofs.Answering.{falls-on}
 use Rattle.lost.proofs.Losing.{up-lost, down-lost}
-use Rattle.lost.proofs.Reached.{lossy-reached, lossy-goes-on}
+use Rattle.lost.proofs.Reached.{lossy-reached, timed-goes-on}
 
 -- Every settings that are made are those that were given, whatever is made of them.
 settings-given : (P : Checked → Type 0) (limit resends : ℕ) → P Che.Refused → P (Che.Made (record { limit = limit; resends = resends })) → P (settingsOf limit resends)
@@ -180,7 +180,7 @@ module _ (x : Given) where
 
     promised : MadeGood (x .file) (x .memory) (x .release) (x .identity) (x .up) (x .down) (x .outdoor .limit) (x .outdoor .resends) (x .indoor .limit) (x .indoor .resends)
     promised = record {
-      goesOn = λ ms l h. lossy-goes-on (x .file) (x .memory) (x .release) (x .identity) (x .up) (x .down) (x .outdoor .limit) (x .outdoor .resends) (x .indoor .limit) (x .indoor .resends) ms l h;
+      goesOn = λ ms l _. timed-goes-on (x .file) (x .memory) (x .release) (x .identity) (x .up) (x .down) l;
       neverFails = λ ms l h reason e. let low = unfailed (on-station h) in let failed = ap order e in omega arith;
       doneInTime = λ ms l h late.
           let e = done ms late (on-station h) in

@@ -1,5 +1,5 @@
 -- A line that loses one message is one of the lines of demand 3: what is on its way was sent.
-use Prim.Native.Nat.{ℕ, suc, _≤_, _<_}
+use Prim.Native.Nat.{ℕ, _≤_, _<_}
 use mathlib.Core.Bool.{Bool, true, false}
 use mathlib.Core.Logic.{_⊎_, inl, inr}
 use mathlib.Core.Path.{_≡_, refl, sym, subst}
@@ -55,7 +55,7 @@ module _ (file memory : List ℕ) (release : Release) (identity : Identity) (up 
 
   goes-on : {l then : Timed} → OnLine l → Next file memory release identity up down l then → OnLine then
   goes-on {l = l} o (rises request age later e out room) =
-      let first = sent-first (l .world .requests) (l .up) later (going request age) e (o .rising) in
+      let first = sent-first (l .world .requests) (l .up) later _ e (o .rising) in
       let call = receiverRequestOf (l .world .receiver) (l .world .image) request 0 Ver.Good out in
       record {
         reached = toReceiver (o .reached) request (first .0) (l .world .image) (inl refl) 0 Ver.Good out;
@@ -63,7 +63,7 @@ module _ (file memory : List ℕ) (release : Release) (identity : Identity) (up 
         falling = sent-on (call .outcome .written) (call .out) (l .world .responses) (l .down) (o .falling);
       }
   goes-on {l = l} o (falls response age later e out room) =
-      let first = sent-first (l .world .responses) (l .down) later (going response age) e (o .falling) in
+      let first = sent-first (l .world .responses) (l .down) later _ e (o .falling) in
       let call = indoorResponseOf (l .world .indoor) file response out in
       record {
         reached = toIndoor (o .reached) response (first .0) file (inl refl) out;
@@ -98,20 +98,20 @@ module _ (file memory : List ℕ) (release : Release) (identity : Identity) (up 
       first (inl low) (inr _) = inr (g, on, refl)
       first (inr _) _ = inr (g, on, refl)
 
-  module _ (limit resends limit′ resends′ ms : ℕ) (l : Timed) (h : Lossy file memory release identity up down limit resends limit′ resends′ ms l) where
-    abbrev Goes : Type 0
-    Goes = ((then : Timed) × Next file memory release identity up down l then) ⊎ ((then : Timed) × Lossy file memory release identity up down limit resends limit′ resends′ (suc ms) then)
+  abbrev lent : List ℕ
+  lent = replicate 260 0
 
-    abbrev lent : List ℕ
-    lent = replicate 260 0
+  long : longest ≤ length lent
+  long = omega (arith, length-replicate {A = ℕ} 260 0)
 
-    long : longest ≤ length lent
-    long = omega (arith, length-replicate {A = ℕ} 260 0)
+  module _ (l : Timed) where
+    abbrev GoesOn : Type 0
+    GoesOn = ((then : Timed) × Next file memory release identity up down l then) ⊎ (Younger up (l .up) × Younger down (l .down))
 
-    either-on : Younger up (l .up) ⊎ ((g : Going) × (later : List Going) × (l .up ≡ g ∷ later)) → Younger down (l .down) ⊎ ((g : Going) × (later : List Going) × (l .down ≡ g ∷ later)) → Goes
+    either-on : Younger up (l .up) ⊎ ((g : Going) × (later : List Going) × (l .up ≡ g ∷ later)) → Younger down (l .down) ⊎ ((g : Going) × (later : List Going) × (l .down ≡ g ∷ later)) → GoesOn
     either-on (inr first) _ = inl (_, rises (first .0 .message) (first .0 .age) (first .1) (first .2) lent long)
     either-on (inl young) (inr first) = inl (_, falls (first .0 .message) (first .0 .age) (first .1) (first .2) lent long)
-    either-on (inl young) (inl young′) = inr (_, passes h young young′ lent lent long long)
+    either-on (inl young) (inl young′) = inr (young, young′)
 
-    pub lossy-goes-on : Goes
-    lossy-goes-on = either-on (waits-on up (l .up)) (waits-on down (l .down))
+    pub timed-goes-on : GoesOn
+    timed-goes-on = either-on (waits-on up (l .up)) (waits-on down (l .down))

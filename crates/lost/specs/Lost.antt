@@ -108,8 +108,8 @@ module _ (file memory : List ℕ) (release : Release) (identity : Identity) (up 
 
     -- What is promised of a newer file that fits.
     pub record MadeGood : Type 0 where
-      -- The line goes on: the oldest message arrives, or a millisecond passes.
-      pub goesOn : (ms : ℕ) (l : Timed) → Lossy ms l → ((then : Timed) × Next l then) ⊎ ((then : Timed) × Lossy (suc ms) then)
+      -- The line goes on: the oldest message can arrive, or a millisecond can pass, since none has been on its way for too long.
+      pub goesOn : (ms : ℕ) (l : Timed) → Lossy ms l → ((then : Timed) × Next l then) ⊎ (Younger up (l .up) × Younger down (l .down))
       -- The indoor end does not fail, and after a round trip for each request and one silence limit it is done, and the receiver holds the file.
       pub neverFails : (ms : ℕ) (l : Timed) → Lossy ms l → (reason : Reason) → l .world .indoor .state .phase ≡ Failed reason → ⊥
       pub doneInTime : (ms : ℕ) (l : Timed) → Lossy ms l → (n + 4) * (up + down) + limit′ < ms

@@ -1,4 +1,4 @@
--- What a start makes, and every event leaves (01, The mailbox): `event-formed` and `event-sizes` in proofs/WellFormed.antt.
+-- What a start makes, and every event leaves (01, The mailbox): `event-formed` in proofs/WellFormed.antt, `event-sizes` in proofs/Sizes.antt.
 use Prim.Native.Nat.{ℕ, _≤_}
 use mathlib.Core.Bool.{true, false}
 use mathlib.Core.Path.{_≡_}

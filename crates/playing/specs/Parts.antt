@@ -15,32 +15,32 @@ use Rattle.playing.specs.declared.part.Stop.{Stop}
 use Rattle.playing.specs.declared.part.Stop.the-variants.{Ended, Full}
 
 -- Between two parts: the bytes that are not played yet, why they are not, and the lines so far.
-pub record Reached : Type 0 where
+pub record ReplayState : Type 0 where
   pub mailbox : Mailbox
   pub held : List ℕ
   pub stop : Stop
   pub text : List ℕ
 
-abbrev pub reached : Mailbox → List ℕ → Stop → List ℕ → Reached
-reached mailbox held stop text = record { mailbox = mailbox; held = held; stop = stop; text = text }
+abbrev pub replayState : Mailbox → List ℕ → Stop → List ℕ → ReplayState
+replayState mailbox held stop text = record { mailbox = mailbox; held = held; stop = stop; text = text }
 
 -- Before the first part nothing waits, and a recording that ends here is whole.
-abbrev pub reachedFirst : Mailbox → Reached
-reachedFirst m = reached m [] (Ended Whole) []
+abbrev pub replayBegins : Mailbox → ReplayState
+replayBegins m = replayState m [] (Ended Whole) []
 
 -- With room for the longest line to every byte, no record waits for room.
 abbrev pub roomyOf : Mailbox → List ℕ → Plays
 roomyOf m part = partOf m (lineLongest * length part) (apartOf part)
 
 -- What is played of the bytes that are there, and behind it the rest of them.
-abbrev pub restedOf : List ℕ → List ℕ → Plays → Reached
-restedOf text bytes p = reached (p .mailbox) (drop (p .taken) bytes) (p .stop) (text ++ p .text)
+abbrev pub restedOf : List ℕ → List ℕ → Plays → ReplayState
+restedOf text bytes p = replayState (p .mailbox) (drop (p .taken) bytes) (p .stop) (text ++ p .text)
 
 -- One part more, behind the bytes that wait.
-unfoldable pub furtherOf : Reached → List ℕ → Reached
+unfoldable pub furtherOf : ReplayState → List ℕ → ReplayState
 furtherOf r part = restedOf (r .text) (r .held ++ part) (roomyOf (r .mailbox) (r .held ++ part))
 
-unfoldable pub partsOf : Reached → List (List ℕ) → Reached
+unfoldable pub partsOf : ReplayState → List (List ℕ) → ReplayState
 partsOf r [] = r
 partsOf r (part ∷ parts) = partsOf (furtherOf r part) parts
 
@@ -49,7 +49,7 @@ joined [] = []
 joined (part ∷ parts) = part ++ joined parts
 
 -- The recording ends here.
-abbrev pub closedOf : Reached → Replayed
+abbrev pub closedOf : ReplayState → Replayed
 closedOf r = replayed (r .text ++ endingText (r .stop)) (r .mailbox)
 
 abbrev pub unknownKind : Ending → Bool
@@ -62,16 +62,16 @@ unknownOf (Ended ending) = unknownKind ending
 unknownOf Full = false
 
 -- A part that was read: one of no bytes is the recording's end.
-abbrev pub readOf : Reached → List ℕ → Reached
+abbrev pub readOf : ReplayState → List ℕ → ReplayState
 readOf r [] = r
 readOf r (byte ∷ bytes) = furtherOf r (byte ∷ bytes)
 
 -- Whether nothing is read after it: at the recording's end, and behind an unknown kind.
-abbrev pub lastOf : Reached → List ℕ → Bool
+abbrev pub lastOf : ReplayState → List ℕ → Bool
 lastOf r [] = true
 lastOf r (byte ∷ bytes) = unknownOf (furtherOf r (byte ∷ bytes) .stop)
 
-unfoldable pub readsOf : Reached → List (List ℕ) → Reached
+unfoldable pub readsOf : ReplayState → List (List ℕ) → ReplayState
 readsOf r [] = r
 readsOf r (part ∷ parts) = pick (lastOf r part) (readOf r part) (readsOf (readOf r part) parts)
 

@@ -14,7 +14,7 @@ use mir.Syntax.{w64}
 use mir.Val.{SFits, toZ, ofZ}
 use Rattle.io.specs.Counts.{clamped}
 use Rattle.basis.specs.Lists.{tail-all}
-use Rattle.playing.specs.Parts.{reached}
+use Rattle.playing.specs.Parts.{replayState}
 use Rattle.replay.specs.declared.course.Course.the-variants.{Over}
 use Rattle.replay.specs.declared.course.End.the-variants.{Closed, ReadFailed, WriteFailed}
 use Rattle.replay.specs.declared.progress.Progress.{Progress}
@@ -74,7 +74,7 @@ module _ (got : ℤ) (fits : SFits w64 got) where
 pub turned : (got : ℤ) (self : Progress) (before read out : List ℕ) (x : Progress) (buffer lines : List ℕ) → take (self .held) read ≡ take (self .held) before
     → Came got self read out x buffer lines → Turned (turnFrom self before) out x buffer lines
 turned got self before read out x buffer lines kept c =
-    subst (λ (held : List ℕ). Turned (reached (self .mailbox) held (self .stop) []) out x buffer lines) kept (by got (c .owes))
+    subst (λ (held : List ℕ). Turned (replayState (self .mailbox) held (self .stop) []) out x buffer lines) kept (by got (c .owes))
   where
     by : (z : ℤ) → ByRead z (Goes (turnFrom self read) (comeOf z (self .held) read) out x buffer lines) (x .course ≡ Over ReadFailed) → Turned (turnFrom self read) out x buffer lines
     by (pos n) c = record { come = comeOf (pos n) (self .held) read; goes = inr c }

@@ -16,7 +16,7 @@ use Rattle.printing.proofs.Texts.{line-holds}
 use Rattle.printing.specs.declared.text.Line.{Line}
 use Rattle.recording.specs.Apart.{apartOf}
 use Rattle.playing.specs.Part.{Plays, partOf, leadsOf, playOf, endingText, closingOf}
-use Rattle.playing.specs.Parts.{Reached, reached, roomyOf, restedOf, furtherOf, unknownOf, readOf, lastOf}
+use Rattle.playing.specs.Parts.{ReplayState, replayState, roomyOf, restedOf, furtherOf, unknownOf, readOf, lastOf}
 use Rattle.playing.proofs.PartLaws.{play-mailbox, play-taken, play-stop, play-writes, play-within}
 use Rattle.playing.proofs.Roomy.{part-roomy}
 use Rattle.playing.proofs.Parts.{further-few}
@@ -27,7 +27,7 @@ use Rattle.replay.specs.declared.course.Course.the-variants.{Runs, Over}
 use Rattle.replay.specs.declared.course.End.{End}
 use Rattle.replay.specs.declared.course.End.the-variants.{Closed, WriteFailed}
 use Rattle.replay.specs.declared.progress.Progress.{Progress}
-use Rattle.replay.specs.Turns.{runsOf, heldMost, reachedAt, turnFrom, overOf, courseOf, Took, Goes}
+use Rattle.replay.specs.Turns.{runsOf, heldMost, replayStateAt, turnFrom, overOf, courseOf, Took, Goes}
 
 -- What is behind the first t of the first f elements.
 drop-of-take : (t f : ℕ) (l : List ℕ) → drop t (take f l) ≡ take (f - t) (drop t l)
@@ -50,7 +50,7 @@ closed-stops self x (inl e) = over-stops (x .course) WriteFailed (ap (λ (p : Pr
 closed-stops self x (inr e) = over-stops (x .course) (Closed (self .stop)) (ap (λ (p : Progress). p .course) e)
 
 -- Where something has come, it is played.
-some-read : (r : Reached) (come : List ℕ) → 0 < length come → (readOf r come ≡ furtherOf r come) × (lastOf r come ≡ unknownOf (furtherOf r come .stop))
+some-read : (r : ReplayState) (come : List ℕ) → 0 < length come → (readOf r come ≡ furtherOf r come) × (lastOf r come ≡ unknownOf (furtherOf r come .stop))
 some-read r [] h = absurd (omega arith)
 some-read r (byte ∷ bytes) h = (refl, refl)
 
@@ -69,7 +69,7 @@ module _ (self : Progress) (before out : List ℕ) (fresh : ℕ) (some : 0 < fre
   abbrev come : List ℕ
   come = take fresh (drop (self .held) before)
 
-  abbrev from : Reached
+  abbrev from : ReplayState
   from = turnFrom self before
 
   part-long : length part ≡ self .held + fresh
@@ -98,7 +98,7 @@ module _ (self : Progress) (before out : List ℕ) (fresh : ℕ) (some : 0 < fre
   lines-lead = ap (λ (x : Left Played). x .memory) e ∙ ap (λ (p : Plays). writtenInto (p .text) out) is-roomy
 
   -- The definition's step on what has come, as the program has it.
-  stepped : readOf from come ≡ reached (r .mailbox) (drop (r .taken) part) (r .stop) (roomyOf (self .mailbox) part .text)
+  stepped : readOf from come ≡ replayState (r .mailbox) (drop (r .taken) part) (r .stop) (roomyOf (self .mailbox) part .text)
   unfolding furtherOf
   stepped =
       some-read from come come-some .0
@@ -110,13 +110,13 @@ module _ (self : Progress) (before out : List ℕ) (fresh : ℕ) (some : 0 < fre
       ))
 
   is-last : lastOf from come ≡ unknownOf (r .stop)
-  is-last = some-read from come come-some .1 ∙ ap (λ (x : Reached). unknownOf (x .stop)) (sym (some-read from come come-some .0) ∙ stepped)
+  is-last = some-read from come come-some .1 ∙ ap (λ (x : ReplayState). unknownOf (x .stop)) (sym (some-read from come come-some .0) ∙ stepped)
 
   pub held-few : unknownOf (r .stop) ≡ false → self .held + fresh - r .taken ≤ heldMost
   held-few u =
       let l = part-long in
       let d = length-drop (r .taken) part in
-      let same : furtherOf from come .held ≡ drop (r .taken) part = ap (λ (x : Reached). x .held) (sym (some-read from come come-some .0) ∙ stepped) in
+      let same : furtherOf from come .held ≡ drop (r .taken) part = ap (λ (x : ReplayState). x .held) (sym (some-read from come come-some .0) ∙ stepped) in
       let few = further-few from come (sym (some-read from come come-some .1) ∙ is-last ∙ u) in
       let size = ap length same in
       omega (arith, few, size, d, l)
@@ -136,8 +136,8 @@ module _ (self : Progress) (before out : List ℕ) (fresh : ℕ) (some : 0 < fre
     took course c =
         record {
           course = c;
-          state = subst (λ (x : Reached). reachedAt (next course) after (x .text) ≡ x) (sym stepped) (ap (λ (held : List ℕ). reached (r .mailbox) held (r .stop) (roomyOf (self .mailbox) part .text)) front);
-          led = lines-lead ∙ ap (λ (x : Reached). writtenInto (x .text) out) (sym stepped);
+          state = subst (λ (x : ReplayState). replayStateAt (next course) after (x .text) ≡ x) (sym stepped) (ap (λ (held : List ℕ). replayState (r .mailbox) held (r .stop) (roomyOf (self .mailbox) part .text)) front);
+          led = lines-lead ∙ ap (λ (x : ReplayState). writtenInto (x .text) out) (sym stepped);
         }
 
     pub goes-on : unknownOf (r .stop) ≡ false → Goes from come out (next Runs) after now
@@ -147,7 +147,7 @@ module _ (self : Progress) (before out : List ℕ) (fresh : ℕ) (some : 0 < fre
     closes x u (inl f) = inl (ap (λ (p : Progress). p .course) f)
     closes x u (inr f) =
         inr (subst (λ (p : Progress). Took from come out p after now) (sym f)
-        (took (Over (Closed (r .stop))) (sym (pick-yes _ _ _ (is-last ∙ u) ∙ ap (λ (y : Reached). Over (Closed (y .stop))) stepped))))
+        (took (Over (Closed (r .stop))) (sym (pick-yes _ _ _ (is-last ∙ u) ∙ ap (λ (y : ReplayState). Over (Closed (y .stop))) stepped))))
 
     pub goes-no-further : (x : Progress) → unknownOf (r .stop) ≡ true → (x ≡ overOf (next Runs) WriteFailed) ⊎ (x ≡ overOf (next Runs) (Closed (r .stop)))
         → (x .course ≡ Runs → x .held ≤ heldMost) × Goes from come out x after now

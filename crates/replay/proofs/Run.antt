@@ -7,20 +7,20 @@ use mathlib.Core.Path.{_≡_, refl, sym, _∙_, ap, subst}
 use native.Mathlib.Omega.{arith}
 use Rattle.basis.specs.Pick.{pick-yes, pick-all}
 use Rattle.playing.specs.Replay.{begun}
-use Rattle.playing.specs.Parts.{Reached, reached, reachedFirst, furtherOf, partsOf, unknownOf}
+use Rattle.playing.specs.Parts.{ReplayState, replayState, replayBegins, furtherOf, partsOf, unknownOf}
 use Rattle.playing.proofs.Parts.{parts-one-more}
 use Rattle.replay.specs.declared.course.Course.{Course}
 use Rattle.replay.specs.declared.course.Course.the-variants.{Runs, Over}
 use Rattle.replay.specs.declared.course.End.{End}
 use Rattle.replay.specs.declared.course.End.the-variants.{Closed, ReadFailed, WriteFailed}
 use Rattle.replay.specs.declared.progress.Progress.{Progress}
-use Rattle.replay.specs.Turns.{runsOf, endOf, begins, heldMost, reachedAt, turnFrom, Took, Turned, EndsAs, Ran}
+use Rattle.replay.specs.Turns.{runsOf, endOf, begins, heldMost, replayStateAt, turnFrom, Took, Turned, EndsAs, Ran}
 use Rattle.replay.proofs.Carry.{over-stops}
 
-abbrev played : List (List ℕ) → Reached
-played reads = partsOf (reachedFirst begun) reads
+abbrev played : List (List ℕ) → ReplayState
+played reads = partsOf (replayBegins begun) reads
 
-abbrev OverAs : Course → Reached → Type 0
+abbrev OverAs : Course → ReplayState → Type 0
 OverAs Runs r = Unit
 OverAs (Over end) r = EndsAs end r
 
@@ -31,7 +31,7 @@ is-running (Over end) e = absurd (true≢false (sym e))
 -- While it runs, the program is where the definition is.
 pub record Going (progress : Progress) (buffer : List ℕ) : Type 0 where
   pub reads : List (List ℕ)
-  pub at : progress .course ≡ Runs → reachedAt progress buffer (played reads .text) ≡ played reads
+  pub at : progress .course ≡ Runs → replayStateAt progress buffer (played reads .text) ≡ played reads
   pub few : progress .course ≡ Runs → progress .held ≤ heldMost
   pub over : OverAs (progress .course) (played reads)
 
@@ -50,29 +50,29 @@ stopped x buffer end reads e ends =
     }
 
 -- Lines that stand before those of a part.
-further-behind : (r : Reached) (come : List ℕ)
-    → furtherOf r come ≡ reached (furtherOf (reached (r .mailbox) (r .held) (r .stop) []) come .mailbox) (furtherOf (reached (r .mailbox) (r .held) (r .stop) []) come .held) (furtherOf (reached (r .mailbox) (r .held) (r .stop) []) come .stop) (r .text ++ furtherOf (reached (r .mailbox) (r .held) (r .stop) []) come .text)
+further-behind : (r : ReplayState) (come : List ℕ)
+    → furtherOf r come ≡ replayState (furtherOf (replayState (r .mailbox) (r .held) (r .stop) []) come .mailbox) (furtherOf (replayState (r .mailbox) (r .held) (r .stop) []) come .held) (furtherOf (replayState (r .mailbox) (r .held) (r .stop) []) come .stop) (r .text ++ furtherOf (replayState (r .mailbox) (r .held) (r .stop) []) come .text)
 unfolding furtherOf
 further-behind r come = refl
 
 module _ (p : Progress) (buffer out : List ℕ) (x : Progress) (after lines : List ℕ) (going : Going p buffer) (runs : p .course ≡ Runs)
     (few : x .course ≡ Runs → x .held ≤ heldMost) where
   took-on : (come : List ℕ) → Took (turnFrom p buffer) come out x after lines → Going x after
-  took-on [] took = stopped x after (Closed (p .stop)) (going .reads) (took .course ∙ pick-yes _ _ _ refl) (ap (λ (r : Reached). r .stop) (going .at runs))
+  took-on [] took = stopped x after (Closed (p .stop)) (going .reads) (took .course ∙ pick-yes _ _ _ refl) (ap (λ (r : ReplayState). r .stop) (going .at runs))
   took-on (byte ∷ bytes) took =
       let come = byte ∷ bytes in
       let text = played (going .reads) .text in
       let step = furtherOf (turnFrom p buffer) come in
-      let all = reached (step .mailbox) (step .held) (step .stop) (text ++ step .text) in
+      let all = replayState (step .mailbox) (step .held) (step .stop) (text ++ step .text) in
       let reads = going .reads ++ come ∷ [] in
-      let is : played reads ≡ all = parts-one-more (reachedFirst begun) (going .reads) come ∙ ap (λ (r : Reached). furtherOf r come) (sym (going .at runs)) ∙ further-behind (reachedAt p buffer text) come in
+      let is : played reads ≡ all = parts-one-more (replayBegins begun) (going .reads) come ∙ ap (λ (r : ReplayState). furtherOf r come) (sym (going .at runs)) ∙ further-behind (replayStateAt p buffer text) come in
       record {
         reads = reads;
-        at = λ _. subst (λ (r : Reached). reachedAt x after (r .text) ≡ r) (sym is) (ap (λ (r : Reached). reached (r .mailbox) (r .held) (r .stop) (text ++ step .text)) (took .state));
+        at = λ _. subst (λ (r : ReplayState). replayStateAt x after (r .text) ≡ r) (sym is) (ap (λ (r : ReplayState). replayState (r .mailbox) (r .held) (r .stop) (text ++ step .text)) (took .state));
         few = few;
         over = subst (λ (course : Course). OverAs course (played reads)) (sym (took .course))
             (pick-all (λ (course : Course). OverAs course (played reads)) (unknownOf (step .stop)) (Over (Closed (step .stop))) Runs
-            (λ _. ap (λ (r : Reached). r .stop) (sym is)) (λ _. tt));
+            (λ _. ap (λ (r : ReplayState). r .stop) (sym is)) (λ _. tt));
       }
 
   pub going-on : Turned (turnFrom p buffer) out x after lines → Going x after

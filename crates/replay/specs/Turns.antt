@@ -11,7 +11,7 @@ use Rattle.basis.specs.Pick.{pick}
 use Rattle.lent.specs.Written.{writtenInto}
 use Rattle.recording.specs.declared.reader.Ending.the-variants.{Whole}
 use Rattle.playing.specs.Replay.{begun}
-use Rattle.playing.specs.Parts.{Reached, reached, reachedFirst, partsOf, readOf, lastOf}
+use Rattle.playing.specs.Parts.{ReplayState, replayState, replayBegins, partsOf, readOf, lastOf}
 use Rattle.playing.specs.declared.part.Stop.the-variants.{Ended}
 use Rattle.replay.specs.declared.course.Course.{Course}
 use Rattle.replay.specs.declared.course.Course.the-variants.{Runs, Over}
@@ -40,24 +40,24 @@ abbrev pub heldMost : ℕ
 heldMost = 8
 
 -- Where the program is, with these lines: the bytes that wait are at the buffer's front.
-abbrev pub reachedAt : Progress → List ℕ → List ℕ → Reached
-reachedAt p buffer text = reached (p .mailbox) (take (p .held) buffer) (p .stop) text
+abbrev pub replayStateAt : Progress → List ℕ → List ℕ → ReplayState
+replayStateAt p buffer text = replayState (p .mailbox) (take (p .held) buffer) (p .stop) text
 
 -- A turn begins with no lines, so that those behind it are its own.
-abbrev pub turnFrom : Progress → List ℕ → Reached
-turnFrom p buffer = reachedAt p buffer []
+abbrev pub turnFrom : Progress → List ℕ → ReplayState
+turnFrom p buffer = replayStateAt p buffer []
 
-abbrev pub courseOf : Reached → List ℕ → Course
+abbrev pub courseOf : ReplayState → List ℕ → Course
 courseOf r come = pick (lastOf r come) (Over (Closed (readOf r come .stop))) Runs
 
 -- The bytes that have come are played behind those that waited, and what is left of both waits. The lines lead the output.
-pub record Took (before : Reached) (come out : List ℕ) (progress : Progress) (buffer lines : List ℕ) : Type 0 where
+pub record Took (before : ReplayState) (come out : List ℕ) (progress : Progress) (buffer lines : List ℕ) : Type 0 where
   pub course : progress .course ≡ courseOf before come
-  pub state : reachedAt progress buffer (readOf before come .text) ≡ readOf before come
+  pub state : replayStateAt progress buffer (readOf before come .text) ≡ readOf before come
   pub led : lines ≡ writtenInto (readOf before come .text) out
 
 -- So it is unless a write has failed.
-abbrev pub Goes : Reached → List ℕ → List ℕ → Progress → List ℕ → List ℕ → Type 0
+abbrev pub Goes : ReplayState → List ℕ → List ℕ → Progress → List ℕ → List ℕ → Type 0
 Goes before come out progress buffer lines = (progress .course ≡ Over WriteFailed) ⊎ Took before come out progress buffer lines
 
 -- What a read has put behind the bytes that wait, by the number that it returned.
@@ -73,12 +73,12 @@ pub record Came (got : ℤ) (self : Progress) (before out : List ℕ) (progress 
   pub owes : ByRead got (Goes (turnFrom self before) (comeOf got (self .held) before) out progress buffer lines) (progress .course ≡ Over ReadFailed)
 
 -- A whole turn, whatever its read has brought.
-pub record Turned (before : Reached) (out : List ℕ) (progress : Progress) (buffer lines : List ℕ) : Type 0 where
+pub record Turned (before : ReplayState) (out : List ℕ) (progress : Progress) (buffer lines : List ℕ) : Type 0 where
   pub come : List ℕ
   pub goes : (progress .course ≡ Over ReadFailed) ⊎ Goes before come out progress buffer lines
 
 -- Closed is said of the stop that all reads together have come to.
-abbrev pub EndsAs : End → Reached → Type 0
+abbrev pub EndsAs : End → ReplayState → Type 0
 EndsAs (Closed stop) r = stop ≡ r .stop
 EndsAs ReadFailed r = Unit
 EndsAs WriteFailed r = Unit
@@ -87,4 +87,4 @@ EndsAs TooManyReads r = Unit
 -- A whole run, whatever its reads have brought.
 pub record Ran (end : End) : Type 0 where
   pub reads : List (List ℕ)
-  pub ended : EndsAs end (partsOf (reachedFirst begun) reads)
+  pub ended : EndsAs end (partsOf (replayBegins begun) reads)
