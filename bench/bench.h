@@ -14,7 +14,8 @@
 /* Memory is as the source says at this place, so that no loop is folded away. */
 #define BENCH_BARRIER() __asm__ volatile("" ::: "memory")
 
-/* What a call answers: its number, and how many bytes it has written (for the sum, the sum). */
+/* What a call answers: its number, and how many bytes it has written, or the one number that it puts
+ * out (the sum, CCI, the place of the next record). */
 typedef struct bench_answer {
     int number;
     size_t value;
@@ -44,6 +45,7 @@ void bench_taken(int number);
 extern const bench_row bench_receiver_rows[];
 extern const bench_row bench_indoor_rows[];
 extern const bench_row bench_mailbox_rows[];
+extern const bench_row bench_recording_rows[];
 
 /* Runs on a stack of its own, which lies at the same place in every run. */
 void bench_on_stack(void (*run)(void));

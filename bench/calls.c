@@ -88,7 +88,8 @@ static int print_sizes(void)
 
 static const bench_row *row_named(const char *name)
 {
-    const bench_row *const parts[] = {bench_receiver_rows, bench_indoor_rows, bench_mailbox_rows};
+    const bench_row *const parts[] = {bench_receiver_rows, bench_indoor_rows, bench_mailbox_rows,
+                                      bench_recording_rows};
     size_t i;
 
     for (i = 0; i < sizeof parts / sizeof parts[0]; i++) {

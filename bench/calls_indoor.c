@@ -25,8 +25,8 @@ static void library_response(int call)
     BENCH_BARRIER();
     if (call) {
         bench_answered.number =
-            harsolvek_indoor_response_at(&library, file, sizeof file, response, response_length,
-                                         bench_out, sizeof bench_out, &bench_answered.value);
+            harsolvek_indoor_response(&library, file, sizeof file, response, response_length,
+                                      bench_out, sizeof bench_out, &bench_answered.value);
     }
 }
 
@@ -46,8 +46,8 @@ static void library_time(int call)
     library = library_saved;
     BENCH_BARRIER();
     if (call) {
-        bench_answered.number = harsolvek_indoor_time_at(&library, file, sizeof file, 10, bench_out,
-                                                         sizeof bench_out, &bench_answered.value);
+        bench_answered.number = harsolvek_indoor_time(&library, file, sizeof file, 10, bench_out,
+                                                      sizeof bench_out, &bench_answered.value);
     }
 }
 
@@ -72,18 +72,39 @@ static void take(void)
     second_saved = second;
 }
 
+static void library_start(int call)
+{
+    static const harsolvek_settings settings = {1000, 3};
+    static const harsolvek_release release = {0x1234, 0xABCD, {2, 0, 0, 0}};
+
+    BENCH_BARRIER();
+    if (call) {
+        bench_answered.number =
+            harsolvek_indoor_start(&library, &settings, &release, file, sizeof file, bench_out,
+                                   sizeof bench_out, &bench_answered.value);
+    }
+}
+
+static void second_start(int call)
+{
+    static const unsigned version[4] = {2, 0, 0, 0};
+
+    BENCH_BARRIER();
+    if (call) {
+        bench_answered.number =
+            second_indoor_start(&second, 1000, 3, 0x1234, 0xABCD, version, file, sizeof file,
+                                bench_out, sizeof bench_out, &bench_answered.value);
+    }
+}
+
 static void start(void)
 {
-    const harsolvek_settings settings = {1000, 3};
-    const harsolvek_release release = {0x1234, 0xABCD, {2, 0, 0, 0}};
-    const unsigned version[4] = {2, 0, 0, 0};
-    size_t written;
-
-    bench_taken(harsolvek_indoor_start_at(&library_saved, settings, release, file, sizeof file,
-                                          bench_out, sizeof bench_out, &written));
-    bench_taken(second_indoor_start(&second_saved, settings.limit, settings.resends, release.vendor,
-                                    release.product, version, file, sizeof file, bench_out,
-                                    sizeof bench_out, &written));
+    library_start(1);
+    bench_taken(bench_answered.number);
+    second_start(1);
+    bench_taken(bench_answered.number);
+    library_saved = library;
+    second_saved = second;
 }
 
 /* 001 T5-18, T5-20 and T5-22: an older version, room for the whole file, and the first block asked
@@ -124,4 +145,5 @@ const bench_row bench_indoor_rows[] = {
     {"response", ready_response, library_response, second_response, {0, 260}},
     {"response-late", ready_response_late, library_response, second_response, {0, 260}},
     {"indoor-time", enter_transfer, library_time, second_time, {0, 0}},
+    {"indoor-start", start, library_start, second_start, {0, 2}},
     {NULL, NULL, NULL, NULL, {0, 0}}};

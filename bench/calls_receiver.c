@@ -8,6 +8,9 @@
 /* 001 T5-3. */
 enum { GET_FW_ID = 0x81, INITIATE = 0x82, DATA = 0x83, VALIDATE = 0x85 };
 
+/* The words of a session that are set: what include/harsolvek.h reads as these. */
+enum { BLOCKS = 4, BYTES = 5, LAST_SHORT = 6 };
+
 /* The block that is due in Transfer, and the last whole one there is. */
 enum { DUE = 5, LATE = 4094 };
 
@@ -39,12 +42,14 @@ static void set_data(unsigned number, size_t length)
 
 static void library_request(int call)
 {
+    static const harsolvek_given given = {0, HARSOLVEK_VERDICT_GOOD, 0};
+
     library = library_saved;
     BENCH_BARRIER();
     if (call) {
-        bench_answered.number = harsolvek_receiver_request_at(
-            &library, image, sizeof image, request, request_length, 0, HARSOLVEK_VERDICT_GOOD, 0,
-            bench_out, sizeof bench_out, &bench_answered.value);
+        bench_answered.number =
+            harsolvek_receiver_request(&library, image, sizeof image, request, request_length,
+                                       &given, bench_out, sizeof bench_out, &bench_answered.value);
     }
 }
 
@@ -64,8 +69,8 @@ static void library_time(int call)
     library = library_saved;
     BENCH_BARRIER();
     if (call) {
-        bench_answered.number = harsolvek_receiver_time_at(&library, 10, bench_out,
-                                                           sizeof bench_out, &bench_answered.value);
+        bench_answered.number = harsolvek_receiver_time(&library, 10, bench_out, sizeof bench_out,
+                                                        &bench_answered.value);
     }
 }
 
@@ -84,10 +89,10 @@ static void library_sum(int call)
     library = library_saved;
     BENCH_BARRIER();
     if (call) {
-        harsolvek_sum summed = harsolvek_receiver_sum(library, image, sizeof image);
+        uint16_t sum;
 
-        bench_answered.number = summed.number;
-        bench_answered.value = summed.sum;
+        bench_answered.number = harsolvek_receiver_sum(&library, image, sizeof image, &sum);
+        bench_answered.value = sum;
     }
 }
 
@@ -114,17 +119,38 @@ static void take(void)
     second_saved = second;
 }
 
+static void library_start(int call)
+{
+    static const harsolvek_settings settings = {1000, 3};
+    static const harsolvek_identity identity = {
+        0x1234, 0xABCD, 1, 0x20, {0x0102, 0x0304, 0x0506, 0x0708}, 1, 0x0F, 0x03, 0x1F, 0x0F};
+
+    BENCH_BARRIER();
+    if (call) {
+        bench_answered.number =
+            harsolvek_receiver_start(&library, &settings, &identity, sizeof image);
+    }
+}
+
+static void second_start(int call)
+{
+    static const uint8_t identity[19] = {0x34, 0x12, 0xCD, 0xAB, 1, 0x20, 0x02, 0x01, 0x04, 0x03,
+                                         0x06, 0x05, 0x08, 0x07, 1, 0x0F, 0x03, 0x1F, 0x0F};
+
+    BENCH_BARRIER();
+    if (call) {
+        bench_answered.number = second_receiver_start(&second, 1000, 3, identity, sizeof image);
+    }
+}
+
 static void start(void)
 {
-    const harsolvek_settings settings = {1000, 3};
-    const harsolvek_identity identity = {
-        0x1234, 0xABCD, 1, 0x20, {0x0102, 0x0304, 0x0506, 0x0708}, 1, 0x0F, 0x03, 0x1F, 0x0F};
-    const uint8_t bytes[19] = {0x34, 0x12, 0xCD, 0xAB, 1, 0x20, 0x02, 0x01, 0x04, 0x03,
-                               0x06, 0x05, 0x08, 0x07, 1, 0x0F, 0x03, 0x1F, 0x0F};
-
-    bench_taken(harsolvek_receiver_start_at(&library_saved, settings, identity, sizeof image));
-    bench_taken(second_receiver_start(&second_saved, settings.limit, settings.resends, bytes,
-                                      sizeof image));
+    library_start(1);
+    bench_taken(bench_answered.number);
+    second_start(1);
+    bench_taken(bench_answered.number);
+    library_saved = library;
+    second_saved = second;
 }
 
 static void ready_get_fw_id(void)
@@ -161,8 +187,8 @@ static void ready_data(void)
 static void ready_data_late(void)
 {
     enter_transfer();
-    library_saved.accepted.blocks = LATE;
-    library_saved.accepted.bytes = LATE * HARSOLVEK_BLOCK_MOST;
+    library_saved.word[BLOCKS] = LATE;
+    library_saved.word[BYTES] = LATE * HARSOLVEK_BLOCK_MOST;
     second_saved.blocks = LATE;
     second_saved.bytes = LATE * HARSOLVEK_BLOCK_MOST;
     set_data(LATE, HARSOLVEK_BLOCK_MOST);
@@ -188,9 +214,9 @@ static void ready_sum(void)
     size_t i;
 
     enter_transfer();
-    library_saved.accepted.blocks = 4096;
-    library_saved.accepted.bytes = sizeof image;
-    library_saved.last_short = 1;
+    library_saved.word[BLOCKS] = 4096;
+    library_saved.word[BYTES] = sizeof image;
+    library_saved.word[LAST_SHORT] = 1;
     second_saved.blocks = 4096;
     second_saved.bytes = sizeof image;
     second_saved.last_short = 1;
@@ -208,4 +234,5 @@ const bench_row bench_receiver_rows[] = {
     {"initiate", ready_initiate, library_request, second_request, {0, 7}},
     {"receiver-time", enter_transfer, library_time, second_time, {0, 0}},
     {"sum", ready_sum, library_sum, second_sum, {0, SUM}},
+    {"receiver-start", start, library_start, second_start, {0, 0}},
     {NULL, NULL, NULL, NULL, {0, 0}}};

@@ -13,16 +13,21 @@ static const char *number_wrong(enum second_part part, unsigned number)
     return number == HARSOLVEK_SETTINGS ? "number, for the state is one" : NULL;
 }
 
-/* Numbers that are no state get 29 whatever the inputs are, and come back as they are. What other
- * damaged numbers lead to is the part's to judge. */
+/* Words that are no state get 29 whatever the inputs are, and stay as they are, as does all else
+ * that is lent. What other damaged words lead to is the part's to judge. */
 static int damaged_differs(compare_run *run, const compare_part *part)
 {
     unsigned number;
     run->alone = part->damage(&run->from);
     number = part->ask_library();
     run->damaged++;
-    run->what = run->alone ? number_wrong(part->part, number) : part->difference();
-    if (run->alone && run->what == NULL) {
+    if (!run->alone) {
+        part->ask_second();
+        run->what = part->difference();
+        return run->what != NULL;
+    }
+    run->what = number_wrong(part->part, number);
+    if (run->what == NULL) {
         run->what = part->wrong();
     }
     return run->what != NULL;
@@ -39,7 +44,7 @@ static int both_differ(compare_run *run, const compare_part *part, unsigned *num
     return run->what != NULL;
 }
 
-/* A refused start makes nothing: the library hands out zeros, and the states before it are kept. */
+/* A refused start makes nothing: it leaves zeros, and calls go on with the states before it. */
 static int start_differs(compare_run *run, const compare_part *part)
 {
     unsigned number;
@@ -61,7 +66,7 @@ static int step_differs(compare_run *run, const compare_part *part)
         return start_differs(run, part);
     }
     part->draw_call(run);
-    if (choice_one_in(&run->from, 16)) {
+    if (part->damage != NULL && choice_one_in(&run->from, 16)) {
         return damaged_differs(run, part);
     }
     if (both_differ(run, part, &number)) {

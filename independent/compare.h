@@ -1,7 +1,7 @@
 /*
  * The comparison of any part: one call after another is made on the library and on the second
  * implementation, with the same inputs, and after each call everything is compared. Now and then
- * the library alone is called, on a copy of its state in which something is damaged. The calls of a
+ * the state is damaged before: where it still is one, the library alone is called. The calls of a
  * part, and what is compared after each, are in its driver, a struct of functions.
  */
 #ifndef COMPARE_H
@@ -21,14 +21,14 @@ typedef struct compare_run {
     unsigned long most;    /* of `made` */
     coverage met;          /* by the calls that both get */
     unsigned long made;    /* calls that both get */
-    unsigned long damaged; /* calls on damaged states, which the library alone gets */
+    unsigned long damaged; /* calls on damaged states */
     int stands;            /* there are states to make calls on */
     const char *what;      /* what differs in the last call, or null */
     int alone;             /* it was made on the library alone, on a damaged state that is one */
 } compare_run;
 
-/* A driver. It holds the states, the call that is drawn and its answers. A call is made on copies
- * of the states, which become the states once both have answered alike. */
+/* A driver. It holds the state, the call that is drawn and its answers. A call is made on copies of
+ * the state, which become the state once both have answered alike. */
 typedef struct compare_part {
     enum second_part part;
     void (*begin)(void);       /* lays out what is lent; there are no states */
@@ -36,11 +36,11 @@ typedef struct compare_part {
     void (*draw_start)(compare_run *run);
     void (*draw_call)(compare_run *run);
 
-    /* Damages the library's copy, and makes 29 the second one's answer. Answers whether the copy
-     * still is a state. */
+    /* Damages both copies alike, and answers whether they still are a state. Null if the part has no
+     * state. */
     int (*damage)(choice *from);
 
-    unsigned (*ask_library)(void); /* answers its number */
+    unsigned (*ask_library)(void); /* answers its number, 256 for one above 255 */
     void (*ask_second)(void);
     const char *(*difference)(void); /* between the answers; null for none */
     const char *(*wrong)(void);      /* about the library's, on a damaged state that still is one */

@@ -17,8 +17,11 @@ static const uint8_t receiver_numbers[] = {0, 20, 21, 22, 23, 24, 25, 26, 27, 28
 static const uint8_t indoor_numbers[] = {0, 20, 21, 27, 28, 29, 40, 41, 42, 43, 44, 45, 46};
 static const uint8_t mailbox_numbers[] = {0, 1, 2, 3, 4, 5, 6, 7, 8, 9, 29};
 
-/* In the order of enum second_part; rows in the order of the phases, or of the mailbox's
- * status. */
+/* The header's: what a read finds, 0 to 3, and the numbers of the others. */
+static const uint8_t recording_numbers[] = {0, 1, 2, 3, 20, 27};
+
+/* In the order of enum second_part; rows in the order of the phases, of the mailbox's status, or of
+ * the kinds of records. */
 static const struct table tables[] = {
     {"receiver",
      {"Idle", "Transfer", "Await", "Good", NULL},
@@ -40,6 +43,12 @@ static const struct table tables[] = {
       "success", "failure", "change", NULL},
      mailbox_numbers,
      sizeof mailbox_numbers,
+     0},
+    {"recording",
+     {"CONTROL", "change", "success", "failure", "unknown", NULL},
+     {"read", "written", NULL},
+     recording_numbers,
+     sizeof recording_numbers,
      0},
 };
 
@@ -136,7 +145,7 @@ static void print_row(const struct table *table, const coverage *met, size_t row
 static unsigned print_pairs(const struct table *table, const coverage *met)
 {
     unsigned lacking = 0;
-    printf("%s: how often each call was judged in each phase\n  %-12s", table->name, "");
+    printf("%s: how often each call was judged in each phase or kind\n  %-12s", table->name, "");
     for (size_t column = 0; table->columns[column] != NULL; column++) {
         if (table->columns[column][0] != '\0') {
             printf(" %8s", table->columns[column]);

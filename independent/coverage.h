@@ -1,6 +1,6 @@
 /*
- * What a run has met: each number of document 01 that a part can answer, and each pair of a phase
- * and a kind of call. A run that compared a million calls of one kind would say little.
+ * What a run has met: each number that a part can answer, and each pair of a phase, or of a kind of
+ * record, and a kind of call. A run that compared a million calls of one kind would say little.
  */
 #ifndef COVERAGE_H
 #define COVERAGE_H
@@ -40,6 +40,9 @@ enum coverage_mailbox {
     COVERAGE_CHANGE
 };
 
+/* The columns of the records: what is done with one. */
+enum coverage_recording { COVERAGE_READ, COVERAGE_WRITTEN };
+
 #define COVERAGE_ROWS    8
 #define COVERAGE_COLUMNS 12
 
@@ -64,7 +67,7 @@ void coverage_block(coverage *met, unsigned number);
 /* The column of a message whose type is known to its reader. */
 enum coverage_cable coverage_type(uint8_t type);
 
-/* Whether a part can answer the number (01, Numbers we answer). */
+/* Whether a part can answer the number. */
 int coverage_knows(enum second_part part, unsigned number);
 
 /* Prints what was met in so many calls, and each thing that was not. Answers how many were not. */

@@ -4,20 +4,24 @@
 
 enum { NOISE_PLACES = 65536 };
 
+uint32_t draw_cut(choice *from, uint32_t good, unsigned bits)
+{
+    const uint32_t above[] = {1, 2, 256, UINT32_MAX >> bits};
+    return good + (CHOICE_OF(from, above) << bits);
+}
+
 harsolvek_settings draw_settings(choice *from)
 {
-    static const uint32_t wrong_limits[] = {0, 10001, 65535};
-    static const uint32_t wrong_resends[] = {11, 255};
     const uint32_t limits[] = {10000, 1, 2, 1 + choice_below(from, 10000),
                                1 + choice_below(from, 10000)};
     harsolvek_settings settings;
-    settings.limit = (uint16_t)CHOICE_OF(from, limits);
-    settings.resends = (uint8_t)choice_below(from, 11);
-    if (choice_one_in(from, 32)) {
-        settings.limit = (uint16_t)CHOICE_OF(from, wrong_limits);
+    settings.limit = CHOICE_OF(from, limits);
+    settings.resends = choice_below(from, 11);
+    if (choice_one_in(from, 16)) {
+        settings.limit = draw_wrong_limit(from);
     }
-    if (choice_one_in(from, 32)) {
-        settings.resends = (uint8_t)CHOICE_OF(from, wrong_resends);
+    if (choice_one_in(from, 16)) {
+        settings.resends = draw_wrong_resends(from);
     }
     return settings;
 }
@@ -36,8 +40,9 @@ size_t draw_out_length(choice *from)
 
 size_t draw_lent_length(choice *from, size_t length)
 {
-    const size_t wrong[] = {length > 0 ? length - 1 : 1, length + 1, 0};
-    return choice_one_in(from, 24) ? wrong[choice_below(from, 3)] : length;
+    const size_t wrong[] = {length > 0 ? length - 1 : 1, length + 1, 0,
+                            length + (size_t)UINT32_MAX + 1};
+    return choice_one_in(from, 24) ? wrong[choice_below(from, 4)] : length;
 }
 
 size_t draw_small_length(choice *from)
@@ -57,12 +62,17 @@ size_t draw_large_length(choice *from, size_t edge)
     return choice_one_in(from, 120) ? full[choice_below(from, 4)] : 0;
 }
 
-uint16_t draw_elapsed(choice *from, unsigned limit, unsigned left)
+uint32_t draw_elapsed(choice *from, unsigned limit, unsigned left)
 {
     const uint32_t small[] = {0, 1, left - 1, choice_below(from, left)};
     const uint32_t any[] = {
         left, left + 1, limit - 1, limit, limit + 1, 65535, choice_below(from, 65536)};
-    return (uint16_t)(choice_one_in(from, 2) ? CHOICE_OF(from, any) : CHOICE_OF(from, small));
+    const uint32_t wide[] = {65536, 65536 + choice_below(from, left), UINT32_MAX,
+                             UINT32_MAX - choice_below(from, 65536)};
+    if (choice_one_in(from, 16)) {
+        return CHOICE_OF(from, wide);
+    }
+    return choice_one_in(from, 2) ? CHOICE_OF(from, any) : CHOICE_OF(from, small);
 }
 
 uint8_t draw_wait(choice *from)
@@ -120,24 +130,49 @@ uint32_t draw_wrong(choice *from, uint32_t least, uint32_t most)
     return CHOICE_OF(from, numbers);
 }
 
-unsigned draw_damage(choice *from, unsigned kinds, void *state, size_t size)
+/* The least and the most numbers of 8, 16, 24 and 32 bits, and any other. */
+static uint32_t draw_border(choice *from)
+{
+    const uint32_t borders[] = {0,          1,          255,        256,
+                                65535,      65536,      0x00FFFFFF, 0x01000000,
+                                0x7FFFFFFF, 0x80000000, 0xFFFFFFFF, draw_word(from)};
+    return CHOICE_OF(from, borders);
+}
+
+unsigned draw_damage(choice *from, unsigned kinds, uint32_t *word, uint32_t words)
 {
     const unsigned kind = choice_below(from, kinds);
     if (kind == 0) {
-        memset(state, 0, size);
+        memset(word, 0, words * sizeof *word);
+    } else if (kind == 1) {
+        word[choice_below(from, words)] = draw_border(from);
+    } else if (kind == 2) {
+        word[choice_below(from, words)] ^= (uint32_t)1 << choice_below(from, 32);
+    } else if (kind == 3) {
+        draw_noise(from, (uint8_t *)word, words * sizeof *word);
     }
     return kind;
 }
 
-uint8_t draw_code(choice *from, unsigned count)
+uint32_t draw_code(choice *from, unsigned count)
 {
-    return (uint8_t)(choice_one_in(from, 2) ? choice_below(from, count)
-                                            : draw_wrong(from, count, 255));
+    const uint32_t good = choice_below(from, count);
+    const uint32_t wrong[] = {draw_wrong(from, count, UINT32_MAX), draw_cut(from, good, 8)};
+    return choice_one_in(from, 2) ? CHOICE_OF(from, wrong) : good;
 }
 
-uint16_t draw_wrong_limit(choice *from)
+uint32_t draw_wrong_limit(choice *from)
 {
-    return (uint16_t)(choice_one_in(from, 2) ? 0 : draw_wrong(from, 10001, 65535));
+    const uint32_t wrong[] = {0, draw_wrong(from, 10001, UINT32_MAX), 65535,
+                              draw_cut(from, 1 + choice_below(from, 10000), 16)};
+    return CHOICE_OF(from, wrong);
+}
+
+uint32_t draw_wrong_resends(choice *from)
+{
+    const uint32_t wrong[] = {11, 255, draw_wrong(from, 11, UINT32_MAX),
+                              draw_cut(from, choice_below(from, 11), 8)};
+    return CHOICE_OF(from, wrong);
 }
 
 unsigned draw_beside(choice *from, unsigned due)

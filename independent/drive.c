@@ -1,7 +1,7 @@
 /*
  * Compares the library with the second implementation.
  *
- *     drive PART CALLS [SEED]              PART is receiver, indoor, mailbox or all
+ *     drive PART CALLS [SEED]              PART is receiver, indoor, mailbox, recording or all
  *     drive PART CALLS [SEED] --fault N    with a fault in the second one, which must be found
  *     drive faults CALLS [SEED]            whether each fault is found, by the driver of its part
  *     drive list                           the faults
@@ -140,8 +140,8 @@ int main(int count, char **words)
                                                                      : all_chosen(words[1], &given);
     }
     if (result == 2) {
-        fprintf(stderr, "drive receiver|indoor|mailbox|all CALLS [SEED] [--fault N]; drive faults "
-                        "CALLS [SEED]; drive list\n");
+        fprintf(stderr, "drive receiver|indoor|mailbox|recording|all CALLS [SEED] [--fault N]; "
+                        "drive faults CALLS [SEED]; drive list\n");
     }
     return result;
 }

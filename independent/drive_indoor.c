@@ -13,43 +13,46 @@ enum {
     VENDOR_SPECIFIC = 0x7F
 };
 
-typedef struct states {
-    harsolvek_indoor library;
-    second_indoor second;
-} states;
-
-static uint8_t file_arenas[3 * LENT_SIZE(HARSOLVEK_IMAGE_MOST + 1)];
+LENT_ARENAS(uint8_t, file_arenas, HARSOLVEK_IMAGE_MOST + 1);
 
 static cable house;
 
 static struct {
-    states now;
-    states tried;          /* what the call is made on, and what it leaves */
-    second_indoor before;  /* the state before it, or what a start is given */
-    harsolvek_plan wanted; /* by a start: its settings and release */
+    second_indoor now;           /* the session that both have */
+    second_indoor before;        /* the state that the call is made on */
+    second_indoor next;          /* the second one's behind the call */
+    harsolvek_settings settings; /* of a start, as the next one */
+    harsolvek_release release;
 } session;
 
-/* The library's state with the second's fields, so that nothing is lost. */
-static second_indoor widened(const harsolvek_indoor *state)
+static harsolvek_indoor *library_state(void)
 {
-    second_indoor wide;
-    wide.limit = state->plan.settings.limit;
-    wide.most = state->plan.settings.resends;
-    wide.vendor = state->plan.release.vendor;
-    wide.product = state->plan.release.product;
-    wide.version[0] = state->plan.release.versions.first;
-    wide.version[1] = state->plan.release.versions.second;
-    wide.version[2] = state->plan.release.versions.third;
-    wide.version[3] = state->plan.release.versions.fourth;
-    wide.length = state->plan.length;
-    wide.phase = (enum second_indoor_phase)state->phase;
-    wide.asked = state->asked;
-    wide.emptied = state->emptied;
-    wide.wait = state->wait;
-    wide.reason = state->reason;
-    wide.silence = state->silence;
-    wide.resends = state->resends;
-    return wide;
+    return (harsolvek_indoor *)(void *)house.state.library;
+}
+
+/* The library's state as the header's functions say its fields. */
+static second_indoor said_state(const harsolvek_indoor *state)
+{
+    const harsolvek_settings settings = harsolvek_indoor_settings(state);
+    const harsolvek_release release = harsolvek_indoor_release(state);
+    second_indoor said;
+    said.limit = settings.limit;
+    said.most = settings.resends;
+    said.vendor = release.vendor;
+    said.product = release.product;
+    said.version[0] = release.versions.first;
+    said.version[1] = release.versions.second;
+    said.version[2] = release.versions.third;
+    said.version[3] = release.versions.fourth;
+    said.length = harsolvek_indoor_length(state);
+    said.phase = (enum second_indoor_phase)harsolvek_indoor_phase(state);
+    said.asked = harsolvek_indoor_asked(state);
+    said.emptied = (int)harsolvek_indoor_emptied(state);
+    said.wait = harsolvek_indoor_wait(state);
+    said.reason = (int)harsolvek_indoor_reason(state);
+    said.silence = harsolvek_indoor_silence(state);
+    said.resends = harsolvek_indoor_resends(state);
+    return said;
 }
 
 static int same_plan(const second_indoor *a, const second_indoor *b)
@@ -79,105 +82,117 @@ static void print_state(FILE *to, const char *name, const second_indoor *state)
 
 static void print_call(FILE *to)
 {
+    const harsolvek_release *release = &session.release;
     cable_print_call(to, &house);
-    print_state(to, "state before, or settings", &session.before);
+    fprintf(to, "  settings %lu and %lu, release %u %u, versions %u %u %u %u\n",
+            (unsigned long)session.settings.limit, (unsigned long)session.settings.resends,
+            release->vendor, release->product, release->versions.first, release->versions.second,
+            release->versions.third, release->versions.fourth);
+    print_state(to, "state before", &session.before);
 }
 
 static void print_answer(FILE *to, enum compare_side side)
 {
-    const second_indoor library = widened(&session.tried.library);
+    const second_indoor library = said_state(library_state());
     cable_print_answer(to, &house, side);
-    print_state(to, "state", side == COMPARE_LIBRARY ? &library : &session.tried.second);
+    print_state(to, "state", side == COMPARE_LIBRARY ? &library : &session.next);
+}
+
+/* How much of the file is looked at behind a call: up to the byte behind it where a call is told of
+ * more. A start has no use for it. */
+static size_t looked_at(void)
+{
+    return lent_part(house.made.memory_length,
+                     house.made.kind == CABLE_START ? 0 : session.now.length + 1);
 }
 
 /* The file is lent to read. */
 static const char *difference(void)
 {
-    const second_indoor library = widened(&session.tried.library);
+    const second_indoor library = said_state(library_state());
     const char *what = cable_difference(&house);
-    if (what == NULL && !same(&library, &session.tried.second)) {
+    if (what == NULL && !same(&library, &session.next)) {
         what = "state";
     }
-    return what == NULL ? cable_kept(&house, house.made.memory_length, 0, 0) : what;
+    return what == NULL ? cable_kept(&house, looked_at(), 0, 0) : what;
 }
 
 /* ---- The library ---- */
 
-static void ask_response(harsolvek_indoor_outcome *outcome)
+static uint64_t ask_response(harsolvek_indoor *state)
 {
     const cable_call *made = &house.made;
     const cable_pointers lent = cable_lend(&house);
-    if (made->by_pointer) {
-        outcome->number = harsolvek_indoor_response_at(
-            &outcome->state, lent.memory, made->memory_length, lent.message, made->message_length,
-            lent.out, made->out_length, &outcome->written);
-    } else {
-        *outcome = harsolvek_indoor_response(outcome->state, lent.memory, made->memory_length,
-                                             lent.message, made->message_length, lent.out,
-                                             made->out_length);
+    if (made->raw) {
+        return harsolvek_indoor_response_raw(state, lent.memory, made->memory_length, lent.message,
+                                             made->message_length, lent.out, made->out_length,
+                                             lent.written);
     }
+    return harsolvek_indoor_response(state, lent.memory, made->memory_length, lent.message,
+                                     made->message_length, lent.out, made->out_length,
+                                     lent.written);
 }
 
-static void ask_time(harsolvek_indoor_outcome *outcome)
+static uint64_t ask_time(harsolvek_indoor *state)
 {
     const cable_call *made = &house.made;
     const cable_pointers lent = cable_lend(&house);
-    if (made->by_pointer) {
-        outcome->number =
-            harsolvek_indoor_time_at(&outcome->state, lent.memory, made->memory_length,
-                                     made->elapsed, lent.out, made->out_length, &outcome->written);
-    } else {
-        *outcome = harsolvek_indoor_time(outcome->state, lent.memory, made->memory_length,
-                                         made->elapsed, lent.out, made->out_length);
+    if (made->raw) {
+        return harsolvek_indoor_time_raw(state, lent.memory, made->memory_length, made->elapsed,
+                                         lent.out, made->out_length, lent.written);
     }
+    return harsolvek_indoor_time(state, lent.memory, made->memory_length, made->elapsed, lent.out,
+                                 made->out_length, lent.written);
 }
 
-static void ask_start(harsolvek_indoor_outcome *outcome)
+static uint64_t ask_start(harsolvek_indoor *state)
 {
     const cable_call *made = &house.made;
     const cable_pointers lent = cable_lend(&house);
-    const harsolvek_plan *wanted = &session.wanted;
-    if (made->by_pointer) {
-        outcome->number = harsolvek_indoor_start_at(
-            &outcome->state, wanted->settings, wanted->release, lent.memory, made->memory_length,
-            lent.out, made->out_length, &outcome->written);
-    } else {
-        *outcome = harsolvek_indoor_start(wanted->settings, wanted->release, lent.memory,
-                                          made->memory_length, lent.out, made->out_length);
+    if (made->raw) {
+        return harsolvek_indoor_start_raw(state, &session.settings, &session.release, lent.memory,
+                                          made->memory_length, lent.out, made->out_length,
+                                          lent.written);
     }
+    return harsolvek_indoor_start(state, &session.settings, &session.release, lent.memory,
+                                  made->memory_length, lent.out, made->out_length, lent.written);
+}
+
+static uint64_t ask_library_number(harsolvek_indoor *state)
+{
+    if (house.made.kind == CABLE_MESSAGE) {
+        return ask_response(state);
+    }
+    return house.made.kind == CABLE_TIME ? ask_time(state) : ask_start(state);
 }
 
 static unsigned ask_library(void)
 {
-    harsolvek_indoor_outcome outcome = {session.tried.library, 0, 0};
-    if (house.made.kind == CABLE_MESSAGE) {
-        ask_response(&outcome);
-    } else if (house.made.kind == CABLE_TIME) {
-        ask_time(&outcome);
-    } else {
-        ask_start(&outcome);
-    }
-    session.tried.library = outcome.state;
-    return cable_heard(&house, outcome.number, outcome.written);
+    harsolvek_indoor *state = library_state();
+    const uint64_t number = ask_library_number(state);
+    return cable_heard(&house, COMPARE_LIBRARY, number, harsolvek_indoor_is_session(state));
 }
 
 /* ---- The second one ---- */
 
-/* A start is made where there is nothing yet. */
-static int ask_second_start(second_indoor *state, size_t *written)
+static int ask_second_start(second_indoor *state)
 {
-    const second_indoor *given = &session.before;
-    memset(state, 0, sizeof *state);
-    return second_indoor_start(state, given->limit, given->most, given->vendor, given->product,
-                               given->version, house.memory.second, house.made.memory_length,
-                               house.out.second, house.made.out_length, written);
+    const cable_call *made = &house.made;
+    const harsolvek_release *release = &session.release;
+    const unsigned version[4] = {release->versions.first, release->versions.second,
+                                 release->versions.third, release->versions.fourth};
+    return second_indoor_start(state, session.settings.limit, session.settings.resends,
+                               release->vendor, release->product, version, house.memory.second,
+                               made->memory_length, house.out.second, made->out_length,
+                               cable_second_written(&house));
 }
 
-static int ask_second_number(second_indoor *state, size_t *written)
+static int ask_second_number(second_indoor *state)
 {
     const cable_call *made = &house.made;
     const uint8_t *file = house.memory.second;
     uint8_t *out = house.out.second;
+    size_t *written = cable_second_written(&house);
     switch (made->kind) {
     case CABLE_MESSAGE:
         return second_indoor_response(state, file, made->memory_length, house.message.second,
@@ -186,14 +201,25 @@ static int ask_second_number(second_indoor *state, size_t *written)
         return second_indoor_time(state, file, made->memory_length, made->elapsed, out,
                                   made->out_length, written);
     default:
-        return ask_second_start(state, written);
+        return ask_second_start(state);
     }
 }
 
 static void ask_second(void)
 {
-    cable_answer *said = &house.said[COMPARE_SECOND];
-    said->number = (unsigned)ask_second_number(&session.tried.second, &said->written);
+    uint32_t *word = cable_words(house.state.second);
+    second_indoor *state = &session.next;
+    second_indoor left;
+    int number;
+    if (!second_indoor_read(state, word) && house.made.kind != CABLE_START) {
+        *cable_second_written(&house) = 0;
+        number = second_indoor_refuse(word, house.out.second,
+                                      lent_part(house.made.out_length, DRAW_OUT_MOST));
+    } else {
+        number = ask_second_number(state);
+        second_indoor_lay(state, word);
+    }
+    cable_heard(&house, COMPARE_SECOND, (uint64_t)number, second_indoor_read(&left, word));
 }
 
 /* ---- Inputs ---- */
@@ -275,7 +301,7 @@ static uint8_t draw_type(choice *from, enum second_indoor_phase phase)
 
 static size_t draw_response(choice *from, uint8_t *bytes)
 {
-    const second_indoor *state = &session.now.second;
+    const second_indoor *state = &session.now;
     bytes[1] = draw_type(from, state->phase);
     bytes[2] = draw_status(from);
     switch (bytes[1]) {
@@ -292,10 +318,18 @@ static size_t draw_response(choice *from, uint8_t *bytes)
     }
 }
 
+/* Both get the session. */
+static void spread(void)
+{
+    second_indoor_lay(&session.now, cable_words(house.state.before));
+    cable_spread(&house);
+    session.before = session.now;
+}
+
 static void draw_call(compare_run *run)
 {
     choice *from = &run->from;
-    const second_indoor *state = &session.now.second;
+    const second_indoor *state = &session.now;
     enum cable_kind kind = choice_one_in(from, 5) ? CABLE_TIME : CABLE_MESSAGE;
     cable_draw(&house, run, kind, draw_lent_length(from, state->length));
     if (kind == CABLE_MESSAGE) {
@@ -304,15 +338,15 @@ static void draw_call(compare_run *run)
         house.made.elapsed = draw_elapsed(
             from, state->limit, state->wait > 0 ? state->wait : state->limit - state->silence);
     }
-    session.tried = session.now;
-    session.before = session.now.second;
+    spread();
 }
 
 static size_t draw_file_length(choice *from)
 {
+    static const size_t wrong[] = {0, HARSOLVEK_IMAGE_MOST + 1, (size_t)UINT32_MAX + 601};
     size_t large;
     if (choice_one_in(from, 8)) {
-        return choice_one_in(from, 4) ? HARSOLVEK_IMAGE_MOST + 1 : 0;
+        return wrong[choice_below(from, 3)];
     }
     large = draw_large_length(from, 4095 * 256 + 1);
     return large != 0 ? large : draw_small_length(from);
@@ -330,105 +364,90 @@ static harsolvek_release draw_release(choice *from)
     return release;
 }
 
+/* A start is made where another session was, or nothing yet. */
 static void draw_start(compare_run *run)
 {
-    harsolvek_settings settings = draw_settings(&run->from);
-    harsolvek_release release = draw_release(&run->from);
-    harsolvek_indoor given = {{settings, release, 0}, 0, 0, 0, 0, 0, 0, 0};
-    session.wanted = given.plan;
-    session.tried = session.now;
-    session.before = widened(&given);
+    session.settings = draw_settings(&run->from);
+    session.release = draw_release(&run->from);
     cable_draw(&house, run, CABLE_START, draw_file_length(&run->from));
+    cable_move(&house, &run->from);
+    spread();
 }
 
 /* Done and Failed stay (01, The indoor end's phases). */
 static int over(choice *from)
 {
-    return choice_one_in(from, session.now.second.phase > SECOND_VALIDATE ? 6 : 150);
+    return choice_one_in(from, session.now.phase > SECOND_VALIDATE ? 6 : 150);
 }
 
 /* ---- Damaged states ---- */
 
-/* What the library's header says of a session. Of `silence`, `resends` and, in Transfer, `asked` it
- * says nothing, nor of `wait` where there is one, so any number there is one. */
-static int is_session(const harsolvek_indoor *state)
+/* A number of 16 bits, or one that a cut makes to it. */
+static uint32_t draw_short(choice *from)
 {
-    int transfers = state->phase == HARSOLVEK_INDOOR_TRANSFER;
-    int waits = state->phase == HARSOLVEK_INDOOR_INITIATE || transfers ||
-                state->phase == HARSOLVEK_INDOOR_VALIDATE;
-    if (!cable_allows(state->plan.settings) || state->plan.length < 1 ||
-        state->plan.length > HARSOLVEK_IMAGE_MOST || state->phase > HARSOLVEK_INDOOR_FAILED) {
-        return 0;
-    }
-    if (state->emptied > 1 || (!transfers && (state->emptied != 0 || state->asked != 0)) ||
-        (!waits && state->wait != 0)) {
-        return 0;
-    }
-    if (state->phase == HARSOLVEK_INDOOR_FAILED) {
-        return state->reason >= HARSOLVEK_SILENCE && state->reason <= HARSOLVEK_NOT_VALID;
-    }
-    return state->reason == 0;
+    const uint32_t good = draw_wrong(from, 1, 65535);
+    return choice_one_in(from, 2) ? draw_cut(from, choice_one_in(from, 2) ? good : 0, 16) : good;
 }
 
-static void damage_state(choice *from, harsolvek_indoor *state)
+static void damage_words(choice *from, uint32_t *word)
 {
-    static const uint32_t reasons[] = {0, 1, 39, 40, 45, 46, 255};
-    switch (draw_damage(from, 12, state, sizeof *state)) {
-    case 1:
-        state->phase = draw_code(from, 6);
-        break;
-    case 2:
-        state->emptied = (uint8_t)draw_wrong(from, 1 + choice_below(from, 2), 255);
-        break;
-    case 3:
-        state->asked = (uint16_t)draw_wrong(from, 1, 65535);
-        break;
+    static const uint32_t reasons[] = {0, 1, 39, 40, 45, 46, 255, 256 + 40, 65536 + 45};
+    switch (draw_damage(from, 15, word, SECOND_INDOOR_WORDS)) {
     case 4:
-        state->wait = (uint16_t)draw_wrong(from, 1, 65535);
+        word[0] = draw_wrong_limit(from);
         break;
     case 5:
-        state->plan.settings.limit = draw_wrong_limit(from);
+        word[1] = draw_wrong_resends(from);
         break;
     case 6:
-        state->plan.settings.resends = (uint8_t)draw_wrong(from, 11, 255);
-        break;
-    case 7:
-        state->plan.length =
+        word[2] =
             choice_one_in(from, 2) ? 0 : draw_wrong(from, HARSOLVEK_IMAGE_MOST + 1, 0xFFFFFFFF);
         break;
+    case 7:
+        word[3] = draw_code(from, 6);
+        break;
     case 8:
-        state->silence = (uint16_t)draw_wrong(from, state->plan.settings.limit, 65535);
+        word[4] = draw_short(from);
         break;
     case 9:
-        state->resends = (uint8_t)draw_wrong(from, state->plan.settings.resends, 255);
+        word[5] = draw_short(from);
         break;
     case 10: /* the end of the wait then sends that block */
-        state->asked = (uint16_t)draw_wrong(from, 1, 65535);
-        state->wait = (uint16_t)(1 + choice_below(from, 2));
+        word[4] = draw_wrong(from, 1, 65535);
+        word[5] = 1 + choice_below(from, 2);
         break;
     case 11:
-        state->reason = (uint8_t)CHOICE_OF(from, reasons);
+        word[6] = draw_wrong(from, 1 + choice_below(from, 2), 0xFFFFFFFF);
+        break;
+    case 12:
+        word[7] =
+            choice_one_in(from, 2) ? draw_cut(from, word[7], 16) : draw_wrong(from, word[0], 65535);
+        break;
+    case 13:
+        word[8] =
+            choice_one_in(from, 2) ? draw_cut(from, word[8], 8) : draw_wrong(from, word[1], 255);
+        break;
+    case 14:
+        word[9] = CHOICE_OF(from, reasons);
         break;
     }
 }
 
 static int damage(choice *from)
 {
-    damage_state(from, &session.tried.library);
-    session.before = widened(&session.tried.library);
-    session.tried.second = session.before;
-    house.said[COMPARE_SECOND].number = HARSOLVEK_SETTINGS;
-    return is_session(&session.tried.library);
+    uint32_t *word = cable_words(house.state.before);
+    damage_words(from, word);
+    cable_spread(&house);
+    return second_indoor_read(&session.before, word);
 }
 
 /* No rule says what such a block asked for or such a wait leads to. */
 static const char *wrong(void)
 {
-    const char *what = cable_wrong(&house);
-    if (what == NULL && !is_session(&session.tried.library)) {
-        what = "state, which is no session";
-    }
-    return what == NULL ? cable_held(&house, house.made.memory_length, 0, 0) : what;
+    second_indoor left;
+    const int stands = second_indoor_read(&left, cable_words(house.state.library));
+    const char *what = cable_wrong(&house, stands);
+    return what == NULL ? cable_held(&house, looked_at(), 0, 0) : what;
 }
 
 /* ---- The calls ---- */
@@ -437,11 +456,12 @@ static const char *wrong(void)
 static void lay_file(void)
 {
     static int made;
-    lent_lay(&house.memory, file_arenas, sizeof file_arenas / 3, 1);
+    const size_t size = sizeof file_arenas / 3;
+    lent_lay(&house.memory, file_arenas, sizeof file_arenas, 1);
     if (!made) {
-        choice_noise(file_arenas, sizeof file_arenas / 3);
-        memcpy(file_arenas + sizeof file_arenas / 3, file_arenas, sizeof file_arenas / 3);
-        memcpy(file_arenas + sizeof file_arenas / 3 * 2, file_arenas, sizeof file_arenas / 3);
+        choice_noise(file_arenas, size);
+        memcpy(file_arenas + size, file_arenas, size);
+        memcpy(file_arenas + 2 * size, file_arenas, size);
         made = 1;
     }
 }
@@ -449,7 +469,7 @@ static void lay_file(void)
 static void begin(void)
 {
     memset(&session, 0, sizeof session);
-    cable_begin(&house, "file", "response");
+    cable_begin(&house, "file", "response", SECOND_INDOOR_WORDS);
     lay_file();
 }
 
@@ -466,7 +486,7 @@ static void count(coverage *met)
 
 static void settle(compare_run *run)
 {
-    session.now = session.tried;
+    session.now = session.next;
     if (house.made.kind != CABLE_START) {
         count(&run->met);
     }

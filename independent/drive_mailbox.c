@@ -25,87 +25,88 @@ enum kind { WRITE, SUCCESS, FAILURE, CHANGE, FRESH };
 /* The inputs of one call; CONTROL's or the port's bytes are in lent memory. */
 typedef struct call {
     enum kind kind;
-    size_t length;     /* of CONTROL or of the port's bytes */
-    uint8_t connector; /* of a change, or the count at fresh */
+    size_t length;      /* of CONTROL or of the port's bytes */
+    uint32_t connector; /* of a change, or the count at fresh */
     uint16_t reason;
-    int by_pointer;
+    int raw; /* the library's own symbol is called, and not the header's function around it */
     int null;
 } call;
 
-/* What a call answers, and what is seen of it: CCI and MESSAGE_IN, with the number that asking for
- * them has. */
+/* What a call answers, and what is seen of the mailbox behind it: whether it is one, and CCI with
+ * the number that asking for it has. */
 typedef struct answer {
-    unsigned number;
-    unsigned seen;
+    uint64_t number;
+    int stands;
+    uint64_t seen;
     uint32_t cci;
-    uint8_t message_in[HARSOLVEK_MESSAGE_IN_SIZE];
 } answer;
 
-static uint8_t bytes_arenas[3 * LENT_SIZE(REPORT_MOST)];
-
-typedef struct states {
-    harsolvek_mailbox library;
-    second_mailbox second;
-} states;
+LENT_ARENAS(uint32_t, state_arenas, sizeof(harsolvek_mailbox));
+LENT_ARENAS(uint32_t, cci_arenas, sizeof(uint32_t));
+LENT_ARENAS(uint8_t, bytes_arenas, REPORT_MOST);
 
 static struct {
-    states now;
-    states tried; /* what the call is made on, and what it leaves */
+    second_mailbox now;    /* the mailbox that both have */
+    second_mailbox before; /* the state that the call is made on */
+    second_mailbox next;   /* the second one's behind the call */
     call made;
-    second_mailbox before;
     answer said[COMPARE_SIDES];
-    harsolvek_mailbox damaged; /* what the library alone is called on */
-    int no_mailbox;            /* `damaged` is no mailbox */
+    lent state;
     lent bytes;
+    lent cci;
 } session;
 
+static harsolvek_mailbox *state_of(uint8_t *copy)
+{
+    return (harsolvek_mailbox *)(void *)copy;
+}
+
 /* The mailbox's status as CCI's bits other than 1 to 7 (01, The mailbox; 000 T3-2). */
-static uint32_t told_bits(const harsolvek_mailbox *state)
+static uint32_t status_bits(const harsolvek_mailbox *state)
 {
     static const uint32_t bits[] = {0x00000000, 0x08000000, 0x10000000, 0x80000000,
                                     0xC0000000, 0x82000000, 0x84000000, 0x20000000};
-    return (state->told < 8 ? bits[state->told] : 0xFFFFFFFF) | (uint32_t)state->length << 8;
+    const uint32_t status = harsolvek_mailbox_status(state);
+    return (status < 8 ? bits[status] : 0) | harsolvek_mailbox_length(state) << 8;
 }
 
-/* A waiting flag that is neither 0 nor 1 becomes a bit that the second implementation never has. */
-static second_mailbox widened(const harsolvek_mailbox *state)
+/* The library's mailbox as the header's functions say its fields. */
+static second_mailbox said_state(const harsolvek_mailbox *state)
 {
-    second_mailbox wide;
-    wide.connectors = state->connectors;
-    wide.cci = told_bits(state);
-    wide.shown = state->shown;
-    wide.waiting = 0;
-    for (unsigned i = 0; i < HARSOLVEK_CONNECTORS_MOST; i++) {
-        wide.waiting |= (state->waiting[i] > 1 ? 0x100u : state->waiting[i]) << i;
-    }
-    wide.on = state->notifications;
-    wide.mask = state->mask;
-    wide.running = state->told == HARSOLVEK_TOLD_BUSY;
-    wide.due = state->told >= HARSOLVEK_TOLD_COMPLETED && state->told <= HARSOLVEK_TOLD_CANCELLED;
-    wide.code = state->command.code;
-    wide.connector = state->command.connector;
-    wide.reset_type = state->command.reset_type;
-    memcpy(wide.message_in, state->message_in, sizeof wide.message_in);
-    return wide;
+    const uint32_t status = harsolvek_mailbox_status(state);
+    const harsolvek_command command = harsolvek_mailbox_command(state);
+    second_mailbox said;
+    said.connectors = harsolvek_mailbox_connectors(state);
+    said.cci = status_bits(state);
+    said.shown = harsolvek_mailbox_shown(state);
+    said.waiting = harsolvek_mailbox_waiting(state);
+    said.on = (int)harsolvek_mailbox_notifications(state);
+    said.mask = harsolvek_mailbox_mask(state);
+    said.running = status == HARSOLVEK_STATUS_BUSY;
+    said.due = status >= HARSOLVEK_STATUS_COMPLETED && status <= HARSOLVEK_STATUS_CANCELLED;
+    said.code = command.code;
+    said.connector = command.connector;
+    said.reset_type = command.reset_type;
+    memcpy(said.message_in, harsolvek_mailbox_message_in(state), sizeof said.message_in);
+    return said;
 }
 
-static int same(const second_mailbox *a, const second_mailbox *b)
+/* A command of a state that is no mailbox may have more than the header's function says of it. */
+static int same_command(const second_mailbox *library, const second_mailbox *second)
 {
-    return a->connectors == b->connectors && a->cci == b->cci && a->shown == b->shown &&
-           a->waiting == b->waiting && a->on == b->on && a->mask == b->mask &&
-           a->running == b->running && a->due == b->due && a->code == b->code &&
-           a->connector == b->connector && a->reset_type == b->reset_type &&
-           memcmp(a->message_in, b->message_in, sizeof a->message_in) == 0;
+    return library->code == (uint8_t)second->code &&
+           library->connector == (uint8_t)second->connector &&
+           library->reset_type == (uint8_t)second->reset_type;
 }
 
-static int same_flat(const harsolvek_mailbox *a, const harsolvek_mailbox *b)
+static int same(const second_mailbox *library, const second_mailbox *second)
 {
-    return memcmp(a->message_in, b->message_in, sizeof a->message_in) == 0 &&
-           memcmp(a->waiting, b->waiting, sizeof a->waiting) == 0 && a->shown == b->shown &&
-           a->connectors == b->connectors && a->mask == b->mask &&
-           a->notifications == b->notifications && a->told == b->told && a->length == b->length &&
-           a->command.code == b->command.code && a->command.connector == b->command.connector &&
-           a->command.reset_type == b->command.reset_type;
+    return library->connectors == second->connectors && library->cci == second->cci &&
+           library->shown == second->shown && library->waiting == second->waiting &&
+           library->on == second->on && library->mask == second->mask &&
+           library->running == second->running && library->due == second->due &&
+           same_command(library, second) &&
+           memcmp(library->message_in, second->message_in, sizeof library->message_in) == 0;
 }
 
 static void print_state(FILE *to, const char *name, const second_mailbox *state)
@@ -120,24 +121,30 @@ static void print_state(FILE *to, const char *name, const second_mailbox *state)
     lent_print(to, "its MESSAGE_IN", state->message_in, sizeof state->message_in);
 }
 
+static size_t bytes_length(void)
+{
+    return lent_part(session.made.length, REPORT_MOST);
+}
+
 static void print_call(FILE *to)
 {
     static const char *const names[] = {"write", "success", "failure", "change", "fresh"};
     const call *made = &session.made;
-    fprintf(to, "  %s: connector or count %u, reason %04X, by %s\n", names[made->kind],
-            made->connector, made->reason, made->by_pointer ? "pointer" : "value");
-    lent_print(to, "bytes", session.bytes.before, made->length);
+    fprintf(to, "  %s: length %lu, connector or count %lu, reason %04X, %s\n", names[made->kind],
+            (unsigned long)made->length, (unsigned long)made->connector, made->reason,
+            made->raw ? "raw" : "by the header's function");
+    lent_print(to, "bytes", session.bytes.before, bytes_length());
     print_state(to, "state before", &session.before);
 }
 
 static void print_answer(FILE *to, enum compare_side side)
 {
-    const second_mailbox library = widened(&session.tried.library);
+    const second_mailbox library = said_state(state_of(session.state.library));
     const answer *given = &session.said[side];
-    fprintf(to, "  number %u; asked for CCI and MESSAGE_IN: number %u, CCI %08lX\n", given->number,
-            given->seen, (unsigned long)given->cci);
-    lent_print(to, "MESSAGE_IN", given->message_in, sizeof given->message_in);
-    print_state(to, "state", side == COMPARE_LIBRARY ? &library : &session.tried.second);
+    fprintf(to, "  number %lu, a mailbox: %d; asked for CCI: number %lu, CCI %08lX\n",
+            (unsigned long)given->number, given->stands, (unsigned long)given->seen,
+            (unsigned long)given->cci);
+    print_state(to, "state", side == COMPARE_LIBRARY ? &library : &session.next);
 }
 
 static const char *answers_differ(const answer *library, const answer *second)
@@ -145,64 +152,72 @@ static const char *answers_differ(const answer *library, const answer *second)
     if (library->number != second->number) {
         return "number";
     }
+    if (library->stands != second->stands) {
+        return "answer whether the state is a mailbox";
+    }
     if (library->seen != second->seen) {
-        return "number of CCI or MESSAGE_IN";
+        return "number of CCI";
     }
-    if (library->cci != second->cci) {
-        return "CCI";
-    }
-    return memcmp(library->message_in, second->message_in, sizeof library->message_in) == 0
-               ? NULL
-               : "MESSAGE_IN";
+    return library->cci != second->cci ? "CCI" : NULL;
 }
 
-/* CONTROL and the port's bytes are lent to read. A state that is no mailbox comes back as it is,
- * also in what is lost as it is widened. */
+/* CONTROL and the port's bytes are lent to read. A call that is refused keeps the state (01, Numbers
+ * we answer); only a start makes another one. */
 static const char *difference(void)
 {
-    const second_mailbox library = widened(&session.tried.library);
+    const second_mailbox library = said_state(state_of(session.state.library));
+    const int kept =
+        session.made.kind != FRESH && session.said[COMPARE_LIBRARY].number != HARSOLVEK_TAKEN;
     const char *what =
         answers_differ(&session.said[COMPARE_LIBRARY], &session.said[COMPARE_SECOND]);
     if (what != NULL) {
         return what;
     }
-    if (!same(&library, &session.tried.second) ||
-        (session.no_mailbox && !same_flat(&session.tried.library, &session.damaged))) {
+    if (!lent_kept(&session.cci, sizeof(uint32_t), 0, sizeof(uint32_t))) {
+        return "memory around CCI";
+    }
+    if (!same(&library, &session.next)) {
         return "state";
     }
-    return lent_kept(&session.bytes, session.made.length, 0, 0) ? NULL : "lent bytes";
+    if (!lent_kept(&session.state, sizeof(harsolvek_mailbox), 0,
+                   kept ? 0 : sizeof(harsolvek_mailbox))) {
+        return "words of the state";
+    }
+    return lent_kept(&session.bytes, bytes_length(), 0, 0) ? NULL : "lent bytes";
 }
 
-static uint8_t ask_library_at(harsolvek_mailbox *state, const call *made, const uint8_t *bytes)
+/* ---- The library ---- */
+
+static uint64_t ask_raw(harsolvek_mailbox *state, const call *made, const uint8_t *bytes)
 {
     switch (made->kind) {
     case WRITE:
-        return harsolvek_mailbox_write_at(state, bytes, made->length);
+        return harsolvek_mailbox_write_raw(state->word, state->message_in, bytes, made->length);
     case SUCCESS:
-        return harsolvek_mailbox_success_at(state, bytes, made->length);
+        return harsolvek_mailbox_success_raw(state->word, state->message_in, bytes, made->length);
     case FAILURE:
-        return harsolvek_mailbox_failure_at(state);
+        return harsolvek_mailbox_failure_raw(state->word, state->message_in);
     case CHANGE:
-        return harsolvek_mailbox_change_at(state, made->connector, made->reason);
+        return harsolvek_mailbox_change_raw(state->word, state->message_in, made->connector,
+                                            made->reason);
     default:
-        return harsolvek_mailbox_fresh_at(state, made->connector);
+        return harsolvek_mailbox_fresh_raw(state->word, state->message_in, made->connector);
     }
 }
 
-static harsolvek_mailbox_outcome ask_library_by_value(const harsolvek_mailbox *state,
-                                                      const call *made, const uint8_t *bytes)
+static uint64_t ask_header(harsolvek_mailbox *state, const call *made, const uint8_t *bytes)
 {
     switch (made->kind) {
     case WRITE:
-        return harsolvek_mailbox_write(*state, bytes, made->length);
+        return harsolvek_mailbox_write(state, bytes, made->length);
     case SUCCESS:
-        return harsolvek_mailbox_success(*state, bytes, made->length);
+        return harsolvek_mailbox_success(state, bytes, made->length);
     case FAILURE:
-        return harsolvek_mailbox_failure(*state);
+        return harsolvek_mailbox_failure(state);
     case CHANGE:
-        return harsolvek_mailbox_change(*state, made->connector, made->reason);
+        return harsolvek_mailbox_change(state, made->connector, made->reason);
     default:
-        return harsolvek_mailbox_fresh(made->connector);
+        return harsolvek_mailbox_fresh(state, made->connector);
     }
 }
 
@@ -210,32 +225,18 @@ static unsigned ask_library(void)
 {
     const call *made = &session.made;
     const uint8_t *bytes = lent_or_null(session.bytes.library, made->length, made->null);
-    harsolvek_mailbox *state = &session.tried.library;
+    harsolvek_mailbox *state = state_of(session.state.library);
     answer *given = &session.said[COMPARE_LIBRARY];
-    harsolvek_cci cci;
-    harsolvek_message_in message_in;
-    if (made->by_pointer) {
-        given->number = ask_library_at(state, made, bytes);
-    } else {
-        harsolvek_mailbox_outcome outcome = ask_library_by_value(state, made, bytes);
-        *state = outcome.state;
-        given->number = outcome.number;
-    }
-    cci = harsolvek_mailbox_cci(*state);
-    message_in = harsolvek_mailbox_message_in(*state);
-    given->seen = cci.number == message_in.number ? cci.number : 255;
-    given->cci = cci.cci;
-    memcpy(given->message_in, message_in.bytes, sizeof given->message_in);
-    return given->number;
+    uint32_t *cci = (uint32_t *)(void *)session.cci.library;
+    given->number = made->raw ? ask_raw(state, made, bytes) : ask_header(state, made, bytes);
+    given->stands = harsolvek_mailbox_is_mailbox(state);
+    given->seen =
+        made->raw ? harsolvek_mailbox_cci_raw(state->word, cci) : harsolvek_mailbox_cci(state, cci);
+    given->cci = *cci;
+    return given->number < 256 ? (unsigned)given->number : 256;
 }
 
-/* 29 has a CCI of 0 and a MESSAGE_IN of zeros. */
-static void refuse(answer *given)
-{
-    memset(given, 0, sizeof *given);
-    given->number = HARSOLVEK_SETTINGS;
-    given->seen = HARSOLVEK_SETTINGS;
-}
+/* ---- The second one ---- */
 
 static int ask_second_number(second_mailbox *state, const call *made)
 {
@@ -253,18 +254,31 @@ static int ask_second_number(second_mailbox *state, const call *made)
     }
 }
 
+/* The second one's mailbox is read off its copy, and put there behind the call. */
+static int answer_second(harsolvek_mailbox *copy, second_mailbox *state)
+{
+    int number;
+    memcpy(state->message_in, copy->message_in, sizeof state->message_in);
+    if (!second_mailbox_read(state, copy->word) && session.made.kind != FRESH) {
+        return second_mailbox_refuse(copy->word, copy->message_in);
+    }
+    number = ask_second_number(state, &session.made);
+    second_mailbox_lay(state, copy->word);
+    memcpy(copy->message_in, state->message_in, sizeof copy->message_in);
+    return number;
+}
+
 static void ask_second(void)
 {
-    second_mailbox *state = &session.tried.second;
+    harsolvek_mailbox *copy = state_of(session.state.second);
+    second_mailbox *state = &session.next;
     answer *given = &session.said[COMPARE_SECOND];
-    given->number = (unsigned)ask_second_number(state, &session.made);
-    given->seen = 0;
-    given->cci = second_mailbox_cci(state);
-    memcpy(given->message_in, state->message_in, sizeof given->message_in);
-    if (session.made.kind == FRESH && given->number != HARSOLVEK_TAKEN) {
-        memset(state, 0, sizeof *state);
-        refuse(given);
-    }
+    second_mailbox left;
+    given->number = (uint64_t)answer_second(copy, state);
+    given->stands = second_mailbox_read(&left, copy->word);
+    given->seen = given->stands ? HARSOLVEK_TAKEN : HARSOLVEK_SETTINGS;
+    given->cci = given->stands ? second_mailbox_cci(state) : 0;
+    memcpy(session.cci.second, &given->cci, sizeof given->cci);
 }
 
 /* ---- Inputs ---- */
@@ -338,6 +352,9 @@ static size_t draw_control(choice *from, const second_mailbox *state, uint8_t *b
     } else {
         bytes[2] = draw_connector_field(from, state, bytes[2]);
     }
+    if (choice_one_in(from, 200)) {
+        return (size_t)UINT32_MAX + 1 + HARSOLVEK_CONTROL_SIZE;
+    }
     return choice_one_in(from, 24) ? choice_below(from, CONTROL_MOST + 1) : HARSOLVEK_CONTROL_SIZE;
 }
 
@@ -346,7 +363,7 @@ static size_t draw_report(choice *from, uint8_t *bytes)
     const uint32_t lengths[] = {
         choice_below(from, 256), 0, 1, 254, 255, 256, choice_below(from, REPORT_MOST + 1)};
     draw_noise(from, bytes, REPORT_MOST);
-    return CHOICE_OF(from, lengths);
+    return CHOICE_OF(from, lengths) + (choice_one_in(from, 100) ? (size_t)UINT32_MAX + 1 : 0);
 }
 
 /* A port that runs a command mostly reports. */
@@ -359,32 +376,44 @@ static enum kind draw_kind(choice *from, const second_mailbox *state)
                           : at_rest[choice_below(from, choice_one_in(from, 4) ? 10 : 7)];
 }
 
-/* Nothing of the call before is left. */
-static void draw_next(enum kind kind)
+static void lay_state(size_t shift)
 {
+    lent_lay(&session.state, state_arenas, sizeof state_arenas, shift);
+    lent_fill(&session.state, sizeof(harsolvek_mailbox), 0xA5);
+}
+
+/* Nothing of the call before is left. Both get the mailbox. */
+static void draw_next(choice *from, enum kind kind)
+{
+    harsolvek_mailbox *before = state_of(session.state.before);
     memset(&session.made, 0, sizeof session.made);
+    memset(session.said, 0, sizeof session.said);
     session.made.kind = kind;
-    session.no_mailbox = 0;
-    session.tried = session.now;
-    session.before = session.now.second;
+    session.made.raw = choice_one_in(from, 4);
+    session.before = session.now;
+    second_mailbox_lay(&session.now, before->word);
+    memcpy(before->message_in, session.now.message_in, sizeof before->message_in);
+    lent_spread(&session.state, sizeof *before);
+    lent_wipe(&session.cci, sizeof(uint32_t), 0xA5);
 }
 
 static void draw_change(choice *from, call *made)
 {
     const uint32_t reasons[] = {0, 1, 0xFFFF, 1u << choice_below(from, 16),
                                 choice_below(from, 65536)};
-    made->connector =
-        (uint8_t)(choice_one_in(from, 8) ? choice_below(from, 256) : choice_below(from, 10));
+    made->connector = choice_one_in(from, 8) ? choice_below(from, 256) : choice_below(from, 10);
+    if (choice_one_in(from, 24)) {
+        made->connector = draw_cut(from, made->connector, 8);
+    }
     made->reason = (uint16_t)(choice_one_in(from, 2) ? CHOICE_OF(from, reasons) : 2);
 }
 
 static void draw_call(compare_run *run)
 {
     choice *from = &run->from;
-    const second_mailbox *state = &session.now.second;
+    const second_mailbox *state = &session.now;
     call *made = &session.made;
-    draw_next(draw_kind(from, state));
-    made->by_pointer = choice_one_in(from, 4);
+    draw_next(from, draw_kind(from, state));
     made->null = choice_one_in(from, 2);
     if (made->kind == WRITE) {
         made->length = draw_control(from, state, session.bytes.before);
@@ -396,14 +425,17 @@ static void draw_call(compare_run *run)
     lent_spread(&session.bytes, made->kind == SUCCESS ? REPORT_MOST : CONTROL_MOST);
 }
 
+/* A start is made where another mailbox was, or nothing yet, with any bytes for MESSAGE_IN. */
 static void draw_start(compare_run *run)
 {
     choice *from = &run->from;
-    const uint32_t wrong_counts[] = {0, draw_wrong(from, 9, 255)};
-    draw_next(FRESH);
-    session.made.by_pointer = choice_one_in(from, 4);
-    session.made.connector = (uint8_t)(choice_one_in(from, 6) ? CHOICE_OF(from, wrong_counts)
-                                                              : 1 + choice_below(from, 8));
+    const uint32_t good = 1 + choice_below(from, 8);
+    const uint32_t wrong_counts[] = {0, draw_wrong(from, 9, UINT32_MAX), draw_cut(from, good, 8)};
+    lay_state(sizeof(uint32_t) * choice_below(from, LENT_SHIFTS / sizeof(uint32_t)));
+    draw_next(from, FRESH);
+    draw_noise(from, state_of(session.state.before)->message_in, HARSOLVEK_MESSAGE_IN_SIZE);
+    lent_spread(&session.state, sizeof(harsolvek_mailbox));
+    session.made.connector = choice_one_in(from, 6) ? CHOICE_OF(from, wrong_counts) : good;
 }
 
 static int over(choice *from)
@@ -413,157 +445,98 @@ static int over(choice *from)
 
 /* ---- Damaged states ---- */
 
-/* What the library's header says of the fields of a mailbox, each by itself. */
-static int has_fields(const harsolvek_mailbox *state)
-{
-    int commanded =
-        state->command.code != 0 || state->command.connector != 0 || state->command.reset_type != 0;
-    for (unsigned i = 0; i < HARSOLVEK_CONNECTORS_MOST; i++) {
-        if (state->waiting[i] > 1) {
-            return 0;
-        }
-    }
-    if (state->connectors < 1 || state->connectors > HARSOLVEK_CONNECTORS_MOST ||
-        state->notifications > 1) {
-        return 0;
-    }
-    if ((state->notifications == 0 && state->mask != 0) ||
-        state->told > HARSOLVEK_TOLD_ACKNOWLEDGED) {
-        return 0;
-    }
-    return (state->told == HARSOLVEK_TOLD_BUSY || !commanded) &&
-           (state->told == HARSOLVEK_TOLD_COMPLETED || state->length == 0);
-}
-
-static int is_mailbox(const harsolvek_mailbox *state)
-{
-    const second_mailbox wide = widened(state);
-    return has_fields(state) && second_mailbox_stands(&wide);
-}
-
 /* A command that runs, or nearly: the codes around those that do, connectors around the count. */
-static void damage_run(choice *from, harsolvek_mailbox *state)
+static void damage_run(choice *from, uint32_t *word)
 {
-    static const uint32_t codes[] = {CONNECTOR_RESET,
-                                     GET_CAPABILITY,
-                                     GET_CONNECTOR_CAPABILITY,
-                                     GET_CONNECTOR_STATUS,
-                                     SET_NOTIFICATION_ENABLE,
-                                     GET_CONNECTOR_CAPABILITY + 1,
-                                     GET_CONNECTOR_STATUS - 1,
-                                     CODES,
-                                     0,
-                                     255};
-    const uint32_t connectors[] = {0, 1, state->connectors, state->connectors + 1u, 255};
-    state->told = HARSOLVEK_TOLD_BUSY;
-    state->length = 0;
-    state->command.code =
-        (uint8_t)(choice_one_in(from, 4) ? choice_below(from, 256) : CHOICE_OF(from, codes));
-    state->command.connector = (uint8_t)CHOICE_OF(from, connectors);
-    if (!choice_one_in(from, 3)) {
-        state->notifications = 1;
-    }
-}
-
-/* The flag of a connector around the count. */
-static void damage_waiting(choice *from, harsolvek_mailbox *state)
-{
-    const unsigned first = state->connectors - choice_below(from, 2);
-    if (first < HARSOLVEK_CONNECTORS_MOST) {
-        state->waiting[first] = 1;
-    }
-}
-
-static void damage_command(choice *from, harsolvek_command *command)
-{
-    uint8_t value = (uint8_t)draw_wrong(from, 1, 255);
-    switch (choice_below(from, 3)) {
-    case 0:
-        command->code = value;
-        break;
-    case 1:
-        command->connector = value;
-        break;
-    default:
-        command->reset_type = value;
-        break;
-    }
-}
-
-static void damage_state(choice *from, harsolvek_mailbox *state)
-{
-    const uint32_t shown[] = {state->connectors, state->connectors + 1u, 255,
+    const uint32_t codes[] = {CONNECTOR_RESET,
+                              GET_CAPABILITY,
+                              GET_CONNECTOR_CAPABILITY,
+                              GET_CONNECTOR_STATUS,
+                              SET_NOTIFICATION_ENABLE,
+                              GET_CONNECTOR_CAPABILITY + 1,
+                              GET_CONNECTOR_STATUS - 1,
+                              CODES,
+                              0,
+                              255,
+                              256 + GET_CAPABILITY,
                               choice_below(from, 256)};
-    switch (draw_damage(from, 14, state, sizeof *state)) {
-    case 1:
-        state->told = draw_code(from, 8);
-        break;
-    case 2:
-        state->connectors = (uint8_t)(choice_one_in(from, 2) ? 0 : draw_wrong(from, 9, 255));
-        break;
-    case 3:
-        state->waiting[choice_below(from, 8)] = (uint8_t)draw_wrong(from, 2, 255);
-        break;
+    const uint32_t connectors[] = {0, 1, word[0], word[0] + 1, 255, 256 + 1};
+    static const uint32_t reset_types[] = {1, 255, 256, 256 + 1};
+    word[5] = HARSOLVEK_STATUS_BUSY;
+    word[6] = 0;
+    word[7] = choice_one_in(from, 2) ? CHOICE_OF(from, codes) : codes[choice_below(from, 4)];
+    word[8] = choice_one_in(from, 2) ? CHOICE_OF(from, connectors) : word[0];
+    word[9] = choice_one_in(from, 2) ? CHOICE_OF(from, reset_types) : 0;
+    if (!choice_one_in(from, 3)) {
+        word[3] = 1;
+    }
+}
+
+/* The bit of a connector around the count. */
+static void damage_waiting(choice *from, uint32_t *word)
+{
+    word[2] |= (uint32_t)1 << (word[0] - choice_below(from, 2));
+}
+
+static void damage_words(choice *from, uint32_t *word)
+{
+    const uint32_t shown[] = {word[0], word[0] + 1, 255, draw_cut(from, word[1], 8)};
+    switch (draw_damage(from, 17, word, SECOND_MAILBOX_WORDS)) {
     case 4:
-        state->mask = (uint16_t)draw_wrong(from, 1, 65535);
+        word[0] = choice_one_in(from, 2) ? 0 : draw_wrong(from, 9, 0xFFFFFFFF);
         break;
     case 5:
-        state->length = (uint8_t)draw_wrong(from, 1, 255);
+        word[1] = CHOICE_OF(from, shown);
         break;
     case 6:
-        state->notifications = (uint8_t)draw_wrong(from, 2, 255);
+        word[2] = choice_one_in(from, 2) ? 255 : draw_cut(from, word[2], 8);
         break;
     case 7:
-        state->notifications = 0;
-        state->mask = (uint16_t)(choice_one_in(from, 2) ? 0 : state->mask);
+        damage_waiting(from, word);
         break;
     case 8:
-        state->shown = (uint8_t)CHOICE_OF(from, shown);
+        word[3] = draw_wrong(from, 2, 0xFFFFFFFF);
         break;
     case 9:
-        memset(state->waiting, 1, sizeof state->waiting);
+        word[3] = 0;
+        word[4] = choice_one_in(from, 2) ? 0 : word[4];
         break;
     case 10:
-        state->told = HARSOLVEK_TOLD_BUSY;
-        state->length = 0;
-        damage_command(from, &state->command);
+        word[4] = draw_wrong(from, 1, 65535);
         break;
     case 11:
-        damage_command(from, &state->command);
+        word[4] = draw_cut(from, word[4], 16);
         break;
     case 12:
-        damage_run(from, state);
+        word[5] = draw_code(from, 8);
         break;
     case 13:
-        damage_waiting(from, state);
+        word[6] = choice_one_in(from, 2) ? draw_cut(from, word[6], 8) : draw_wrong(from, 1, 255);
+        break;
+    case 14:
+        word[7 + choice_below(from, 3)] = draw_wrong(from, 1, 255);
+        break;
+    case 15:
+    case 16:
+        damage_run(from, word);
         break;
     }
 }
 
-/* The state as it is flat is kept too: widened, one that is no mailbox may lose something. */
 static int damage(choice *from)
 {
-    harsolvek_mailbox *state = &session.tried.library;
-    int stands;
-    damage_state(from, state);
-    stands = is_mailbox(state);
-    session.damaged = *state;
-    session.no_mailbox = !stands;
-    session.before = widened(state);
-    refuse(&session.said[COMPARE_SECOND]);
-    session.tried.second = session.before;
-    return stands;
+    harsolvek_mailbox *before = state_of(session.state.before);
+    damage_words(from, before->word);
+    lent_spread(&session.state, sizeof *before);
+    return second_mailbox_read(&session.before, before->word);
 }
 
-/* The rules say of every mailbox what a call leads to, also of one that no call hands out, and it
+/* The rules say of every mailbox what a call leads to, also of one that no call leaves, and it
  * stays a mailbox. */
 static const char *wrong(void)
 {
-    if (!is_mailbox(&session.tried.library)) {
-        return "state, which is no mailbox";
-    }
     ask_second();
-    return difference();
+    return session.said[COMPARE_SECOND].stands ? difference() : "state, which is no mailbox";
 }
 
 /* ---- The calls ---- */
@@ -571,8 +544,11 @@ static const char *wrong(void)
 static void begin(void)
 {
     memset(&session, 0, sizeof session);
-    lent_lay(&session.bytes, bytes_arenas, sizeof bytes_arenas / 3, 3);
+    lay_state(0);
+    lent_lay(&session.bytes, bytes_arenas, sizeof bytes_arenas, 3);
     lent_fill(&session.bytes, REPORT_MOST, 0xA5);
+    lent_lay(&session.cci, cci_arenas, sizeof cci_arenas, 4);
+    lent_fill(&session.cci, sizeof(uint32_t), 0xA5);
 }
 
 static enum coverage_mailbox column(const call *made)
@@ -598,11 +574,12 @@ static enum coverage_mailbox column(const call *made)
 
 static void settle(compare_run *run)
 {
-    const unsigned row = session.now.library.told;
-    session.now = session.tried;
+    uint32_t word[SECOND_MAILBOX_WORDS];
+    second_mailbox_lay(&session.before, word);
+    session.now = session.next;
     if (session.made.kind != FRESH &&
         session.said[COMPARE_LIBRARY].number != HARSOLVEK_CONTROL_LENGTH) {
-        coverage_pair(&run->met, row, column(&session.made));
+        coverage_pair(&run->met, word[5], column(&session.made));
     }
 }
 

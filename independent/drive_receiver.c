@@ -15,29 +15,21 @@ enum {
     VENDOR_SPECIFIC = 0xFF
 };
 
-/* What the receiver is given beside a request. */
-typedef struct advice {
-    uint8_t readiness;
-    uint8_t verdict;
-    uint8_t later;
-} advice;
-
-typedef struct states {
-    harsolvek_receiver library;
-    second_receiver second;
-} states;
-
-static uint8_t image_arenas[3 * LENT_SIZE(HARSOLVEK_IMAGE_MOST + 1)];
+LENT_ARENAS(uint8_t, image_arenas, HARSOLVEK_IMAGE_MOST + 1);
+LENT_ARENAS(uint16_t, sum_arenas, sizeof(uint16_t));
 
 static cable roof;
 
 static struct {
-    states now;
-    states tried;           /* what the call is made on, and what it leaves */
-    second_receiver before; /* the state before it, or what a start is given */
+    second_receiver now;    /* the session that both have */
+    second_receiver before; /* the state that the call is made on */
+    second_receiver next;   /* the second one's behind the call */
     unsigned sums[COMPARE_SIDES];
-    advice given;
-    harsolvek_receiver wanted; /* by a start: its settings and identity */
+    lent sum;
+    harsolvek_given given;
+    harsolvek_settings settings; /* of a start, as the next two */
+    harsolvek_identity identity;
+    size_t capacity;
     size_t image_size;
 } session;
 
@@ -59,21 +51,28 @@ static void identity_bytes(uint8_t bytes[19], const harsolvek_identity *identity
     bytes[18] = identity->flags4;
 }
 
-/* The library's state with the second's fields, so that nothing is lost. */
-static second_receiver widened(const harsolvek_receiver *state)
+static harsolvek_receiver *library_state(void)
 {
-    second_receiver wide;
-    wide.limit = state->settings.limit;
-    wide.most = state->settings.resends;
-    identity_bytes(wide.identity, &state->identity);
-    wide.capacity = state->capacity;
-    wide.phase = (enum second_receiver_phase)state->phase;
-    wide.blocks = state->accepted.blocks;
-    wide.bytes = state->accepted.bytes;
-    wide.last_short = state->last_short;
-    wide.silence = state->silence;
-    wide.resends = state->resends;
-    return wide;
+    return (harsolvek_receiver *)(void *)roof.state.library;
+}
+
+/* The library's state as the header's functions say its fields. */
+static second_receiver said_state(const harsolvek_receiver *state)
+{
+    const harsolvek_settings settings = harsolvek_receiver_settings(state);
+    const harsolvek_identity identity = harsolvek_receiver_identity(state);
+    second_receiver said;
+    said.limit = settings.limit;
+    said.most = settings.resends;
+    identity_bytes(said.identity, &identity);
+    said.capacity = harsolvek_receiver_capacity(state);
+    said.phase = (enum second_receiver_phase)harsolvek_receiver_phase(state);
+    said.blocks = harsolvek_receiver_blocks(state);
+    said.bytes = harsolvek_receiver_bytes(state);
+    said.last_short = (int)harsolvek_receiver_last_short(state);
+    said.silence = harsolvek_receiver_silence(state);
+    said.resends = harsolvek_receiver_resends(state);
+    return said;
 }
 
 static int same(const second_receiver *a, const second_receiver *b)
@@ -98,33 +97,37 @@ static void print_state(FILE *to, const char *name, const second_receiver *state
 
 static void print_call(FILE *to)
 {
+    const harsolvek_given *given = &session.given;
     cable_print_call(to, &roof);
-    fprintf(to, "  readiness %u, verdict %u, later %u\n", session.given.readiness,
-            session.given.verdict, session.given.later);
-    print_state(to, "state before, or settings", &session.before);
+    fprintf(to, "  readiness %lu, verdict %lu, later %lu; settings %lu and %lu, capacity %lu\n",
+            (unsigned long)given->readiness, (unsigned long)given->verdict,
+            (unsigned long)given->later, (unsigned long)session.settings.limit,
+            (unsigned long)session.settings.resends, (unsigned long)session.capacity);
+    print_state(to, "state before", &session.before);
 }
 
 static void print_answer(FILE *to, enum compare_side side)
 {
-    const second_receiver library = widened(&session.tried.library);
+    const second_receiver library = said_state(library_state());
     cable_print_answer(to, &roof, side);
     fprintf(to, "  sum %u\n", session.sums[side]);
-    print_state(to, "state", side == COMPARE_LIBRARY ? &library : &session.tried.second);
+    print_state(to, "state", side == COMPARE_LIBRARY ? &library : &session.next);
 }
 
 /* The image changes only where a block is taken. */
 static const char *difference(void)
 {
-    const second_receiver library = widened(&session.tried.library);
-    const second_receiver *second = &session.tried.second;
+    const second_receiver library = said_state(library_state());
+    const second_receiver *second = &session.next;
     const char *what = cable_difference(&roof);
-    int taken = second->blocks > session.before.blocks;
+    int taken = second->blocks > session.before.blocks && roof.made.kind == CABLE_MESSAGE;
     size_t at = taken ? (size_t)256 * session.before.blocks : 0;
     size_t count = taken ? second->bytes - session.before.bytes : 0;
     if (what != NULL) {
         return what;
     }
-    if (session.sums[COMPARE_LIBRARY] != session.sums[COMPARE_SECOND]) {
+    if (session.sums[COMPARE_LIBRARY] != session.sums[COMPARE_SECOND] ||
+        !lent_kept(&session.sum, sizeof(uint16_t), 0, sizeof(uint16_t))) {
         return "sum";
     }
     return same(&library, second) ? cable_kept(&roof, session.image_size, at, count) : "state";
@@ -132,136 +135,132 @@ static const char *difference(void)
 
 /* ---- The library ---- */
 
-static void ask_request(harsolvek_receiver_outcome *outcome)
+static uint64_t ask_request(harsolvek_receiver *state)
 {
     const cable_call *made = &roof.made;
     const cable_pointers lent = cable_lend(&roof);
-    const advice given = session.given;
-    if (made->by_pointer) {
-        outcome->number = harsolvek_receiver_request_at(
-            &outcome->state, lent.memory, made->memory_length, lent.message, made->message_length,
-            given.readiness, given.verdict, given.later, lent.out, made->out_length,
-            &outcome->written);
-    } else {
-        *outcome = harsolvek_receiver_request(
-            outcome->state, lent.memory, made->memory_length, lent.message, made->message_length,
-            given.readiness, given.verdict, given.later, lent.out, made->out_length);
+    if (made->raw) {
+        return harsolvek_receiver_request_raw(state, lent.memory, made->memory_length, lent.message,
+                                              made->message_length, &session.given, lent.out,
+                                              made->out_length, lent.written);
     }
+    return harsolvek_receiver_request(state, lent.memory, made->memory_length, lent.message,
+                                      made->message_length, &session.given, lent.out,
+                                      made->out_length, lent.written);
 }
 
-static void ask_time(harsolvek_receiver_outcome *outcome)
+static uint64_t ask_time(harsolvek_receiver *state)
 {
     const cable_call *made = &roof.made;
-    uint8_t *out = cable_lend(&roof).out;
-    if (made->by_pointer) {
-        outcome->number = harsolvek_receiver_time_at(&outcome->state, made->elapsed, out,
-                                                     made->out_length, &outcome->written);
-    } else {
-        *outcome = harsolvek_receiver_time(outcome->state, made->elapsed, out, made->out_length);
+    const cable_pointers lent = cable_lend(&roof);
+    if (made->raw) {
+        return harsolvek_receiver_time_raw(state, made->elapsed, lent.out, made->out_length,
+                                           lent.written);
     }
+    return harsolvek_receiver_time(state, made->elapsed, lent.out, made->out_length, lent.written);
 }
 
-static unsigned ask_sum(harsolvek_receiver_outcome *outcome)
+static uint64_t ask_sum(const harsolvek_receiver *state)
 {
-    harsolvek_sum sum =
-        harsolvek_receiver_sum(outcome->state, cable_lend(&roof).memory, roof.made.memory_length);
-    outcome->number = sum.number;
-    return sum.sum;
+    const uint8_t *image = cable_lend(&roof).memory;
+    uint16_t *sum = (uint16_t *)(void *)session.sum.library;
+    const uint64_t number =
+        roof.made.raw ? harsolvek_receiver_sum_raw(state, image, roof.made.memory_length, sum)
+                      : harsolvek_receiver_sum(state, image, roof.made.memory_length, sum);
+    session.sums[COMPARE_LIBRARY] = *sum;
+    return number;
 }
 
-static void ask_start(harsolvek_receiver_outcome *outcome)
+static uint64_t ask_library_number(harsolvek_receiver *state)
 {
-    const harsolvek_receiver *wanted = &session.wanted;
-    const size_t capacity = session.before.capacity;
-    if (roof.made.by_pointer) {
-        outcome->number = harsolvek_receiver_start_at(&outcome->state, wanted->settings,
-                                                      wanted->identity, capacity);
-    } else {
-        *outcome = harsolvek_receiver_start(wanted->settings, wanted->identity, capacity);
+    switch (roof.made.kind) {
+    case CABLE_MESSAGE:
+        return ask_request(state);
+    case CABLE_TIME:
+        return ask_time(state);
+    case CABLE_SUM:
+        return ask_sum(state);
+    default:
+        return harsolvek_receiver_start(state, &session.settings, &session.identity,
+                                        session.capacity);
     }
 }
 
 static unsigned ask_library(void)
 {
-    harsolvek_receiver_outcome outcome = {session.tried.library, 0, 0};
-    session.sums[COMPARE_LIBRARY] = 0;
-    switch (roof.made.kind) {
-    case CABLE_MESSAGE:
-        ask_request(&outcome);
-        break;
-    case CABLE_TIME:
-        ask_time(&outcome);
-        break;
-    case CABLE_SUM:
-        session.sums[COMPARE_LIBRARY] = ask_sum(&outcome);
-        break;
-    default:
-        ask_start(&outcome);
-        break;
-    }
-    session.tried.library = outcome.state;
-    return cable_heard(&roof, outcome.number, outcome.written);
+    harsolvek_receiver *state = library_state();
+    const uint64_t number = ask_library_number(state);
+    return cable_heard(&roof, COMPARE_LIBRARY, number, harsolvek_receiver_is_session(state));
 }
 
 /* ---- The second one ---- */
 
-/* A verdict that is none is out of range, as a later one with a wait of 0 is: both are 26. */
-static enum second_verdict second_verdict_of(uint8_t verdict)
+static int ask_second_sum(second_receiver *state)
 {
-    switch (verdict) {
-    case HARSOLVEK_VERDICT_GOOD:
-        return SECOND_VERDICT_GOOD;
-    case HARSOLVEK_VERDICT_BAD:
-        return SECOND_VERDICT_BAD;
-    default:
-        return SECOND_VERDICT_LATER;
-    }
+    unsigned sum = 0;
+    uint16_t told;
+    const int number =
+        second_receiver_sum(state, roof.memory.second, roof.made.memory_length, &sum);
+    session.sums[COMPARE_SECOND] = sum;
+    told = (uint16_t)sum;
+    memcpy(session.sum.second, &told, sizeof told);
+    return number;
 }
 
-static int ask_second_request(second_receiver *state, size_t *written)
-{
-    const cable_call *made = &roof.made;
-    const advice given = session.given;
-    unsigned later =
-        given.verdict >= HARSOLVEK_VERDICT_GOOD && given.verdict <= HARSOLVEK_VERDICT_LATER
-            ? given.later
-            : 0;
-    return second_receiver_request(state, roof.memory.second, made->memory_length,
-                                   roof.message.second, made->message_length, given.readiness,
-                                   second_verdict_of(given.verdict), later, roof.out.second,
-                                   made->out_length, written);
-}
-
-/* A start is made where there is nothing yet. */
 static int ask_second_start(second_receiver *state)
 {
-    const second_receiver *given = &session.before;
-    memset(state, 0, sizeof *state);
-    return second_receiver_start(state, given->limit, given->most, given->identity,
-                                 given->capacity);
+    uint8_t identity[19];
+    identity_bytes(identity, &session.identity);
+    return second_receiver_start(state, session.settings.limit, session.settings.resends, identity,
+                                 session.capacity);
 }
 
-static int ask_second_number(second_receiver *state, size_t *written, unsigned *sum)
+static int ask_second_number(second_receiver *state)
 {
-    switch (roof.made.kind) {
+    const cable_call *made = &roof.made;
+    const harsolvek_given *given = &session.given;
+    switch (made->kind) {
     case CABLE_MESSAGE:
-        return ask_second_request(state, written);
+        return second_receiver_request(state, roof.memory.second, made->memory_length,
+                                       roof.message.second, made->message_length, given->readiness,
+                                       given->verdict, given->later, roof.out.second,
+                                       made->out_length, cable_second_written(&roof));
     case CABLE_TIME:
-        return second_receiver_time(state, roof.made.elapsed, roof.out.second, roof.made.out_length,
-                                    written);
+        return second_receiver_time(state, made->elapsed, roof.out.second, made->out_length,
+                                    cable_second_written(&roof));
     case CABLE_SUM:
-        return second_receiver_sum(state, roof.memory.second, roof.made.memory_length, sum);
+        return ask_second_sum(state);
     default:
         return ask_second_start(state);
     }
 }
 
+/* Where there is no session: nothing is written, and the sum is 0. */
+static int ask_second_refused(uint32_t *word)
+{
+    const uint16_t no_sum = 0;
+    if (roof.made.kind == CABLE_SUM) {
+        memcpy(session.sum.second, &no_sum, sizeof no_sum);
+    } else {
+        *cable_second_written(&roof) = 0;
+    }
+    return second_receiver_refuse(word, roof.out.second,
+                                  lent_part(roof.made.out_length, DRAW_OUT_MOST));
+}
+
 static void ask_second(void)
 {
-    cable_answer *said = &roof.said[COMPARE_SECOND];
-    unsigned sum = 0;
-    said->number = (unsigned)ask_second_number(&session.tried.second, &said->written, &sum);
-    session.sums[COMPARE_SECOND] = sum;
+    uint32_t *word = cable_words(roof.state.second);
+    second_receiver *state = &session.next;
+    second_receiver left;
+    int number;
+    if (!second_receiver_read(state, word) && roof.made.kind != CABLE_START) {
+        number = ask_second_refused(word);
+    } else {
+        number = ask_second_number(state);
+        second_receiver_lay(state, word);
+    }
+    cable_heard(&roof, COMPARE_SECOND, (uint64_t)number, second_receiver_read(&left, word));
 }
 
 /* ---- Inputs ---- */
@@ -301,7 +300,7 @@ static uint8_t draw_type(choice *from, enum second_receiver_phase phase)
 
 static size_t draw_request(choice *from, uint8_t *bytes)
 {
-    const second_receiver *state = &session.now.second;
+    const second_receiver *state = &session.now;
     bytes[1] = draw_type(from, state->phase);
     switch (bytes[1]) {
     case INITIATE:
@@ -318,20 +317,25 @@ static size_t draw_request(choice *from, uint8_t *bytes)
     }
 }
 
-static uint8_t draw_later(choice *from)
+static uint32_t draw_later(choice *from)
 {
-    static const uint32_t wrong[] = {0, 255};
-    const uint32_t waits[] = {1, 254, 1 + choice_below(from, 254)};
-    return (uint8_t)(choice_one_in(from, 6) ? CHOICE_OF(from, wrong) : CHOICE_OF(from, waits));
+    const uint32_t good[] = {1, 254, 1 + choice_below(from, 254)};
+    const uint32_t wrong[] = {0, 255, draw_cut(from, CHOICE_OF(from, good), 8)};
+    return choice_one_in(from, 6) ? CHOICE_OF(from, wrong) : CHOICE_OF(from, good);
 }
 
-static uint8_t draw_verdict(choice *from)
+static uint32_t draw_verdict(choice *from)
 {
     static const uint32_t verdicts[] = {HARSOLVEK_VERDICT_GOOD, HARSOLVEK_VERDICT_BAD,
                                         HARSOLVEK_VERDICT_LATER};
-    static const uint32_t unknown[] = {0, 4, 255};
-    return (uint8_t)(choice_one_in(from, 24) ? CHOICE_OF(from, unknown)
-                                             : CHOICE_OF(from, verdicts));
+    const uint32_t unknown[] = {0, 4, 255, draw_cut(from, CHOICE_OF(from, verdicts), 8)};
+    return choice_one_in(from, 24) ? CHOICE_OF(from, unknown) : CHOICE_OF(from, verdicts);
+}
+
+static uint32_t draw_readiness(choice *from)
+{
+    const uint32_t wait = draw_wait(from);
+    return choice_one_in(from, 32) ? draw_cut(from, wait, 8) : wait;
 }
 
 /* Near the end of a large image, as if up to 4,095 whole blocks had been accepted, or to where
@@ -340,17 +344,24 @@ static uint8_t draw_verdict(choice *from)
  * blocks held that. */
 static void jump(choice *from)
 {
-    unsigned whole = (unsigned)(session.now.second.capacity / 256);
+    second_receiver *state = &session.now;
+    unsigned whole = (unsigned)(state->capacity / 256);
     unsigned back = choice_below(from, 3);
     unsigned blocks = whole >= 4000 && !choice_one_in(from, 8) ? whole - back : 256 - back;
-    if (session.now.second.phase != SECOND_TRANSFER || session.now.second.blocks != 0 ||
-        whole < blocks) {
-        return;
+    if (state->phase == SECOND_TRANSFER && state->blocks == 0 && whole >= blocks) {
+        state->blocks = blocks;
+        state->bytes = (size_t)256 * blocks;
     }
-    session.now.second.blocks = blocks;
-    session.now.second.bytes = (size_t)256 * blocks;
-    session.now.library.accepted.blocks = (uint16_t)blocks;
-    session.now.library.accepted.bytes = (uint32_t)256 * blocks;
+}
+
+/* Both get the session. */
+static void spread(void)
+{
+    second_receiver_lay(&session.now, cable_words(roof.state.before));
+    cable_spread(&roof);
+    lent_wipe(&session.sum, sizeof(uint16_t), 0xA5);
+    memset(session.sums, 0, sizeof session.sums);
+    session.before = session.now;
 }
 
 static void draw_call(compare_run *run)
@@ -359,7 +370,7 @@ static void draw_call(compare_run *run)
         CABLE_MESSAGE, CABLE_MESSAGE, CABLE_MESSAGE, CABLE_MESSAGE, CABLE_MESSAGE,
         CABLE_MESSAGE, CABLE_MESSAGE, CABLE_TIME,    CABLE_TIME,    CABLE_SUM};
     choice *from = &run->from;
-    const second_receiver *state = &session.now.second;
+    const second_receiver *state = &session.now;
     enum cable_kind kind;
     if (choice_one_in(from, 2)) {
         jump(from);
@@ -369,14 +380,13 @@ static void draw_call(compare_run *run)
     cable_draw(&roof, run, kind, draw_lent_length(from, state->capacity));
     if (kind == CABLE_MESSAGE) {
         cable_draw_message(&roof, from, draw_request);
-        session.given.readiness = draw_wait(from);
+        session.given.readiness = draw_readiness(from);
         session.given.verdict = draw_verdict(from);
         session.given.later = draw_later(from);
     } else if (kind == CABLE_TIME) {
         roof.made.elapsed = draw_elapsed(from, state->limit, state->limit - state->silence);
     }
-    session.tried = session.now;
-    session.before = *state;
+    spread();
 }
 
 static harsolvek_identity draw_identity(choice *from)
@@ -403,9 +413,9 @@ static harsolvek_identity draw_identity(choice *from)
 static size_t draw_capacity(choice *from)
 {
     static const size_t too_large[] = {HARSOLVEK_IMAGE_MOST + 1, (size_t)UINT32_MAX + 1,
-                                       (size_t)UINT32_MAX + 257, SIZE_MAX};
+                                       (size_t)UINT32_MAX + 601, SIZE_MAX};
     size_t large;
-    if (choice_one_in(from, 32)) {
+    if (choice_one_in(from, 16)) {
         return too_large[choice_below(from, 4)];
     }
     large = draw_large_length(from, 4095 * 256 - 1);
@@ -415,79 +425,68 @@ static size_t draw_capacity(choice *from)
     return choice_one_in(from, 12) ? 0 : draw_small_length(from);
 }
 
+/* A start is made where another session was, or nothing yet. */
 static void draw_start(compare_run *run)
 {
-    harsolvek_settings settings = draw_settings(&run->from);
-    harsolvek_identity identity = draw_identity(&run->from);
-    session.wanted = (harsolvek_receiver){settings, identity, 0, {0, 0}, 0, 0, 0, 0};
-    session.tried = session.now;
-    session.before = widened(&session.wanted);
-    session.before.capacity = draw_capacity(&run->from);
+    session.settings = draw_settings(&run->from);
+    session.identity = draw_identity(&run->from);
+    session.capacity = draw_capacity(&run->from);
     cable_next(&roof, run, CABLE_START);
-    roof.made.by_pointer = choice_one_in(&run->from, 4);
+    cable_move(&roof, &run->from);
+    spread();
 }
 
 /* Good ends only with a new session (01, The receiver's phases). */
 static int over(choice *from)
 {
-    return choice_one_in(from, session.now.second.phase == SECOND_GOOD ? 12 : 100);
+    return choice_one_in(from, session.now.phase == SECOND_GOOD ? 12 : 100);
 }
 
 /* ---- Damaged states ---- */
 
-/* What the library's header says of a session. Of `silence`, `resends` and, outside Idle,
- * `accepted` it says nothing, so any number there is one. */
-static int is_session(const harsolvek_receiver *state)
+static void damage_words(choice *from, uint32_t *word)
 {
-    if (!cable_allows(state->settings) || state->capacity > HARSOLVEK_IMAGE_MOST ||
-        state->phase > HARSOLVEK_RECEIVER_GOOD || state->last_short > 1) {
-        return 0;
-    }
-    if (state->last_short == 1 && state->phase != HARSOLVEK_RECEIVER_TRANSFER) {
-        return 0;
-    }
-    return state->phase != HARSOLVEK_RECEIVER_IDLE ||
-           (state->accepted.blocks == 0 && state->accepted.bytes == 0);
-}
-
-static void damage_state(choice *from, harsolvek_receiver *state)
-{
-    const uint32_t bytes[] = {0xFFFFFFFF, state->capacity + 1, state->capacity,
-                              draw_wrong(from, 1, 0xFFFFFFFF)};
-    switch (draw_damage(from, 12, state, sizeof *state)) {
-    case 1:
-        state->phase = draw_code(from, 4);
-        break;
-    case 2:
-        state->last_short = (uint8_t)draw_wrong(from, 1 + choice_below(from, 2), 255);
-        break;
-    case 3:
-        state->accepted.blocks = (uint16_t)draw_wrong(from, 1, 65535);
-        break;
+    const uint32_t bytes[] = {0xFFFFFFFF, word[2] + 1, word[2], draw_wrong(from, 1, 0xFFFFFFFF)};
+    const uint32_t blocks[] = {draw_wrong(from, 1, 65535), draw_wrong(from, 65536, 0xFFFFFFFF)};
+    switch (draw_damage(from, 16, word, SECOND_RECEIVER_WORDS)) {
     case 4:
-        state->accepted.bytes = CHOICE_OF(from, bytes);
+        word[0] = draw_wrong_limit(from);
         break;
     case 5:
-        state->settings.limit = draw_wrong_limit(from);
+        word[1] = draw_wrong_resends(from);
         break;
     case 6:
-        state->settings.resends = (uint8_t)draw_wrong(from, 11, 255);
+        word[2] = draw_wrong(from, HARSOLVEK_IMAGE_MOST + 1, 0xFFFFFFFF);
         break;
     case 7:
-        state->capacity = draw_wrong(from, HARSOLVEK_IMAGE_MOST + 1, 0xFFFFFFFF);
+        word[3] = draw_code(from, 4);
         break;
     case 8:
-        state->silence = (uint16_t)draw_wrong(from, state->settings.limit, 65535);
+        word[4] = CHOICE_OF(from, blocks);
         break;
     case 9:
-        state->resends = (uint8_t)draw_wrong(from, state->settings.resends, 255);
+        word[5] = CHOICE_OF(from, bytes);
         break;
     case 10:
-        state->accepted.blocks = (uint16_t)draw_wrong(from, 1, 65535);
-        state->accepted.bytes = CHOICE_OF(from, bytes);
+        word[4] = blocks[0];
+        word[5] = CHOICE_OF(from, bytes);
         break;
     case 11:
-        state->phase = HARSOLVEK_RECEIVER_IDLE;
+        word[6] = draw_wrong(from, 1 + choice_below(from, 2), 0xFFFFFFFF);
+        break;
+    case 12:
+        word[7] =
+            choice_one_in(from, 2) ? draw_cut(from, word[7], 16) : draw_wrong(from, word[0], 65535);
+        break;
+    case 13:
+        word[8] =
+            choice_one_in(from, 2) ? draw_cut(from, word[8], 8) : draw_wrong(from, word[1], 255);
+        break;
+    case 14:
+        word[13] |= draw_wrong(from, 1, 255) << 24;
+        break;
+    case 15:
+        word[3] = HARSOLVEK_RECEIVER_IDLE;
         break;
     }
 }
@@ -495,25 +494,24 @@ static void damage_state(choice *from, harsolvek_receiver *state)
 /* A block mostly has the number that is due now. */
 static int damage(choice *from)
 {
-    harsolvek_receiver *state = &session.tried.library;
-    damage_state(from, state);
+    uint32_t *word = cable_words(roof.state.before);
+    damage_words(from, word);
     if (roof.made.kind == CABLE_MESSAGE && !choice_one_in(from, 3)) {
-        draw_put(roof.message.before + 2, state->accepted.blocks);
+        draw_put(roof.message.before + 2, word[4]);
         lent_spread(&roof.message, DRAW_MESSAGE_MOST);
     }
-    session.before = widened(state);
-    session.sums[COMPARE_SECOND] = 0;
-    session.tried.second = session.before;
-    roof.said[COMPARE_SECOND].number = HARSOLVEK_SETTINGS;
-    return is_session(state);
+    cable_spread(&roof);
+    return second_receiver_read(&session.before, word);
 }
 
 /* No rule says what so many accepted blocks and bytes lead to. The image changes only where a block
  * is taken, at 256 times its number. */
 static const char *wrong(void)
 {
+    second_receiver left;
+    const int stands = second_receiver_read(&left, cable_words(roof.state.library));
     const uint8_t *request = roof.message.before;
-    const char *what = cable_wrong(&roof);
+    const char *what = cable_wrong(&roof, stands);
     int done = roof.said[COMPARE_LIBRARY].number == HARSOLVEK_TAKEN;
     int taken = done && roof.made.kind == CABLE_MESSAGE && request[1] == DATA &&
                 session.before.phase == SECOND_TRANSFER && roof.made.message_length > 4;
@@ -522,18 +520,18 @@ static const char *wrong(void)
     if (what != NULL) {
         return what;
     }
-    if (!done && session.sums[COMPARE_LIBRARY] != 0) {
+    if ((!done && session.sums[COMPARE_LIBRARY] != 0) ||
+        !lent_held(&session.sum, sizeof(uint16_t), 0, sizeof(uint16_t))) {
         return "sum";
     }
-    return is_session(&session.tried.library) ? cable_held(&roof, session.image_size, at, count)
-                                              : "state, which is no session";
+    return cable_held(&roof, session.image_size, at, count);
 }
 
 /* ---- The calls ---- */
 
 static void lay_image(size_t size, size_t shift, uint8_t byte)
 {
-    lent_lay(&roof.memory, image_arenas, sizeof image_arenas / 3, shift);
+    lent_lay(&roof.memory, image_arenas, sizeof image_arenas, shift);
     lent_fill(&roof.memory, size, byte);
     session.image_size = size;
 }
@@ -541,7 +539,9 @@ static void lay_image(size_t size, size_t shift, uint8_t byte)
 static void begin(void)
 {
     memset(&session, 0, sizeof session);
-    cable_begin(&roof, "image", "request");
+    cable_begin(&roof, "image", "request", SECOND_RECEIVER_WORDS);
+    lent_lay(&session.sum, sum_arenas, sizeof sum_arenas, 2);
+    lent_fill(&session.sum, sizeof(uint16_t), 0xA5);
     lay_image(0, 0, 0xA5);
 }
 
@@ -551,7 +551,7 @@ static void count(coverage *met)
     if (roof.made.kind != CABLE_SUM) {
         cable_count(&roof, met, before->phase);
     }
-    if (session.now.second.blocks > before->blocks) {
+    if (session.now.blocks > before->blocks) {
         coverage_block(met, before->blocks);
     }
     coverage_size(met, before->capacity);
@@ -559,10 +559,9 @@ static void count(coverage *met)
 
 static void settle(compare_run *run)
 {
-    session.now = session.tried;
+    session.now = session.next;
     if (roof.made.kind == CABLE_START) {
-        lay_image(session.before.capacity, choice_below(&run->from, LENT_SHIFTS),
-                  (uint8_t)run->made);
+        lay_image(session.capacity, choice_below(&run->from, LENT_SHIFTS), (uint8_t)run->made);
     } else {
         count(&run->met);
     }

@@ -2,11 +2,11 @@
 
 #include <string.h>
 
-void lent_lay(lent *memory, uint8_t *arenas, size_t size, size_t shift)
+void lent_lay(lent *memory, void *arenas, size_t size, size_t shift)
 {
-    memory->library = arenas + LENT_GUARD + shift;
-    memory->second = memory->library + size;
-    memory->before = memory->second + size;
+    memory->library = (uint8_t *)arenas + LENT_GUARD + shift;
+    memory->second = memory->library + size / 3;
+    memory->before = memory->second + size / 3;
 }
 
 void lent_fill(const lent *memory, size_t length, uint8_t byte)
@@ -63,6 +63,11 @@ int lent_held(const lent *memory, size_t length, size_t at, size_t count)
     }
     memcpy(memory->library + at, memory->before + at, count);
     return 1;
+}
+
+size_t lent_part(size_t length, size_t most)
+{
+    return length < most ? length : most;
 }
 
 uint8_t *lent_or_null(uint8_t *bytes, size_t length, int null)

@@ -1,6 +1,6 @@
 /*
- * Memory that is lent: a copy for each implementation and one of what it held before the call, each
- * between guards that nobody may write.
+ * Memory that is lent, states and outputs among it: a copy for each implementation and one of what
+ * it held before the call, each between guards that nobody may write.
  */
 #ifndef LENT_H
 #define LENT_H
@@ -14,7 +14,11 @@
 /* The lent memory begins at any of so many places, so that it is not always aligned. */
 #define LENT_SHIFTS 16u
 
-#define LENT_SIZE(most) (LENT_GUARD + LENT_SHIFTS + (most) + LENT_GUARD)
+/* A multiple of 8, so that every arena is aligned as the first one is. */
+#define LENT_SIZE(most) (LENT_GUARD + LENT_SHIFTS + ((most) + 7) / 8 * 8 + LENT_GUARD)
+
+/* Three arenas for `most` bytes, which begin where a `type` may lie. */
+#define LENT_ARENAS(type, name, most) static type name[3 * LENT_SIZE(most) / sizeof(type)]
 
 typedef struct lent {
     uint8_t *library;
@@ -22,8 +26,8 @@ typedef struct lent {
     uint8_t *before;
 } lent;
 
-/* Lays out three arenas of LENT_SIZE(most) bytes each, one behind the other. */
-void lent_lay(lent *memory, uint8_t *arenas, size_t size, size_t shift);
+/* Lays out three arenas, `size` bytes in all, one behind the other. */
+void lent_lay(lent *memory, void *arenas, size_t size, size_t shift);
 
 /* Fills `length` bytes and both guards. */
 void lent_fill(const lent *memory, size_t length, uint8_t byte);
@@ -42,6 +46,9 @@ int lent_kept(const lent *memory, size_t length, size_t at, size_t count);
 /* Whether the library's copy and its guards are, but for `count` bytes at `at`, as before. Puts
  * these back: the library alone was called. */
 int lent_held(const lent *memory, size_t length, size_t at, size_t count);
+
+/* So much of a length as there is memory: at times a call is told of more. */
+size_t lent_part(size_t length, size_t most);
 
 /* What the library is lent: null for nothing at times, which its header allows. */
 uint8_t *lent_or_null(uint8_t *bytes, size_t length, int null);

@@ -51,9 +51,9 @@ static size_t smaller(size_t one, size_t other)
 
 static const char *check_phases(line_session *s)
 {
-    const int good = s->receiver.phase == HARSOLVEK_RECEIVER_GOOD;
-    const int done = s->indoor.phase == HARSOLVEK_INDOOR_DONE;
-    if (good && s->receiver.accepted.bytes != s->length) {
+    const int good = harsolvek_receiver_phase(&s->receiver) == HARSOLVEK_RECEIVER_GOOD;
+    const int done = harsolvek_indoor_phase(&s->indoor) == HARSOLVEK_INDOOR_DONE;
+    if (good && harsolvek_receiver_bytes(&s->receiver) != s->length) {
         return "Good without the whole file";
     }
     if (good && s->kind == LINE_UNSIGNED) {
@@ -74,14 +74,14 @@ static const char *check_phases(line_session *s)
  * back in Idle (01, The receiver's phases); after them, what was there before the session. */
 static const char *check_image(line_session *s)
 {
-    const harsolvek_accepted accepted = s->receiver.accepted;
-    if (accepted.bytes != smaller((size_t)accepted.blocks * HARSOLVEK_BLOCK_MOST, s->length) ||
-        accepted.bytes > s->capacity) {
+    const size_t blocks = harsolvek_receiver_blocks(&s->receiver);
+    const size_t bytes = harsolvek_receiver_bytes(&s->receiver);
+    if (bytes != smaller(blocks * HARSOLVEK_BLOCK_MOST, s->length) || bytes > s->capacity) {
         return "the accepted bytes are not those of so many blocks";
     }
-    if (accepted.bytes > s->placed) {
-        memcpy(s->expected + s->placed, s->file + s->placed, accepted.bytes - s->placed);
-        s->placed = accepted.bytes;
+    if (bytes > s->placed) {
+        memcpy(s->expected + s->placed, s->file + s->placed, bytes - s->placed);
+        s->placed = bytes;
     }
     if (memcmp(s->image, s->expected, s->placed) != 0) {
         return "an accepted byte is not the file's";
@@ -90,7 +90,7 @@ static const char *check_image(line_session *s)
                s->capacity + LINE_GUARD - s->placed) != 0) {
         return "a byte has changed where no block was accepted";
     }
-    if (s->sum.number != HARSOLVEK_TAKEN || s->sum.sum != s->sums[accepted.bytes]) {
+    if (s->sum_answered != HARSOLVEK_TAKEN || s->sum != s->sums[bytes]) {
         return "the sum is not that of the accepted bytes";
     }
     return NULL;
@@ -150,7 +150,8 @@ static const char *check_end(const line_session *s)
 
 static int has_ended(const line_session *s)
 {
-    return s->indoor.phase == HARSOLVEK_INDOOR_DONE || s->indoor.phase == HARSOLVEK_INDOOR_FAILED;
+    const uint32_t phase = harsolvek_indoor_phase(&s->indoor);
+    return phase == HARSOLVEK_INDOOR_DONE || phase == HARSOLVEK_INDOOR_FAILED;
 }
 
 /* Plays until the indoor end has ended and a while longer; a clean session until nothing is in
@@ -178,7 +179,7 @@ static void count(const line_session *s)
 {
     unsigned long *ended = s->done ? tally.done : has_ended(s) ? tally.failed : tally.unfinished;
     ended[s->kind]++;
-    tally.reasons[s->indoor.reason]++;
+    tally.reasons[harsolvek_indoor_reason(&s->indoor)]++;
     tally.longest += s->length > LINE_CARRY;
     tally.longest_done += s->length > LINE_CARRY && s->done;
     tally.all.sent += s->counts.sent;
@@ -269,9 +270,12 @@ static void tell(FILE *to, const void *failed)
     print_failure(to, what->words);
     fprintf(to, "  %s; file %lu bytes, image memory %lu\n", kinds[s->kind],
             (unsigned long)s->length, (unsigned long)s->capacity);
-    fprintf(to, "  receiver: phase %u, blocks %u, bytes %lu; indoor end: phase %u, reason %u\n",
-            s->receiver.phase, s->receiver.accepted.blocks,
-            (unsigned long)s->receiver.accepted.bytes, s->indoor.phase, s->indoor.reason);
+    fprintf(to, "  receiver: phase %u, blocks %u, bytes %lu; ",
+            (unsigned)harsolvek_receiver_phase(&s->receiver),
+            (unsigned)harsolvek_receiver_blocks(&s->receiver),
+            (unsigned long)harsolvek_receiver_bytes(&s->receiver));
+    fprintf(to, "indoor end: phase %u, reason %u\n", (unsigned)harsolvek_indoor_phase(&s->indoor),
+            (unsigned)harsolvek_indoor_reason(&s->indoor));
     lent_print(to, "arrived", s->arrived.bytes, s->arrived.length);
     fprintf(to, "  answered %u\n", s->answered);
     order_print_again(to, "line", &again);

@@ -79,11 +79,12 @@ typedef struct line_session {
     line_counts counts;
     line_message arrived; /* in the last step; its length is 0 for none */
     uint8_t answered;     /* in the last step */
-    harsolvek_sum sum;    /* behind the last step */
-    size_t placed;        /* so many of the file's bytes have been in the image */
-    int good;             /* the receiver has been */
-    int done;             /* the indoor end has been */
-    int harmed;           /* by a fault that is made once */
+    uint8_t sum_answered; /* when the sum was asked for behind the last step */
+    uint16_t sum;
+    size_t placed; /* so many of the file's bytes have been in the image */
+    int good;      /* the receiver has been */
+    int done;      /* the indoor end has been */
+    int harmed;    /* by a fault that is made once */
     uint8_t file[LINE_FILE_MOST];
     uint16_t sums[LINE_FILE_MOST + 1]; /* of the file's first bytes */
     uint8_t image[LINE_FILE_MOST + LINE_ROOM + LINE_GUARD];

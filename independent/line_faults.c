@@ -2,6 +2,19 @@
 
 #include "line.h"
 
+/* The words of a state that a fault changes, where include/harsolvek.h reads them. */
+enum { PHASE = 3, BLOCKS = 4, BYTES = 5, VENDOR_PRODUCT = 10, VERSIONS = 11 };
+
+static int receiver_in(const line_session *s, enum harsolvek_receiver_phase phase)
+{
+    return harsolvek_receiver_phase(&s->receiver) == (uint32_t)phase;
+}
+
+static int indoor_in(const line_session *s, enum harsolvek_indoor_phase phase)
+{
+    return harsolvek_indoor_phase(&s->indoor) == (uint32_t)phase;
+}
+
 static int block_arrived(const line_session *s)
 {
     return s->arrived.length > LINE_HEAD && s->arrived.bytes[1] == LINE_DATA;
@@ -9,14 +22,14 @@ static int block_arrived(const line_session *s)
 
 static void append_repeated(line_session *s)
 {
-    harsolvek_accepted *accepted = &s->receiver.accepted;
+    const size_t bytes = harsolvek_receiver_bytes(&s->receiver);
     if (block_arrived(s) && s->answered == HARSOLVEK_NOT_DUE &&
-        line_number(&s->arrived) < accepted->blocks) {
+        line_number(&s->arrived) < harsolvek_receiver_blocks(&s->receiver)) {
         const size_t length = s->arrived.length - LINE_HEAD;
-        if (accepted->bytes + length <= s->length) {
-            memcpy(s->image + accepted->bytes, s->arrived.bytes + LINE_HEAD, length);
-            accepted->blocks++;
-            accepted->bytes += (uint32_t)length;
+        if (bytes + length <= s->length) {
+            memcpy(s->image + bytes, s->arrived.bytes + LINE_HEAD, length);
+            s->receiver.word[BLOCKS]++;
+            s->receiver.word[BYTES] += (uint32_t)length;
         }
     }
 }
@@ -24,7 +37,7 @@ static void append_repeated(line_session *s)
 static void store_first_only(line_session *s)
 {
     if (block_arrived(s) && s->answered == HARSOLVEK_TAKEN &&
-        s->receiver.phase == HARSOLVEK_RECEIVER_TRANSFER) {
+        receiver_in(s, HARSOLVEK_RECEIVER_TRANSFER)) {
         const size_t at = line_number(&s->arrived) * HARSOLVEK_BLOCK_MOST;
         if (at > 0) {
             memcpy(s->image + at, s->expected + at, s->arrived.length - LINE_HEAD);
@@ -34,15 +47,16 @@ static void store_first_only(line_session *s)
 
 static void change_good_image(line_session *s)
 {
-    if (s->receiver.phase == HARSOLVEK_RECEIVER_GOOD) {
+    if (receiver_in(s, HARSOLVEK_RECEIVER_GOOD)) {
         s->image[s->length - 1] ^= 1;
     }
 }
 
 static void change_beyond(line_session *s)
 {
-    if (s->receiver.accepted.bytes > 0) {
-        s->image[s->receiver.accepted.bytes] ^= 1;
+    const size_t bytes = harsolvek_receiver_bytes(&s->receiver);
+    if (bytes > 0) {
+        s->image[bytes] ^= 1;
     }
 }
 
@@ -60,7 +74,7 @@ static void bring_earlier_block(line_session *s)
 {
     line_message *oldest = &s->requests.messages[0];
     const int at_block_0 =
-        s->receiver.phase == HARSOLVEK_RECEIVER_TRANSFER && s->receiver.accepted.blocks == 0;
+        receiver_in(s, HARSOLVEK_RECEIVER_TRANSFER) && harsolvek_receiver_blocks(&s->receiver) == 0;
     if (!s->harmed && s->kind != LINE_CLEAN && at_block_0) {
         static const uint8_t head[LINE_HEAD] = {1, LINE_DATA, 0, 0};
         const size_t length = s->length < HARSOLVEK_BLOCK_MOST ? s->length : HARSOLVEK_BLOCK_MOST;
@@ -74,47 +88,48 @@ static void bring_earlier_block(line_session *s)
 
 static void be_done_early(line_session *s)
 {
-    if (s->indoor.phase == HARSOLVEK_INDOOR_VALIDATE) {
-        s->indoor.phase = HARSOLVEK_INDOOR_DONE;
+    if (indoor_in(s, HARSOLVEK_INDOOR_VALIDATE)) {
+        s->indoor.word[PHASE] = HARSOLVEK_INDOOR_DONE;
     }
 }
 
 static void be_good_early(line_session *s)
 {
-    const size_t bytes = s->receiver.accepted.bytes;
-    if (s->receiver.phase == HARSOLVEK_RECEIVER_TRANSFER && bytes > 0 && bytes < s->length) {
-        s->receiver.phase = HARSOLVEK_RECEIVER_GOOD;
+    const size_t bytes = harsolvek_receiver_bytes(&s->receiver);
+    if (receiver_in(s, HARSOLVEK_RECEIVER_TRANSFER) && bytes > 0 && bytes < s->length) {
+        s->receiver.word[PHASE] = HARSOLVEK_RECEIVER_GOOD;
     }
 }
 
 static void be_good_unsigned(line_session *s)
 {
-    if (s->kind == LINE_UNSIGNED && s->receiver.phase == HARSOLVEK_RECEIVER_AWAIT) {
-        s->receiver.phase = HARSOLVEK_RECEIVER_GOOD;
+    if (s->kind == LINE_UNSIGNED && receiver_in(s, HARSOLVEK_RECEIVER_AWAIT)) {
+        s->receiver.word[PHASE] = HARSOLVEK_RECEIVER_GOOD;
     }
 }
 
 static void forget_good(line_session *s)
 {
     if (s->done) {
-        memset(&s->receiver.accepted, 0, sizeof s->receiver.accepted);
-        s->receiver.phase = HARSOLVEK_RECEIVER_IDLE;
+        s->receiver.word[BLOCKS] = 0;
+        s->receiver.word[BYTES] = 0;
+        s->receiver.word[PHASE] = HARSOLVEK_RECEIVER_IDLE;
     }
 }
 
 static void count_byte_less(line_session *s)
 {
-    s->receiver.accepted.bytes -= s->receiver.accepted.bytes > 0;
+    s->receiver.word[BYTES] -= s->receiver.word[BYTES] > 0;
 }
 
 static void add_to_sum(line_session *s)
 {
-    s->sum.sum++;
+    s->sum++;
 }
 
 static void count_request_twice(line_session *s)
 {
-    if (!s->harmed && s->indoor.phase == HARSOLVEK_INDOOR_DONE) {
+    if (!s->harmed && indoor_in(s, HARSOLVEK_INDOOR_DONE)) {
         s->counts.sent++;
         s->harmed = 1;
     }
@@ -130,26 +145,25 @@ static void lose_in_clean(line_session *s)
 
 static void end_good(line_session *s)
 {
-    if (s->good && s->indoor.phase != HARSOLVEK_INDOOR_DONE) {
-        s->receiver.phase = HARSOLVEK_RECEIVER_AWAIT;
+    if (s->good && !indoor_in(s, HARSOLVEK_INDOOR_DONE)) {
+        s->receiver.word[PHASE] = HARSOLVEK_RECEIVER_AWAIT;
     }
 }
 
 static void end_done(line_session *s)
 {
     if (s->done) {
-        s->indoor.phase = HARSOLVEK_INDOOR_FAILED;
+        s->indoor.word[PHASE] = HARSOLVEK_INDOOR_FAILED;
     }
 }
 
 /* As if the release that is offered were the receiver's own, and newer. */
 static void offer_as_newer(line_session *s)
 {
-    harsolvek_release *release = &s->indoor.plan.release;
-    if (s->kind == LINE_OLD && s->indoor.phase == HARSOLVEK_INDOOR_IDENTIFY) {
-        release->vendor = s->receiver.identity.vendor;
-        release->product = s->receiver.identity.product;
-        release->versions.first = 65535;
+    const harsolvek_identity identity = harsolvek_receiver_identity(&s->receiver);
+    if (s->kind == LINE_OLD && indoor_in(s, HARSOLVEK_INDOOR_IDENTIFY)) {
+        s->indoor.word[VENDOR_PRODUCT] = identity.vendor + 65536u * identity.product;
+        s->indoor.word[VERSIONS] |= 65535;
     }
 }
 

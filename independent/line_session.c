@@ -96,8 +96,8 @@ static void draw_rates(line_session *s)
 static harsolvek_settings some_settings(choice *from)
 {
     harsolvek_settings settings;
-    settings.limit = (uint16_t)(HARSOLVEK_LIMIT_LEAST + choice_below(from, HARSOLVEK_LIMIT_MOST));
-    settings.resends = (uint8_t)choice_below(from, HARSOLVEK_RESENDS_MOST + 1);
+    settings.limit = HARSOLVEK_LIMIT_LEAST + choice_below(from, HARSOLVEK_LIMIT_MOST);
+    settings.resends = choice_below(from, HARSOLVEK_RESENDS_MOST + 1);
     return settings;
 }
 
@@ -178,20 +178,21 @@ static const char *start_ends(line_session *s)
     const harsolvek_release release = some_release(from);
     harsolvek_settings indoor = some_settings(from);
     harsolvek_settings receiver = some_settings(from);
+    harsolvek_identity identity;
     uint8_t out[HARSOLVEK_MESSAGE_MOST];
     size_t written;
     uint8_t number;
     if (s->steady) {
-        receiver.limit = (uint16_t)(100 + choice_below(from, 900));
-        indoor.limit = (uint16_t)(receiver.limit * (4 + choice_below(from, 7)));
+        receiver.limit = 100 + choice_below(from, 900);
+        indoor.limit = receiver.limit * (4 + choice_below(from, 7));
         receiver.resends = HARSOLVEK_RESENDS_MOST;
         indoor.resends = HARSOLVEK_RESENDS_MOST;
     }
-    number = harsolvek_receiver_start_at(&s->receiver, receiver, some_identity(s, &release),
-                                         s->capacity);
+    identity = some_identity(s, &release);
+    number = harsolvek_receiver_start(&s->receiver, &receiver, &identity, s->capacity);
     if (number == HARSOLVEK_TAKEN) {
-        number = harsolvek_indoor_start_at(&s->indoor, indoor, release, s->file, s->length, out,
-                                           sizeof out, &written);
+        number = harsolvek_indoor_start(&s->indoor, &indoor, &release, s->file, s->length, out,
+                                        sizeof out, &written);
         put(s, &s->requests, out, written);
     }
     return number == HARSOLVEK_TAKEN ? NULL : "an end does not start";
@@ -211,7 +212,7 @@ const char *line_start(line_session *s, uint64_t seed)
     return start_ends(s);
 }
 
-static uint8_t some_verdict(line_session *s)
+static uint32_t some_verdict(line_session *s)
 {
     if (chance(s, s->rates.later)) {
         return HARSOLVEK_VERDICT_LATER;
@@ -219,8 +220,8 @@ static uint8_t some_verdict(line_session *s)
     if (s->kind == LINE_UNSIGNED) {
         return HARSOLVEK_VERDICT_BAD;
     }
-    if (s->always_good ||
-        (s->receiver.accepted.bytes == s->length && memcmp(s->image, s->file, s->length) == 0)) {
+    if (s->always_good || (harsolvek_receiver_bytes(&s->receiver) == s->length &&
+                           memcmp(s->image, s->file, s->length) == 0)) {
         return HARSOLVEK_VERDICT_GOOD;
     }
     return HARSOLVEK_VERDICT_BAD;
@@ -229,13 +230,14 @@ static uint8_t some_verdict(line_session *s)
 static void request_arrives(line_session *s, const line_message *request)
 {
     const uint32_t wait = 1 + choice_below(&s->choices, HARSOLVEK_WAIT_MOST);
-    const uint8_t readiness = (uint8_t)(chance(s, s->rates.unready) ? wait : 0);
-    const uint8_t later = (uint8_t)(1 + choice_below(&s->choices, HARSOLVEK_WAIT_MOST));
+    harsolvek_given given;
     uint8_t out[HARSOLVEK_MESSAGE_MOST];
     size_t written;
-    s->answered = harsolvek_receiver_request_at(&s->receiver, s->image, s->capacity, request->bytes,
-                                                request->length, readiness, some_verdict(s), later,
-                                                out, sizeof out, &written);
+    given.readiness = chance(s, s->rates.unready) ? wait : 0;
+    given.later = 1 + choice_below(&s->choices, HARSOLVEK_WAIT_MOST);
+    given.verdict = some_verdict(s);
+    s->answered = harsolvek_receiver_request(&s->receiver, s->image, s->capacity, request->bytes,
+                                             request->length, &given, out, sizeof out, &written);
     put(s, &s->responses, out, written);
 }
 
@@ -243,36 +245,36 @@ static void response_arrives(line_session *s, const line_message *response)
 {
     uint8_t out[HARSOLVEK_MESSAGE_MOST];
     size_t written;
-    s->answered = harsolvek_indoor_response_at(&s->indoor, s->file, s->length, response->bytes,
-                                               response->length, out, sizeof out, &written);
+    s->answered = harsolvek_indoor_response(&s->indoor, s->file, s->length, response->bytes,
+                                            response->length, out, sizeof out, &written);
     put(s, &s->requests, out, written);
 }
 
 /* Steady clocks go on by up to the receiver's limit; others by anything that a call takes, and
  * often to a limit exactly. */
-static uint16_t some_time(line_session *s)
+static uint32_t some_time(line_session *s)
 {
     choice *from = &s->choices;
-    const uint32_t receiver_limit = s->receiver.settings.limit;
-    const uint32_t indoor_limit = s->indoor.plan.settings.limit;
+    const uint32_t receiver_limit = harsolvek_receiver_settings(&s->receiver).limit;
+    const uint32_t indoor_limit = harsolvek_indoor_settings(&s->indoor).limit;
     const uint32_t times[] = {receiver_limit, indoor_limit, choice_below(from, indoor_limit),
-                              choice_below(from, 65536)};
-    return (uint16_t)(s->steady ? 1 + choice_below(from, receiver_limit) : CHOICE_OF(from, times));
+                              choice_below(from, 65536), choice_below(from, UINT32_MAX)};
+    return s->steady ? 1 + choice_below(from, receiver_limit) : CHOICE_OF(from, times);
 }
 
 static void pass_time(line_session *s)
 {
-    const uint16_t elapsed = some_time(s);
+    const uint32_t elapsed = some_time(s);
     const uint32_t spared = choice_below(&s->choices, 3);
     uint8_t out[HARSOLVEK_MESSAGE_MOST];
     size_t written;
     if (spared != 1) {
-        s->answered = harsolvek_receiver_time_at(&s->receiver, elapsed, out, sizeof out, &written);
+        s->answered = harsolvek_receiver_time(&s->receiver, elapsed, out, sizeof out, &written);
         put(s, &s->responses, out, written);
     }
     if (spared != 2 && s->answered == HARSOLVEK_TAKEN) {
-        s->answered = harsolvek_indoor_time_at(&s->indoor, s->file, s->length, elapsed, out,
-                                               sizeof out, &written);
+        s->answered = harsolvek_indoor_time(&s->indoor, s->file, s->length, elapsed, out,
+                                            sizeof out, &written);
         put(s, &s->requests, out, written);
     }
 }
@@ -314,5 +316,5 @@ void line_step(line_session *s)
     } else {
         move(s);
     }
-    s->sum = harsolvek_receiver_sum(s->receiver, s->image, s->capacity);
+    s->sum_answered = harsolvek_receiver_sum(&s->receiver, s->image, s->capacity, &s->sum);
 }

@@ -1,7 +1,7 @@
 /*
  * Holds the names of include/harsolvek.h to document 01: each enumerator and each constant against
  * the number that the paper has for it, typed from there and not from the header. Prints what
- * differs. It calls no function of the library.
+ * differs. The header and the library must be of one version too.
  *
  * The exit is 0 if all are as the paper has them, 1 if not.
  */
@@ -81,20 +81,45 @@ static const struct name names[] = {
     NAME(HARSOLVEK_MESSAGE_IN_SIZE, 256),
     NAME(HARSOLVEK_DATA_MOST, 255),
     NAME(HARSOLVEK_CONNECTORS_MOST, 8),
-    NAME(HARSOLVEK_TOLD_NOTHING, 0),
-    NAME(HARSOLVEK_TOLD_RESET_DONE, 1),
-    NAME(HARSOLVEK_TOLD_BUSY, 2),
-    NAME(HARSOLVEK_TOLD_COMPLETED, 3),
-    NAME(HARSOLVEK_TOLD_FAILED, 4),
-    NAME(HARSOLVEK_TOLD_NOT_SUPPORTED, 5),
-    NAME(HARSOLVEK_TOLD_CANCELLED, 6),
-    NAME(HARSOLVEK_TOLD_ACKNOWLEDGED, 7),
+    NAME(HARSOLVEK_STATUS_NOTHING, 0),
+    NAME(HARSOLVEK_STATUS_RESET_DONE, 1),
+    NAME(HARSOLVEK_STATUS_BUSY, 2),
+    NAME(HARSOLVEK_STATUS_COMPLETED, 3),
+    NAME(HARSOLVEK_STATUS_FAILED, 4),
+    NAME(HARSOLVEK_STATUS_NOT_SUPPORTED, 5),
+    NAME(HARSOLVEK_STATUS_CANCELLED, 6),
+    NAME(HARSOLVEK_STATUS_ACKNOWLEDGED, 7),
+
+    /* 01, Replay program: the kinds, and the longest record and line. What is found at a place is
+     * the header's own. */
+    NAME(HARSOLVEK_RECORD_CONTROL, 1),
+    NAME(HARSOLVEK_RECORD_CHANGE, 2),
+    NAME(HARSOLVEK_RECORD_SUCCESS, 3),
+    NAME(HARSOLVEK_RECORD_FAILURE, 4),
+    NAME(HARSOLVEK_RECORD_MOST, 9),
+    NAME(HARSOLVEK_LINE_MOST, 13),
+    NAME(HARSOLVEK_FOUND_RECORD, 0),
+    NAME(HARSOLVEK_FOUND_END, 1),
+    NAME(HARSOLVEK_FOUND_CUT, 2),
+    NAME(HARSOLVEK_FOUND_UNKNOWN, 3),
+
+    /* The states have no padding. */
+    NAME(sizeof(harsolvek_receiver), 4 * 14),
+    NAME(sizeof(harsolvek_indoor), 4 * 13),
+    NAME(sizeof(harsolvek_mailbox), 4 * 10 + 256),
+    NAME(sizeof(harsolvek_settings), 4 * 2),
+    NAME(sizeof(harsolvek_given), 4 * 3),
+    NAME(sizeof(harsolvek_release), 2 * 6),
 };
 
 int main(void)
 {
     const size_t count = sizeof names / sizeof names[0];
-    size_t wrong = 0;
+    size_t wrong = harsolvek_version() != HARSOLVEK_VERSION;
+    if (wrong != 0) {
+        printf("the header is of version %X, and the library of version %lX\n", HARSOLVEK_VERSION,
+               (unsigned long)harsolvek_version());
+    }
     for (size_t i = 0; i < count; i++) {
         if (names[i].value != names[i].due) {
             printf("%s is %ld, and the paper has %ld\n", names[i].name, names[i].value,

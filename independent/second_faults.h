@@ -77,6 +77,34 @@
       "The byte behind the response is cleared in the buffer.") \
     X(RECEIVER_SUM_NOT_WRAPPED, SECOND_PART_RECEIVER, \
       "The sum is not taken modulo 65,536.") \
+    X(RECEIVER_LIMIT_CUT, SECOND_PART_RECEIVER, \
+      "A start judges the lower 16 bits of the silence limit.") \
+    X(RECEIVER_RESENDS_CUT, SECOND_PART_RECEIVER, \
+      "A start judges the lower 8 bits of the count of resends.") \
+    X(RECEIVER_CAPACITY_CUT, SECOND_PART_RECEIVER, \
+      "A start judges the lower 32 bits of the capacity.") \
+    X(RECEIVER_READINESS_CUT, SECOND_PART_RECEIVER, \
+      "A request judges the lower 8 bits of the readiness wait.") \
+    X(RECEIVER_VERDICT_CUT, SECOND_PART_RECEIVER, \
+      "A request judges the lower 8 bits of the verdict.") \
+    X(RECEIVER_LATER_CUT, SECOND_PART_RECEIVER, \
+      "A request judges the lower 8 bits of a later verdict's wait.") \
+    X(RECEIVER_ELAPSED_CUT, SECOND_PART_RECEIVER, \
+      "The lower 16 bits of the elapsed time are counted.") \
+    X(RECEIVER_BLOCKS_65536_STAND, SECOND_PART_RECEIVER, \
+      "A state in which 65,536 blocks are accepted is a session.") \
+    X(RECEIVER_SILENCE_65536_STANDS, SECOND_PART_RECEIVER, \
+      "A state with a silence of 65,536 is a session.") \
+    X(RECEIVER_RESENDS_256_STAND, SECOND_PART_RECEIVER, \
+      "A state in which 256 resends were made is a session.") \
+    X(RECEIVER_BYTE_BEHIND_IDENTITY_STANDS, SECOND_PART_RECEIVER, \
+      "A state with a byte behind the identity's last is a session.") \
+    X(RECEIVER_29_ENDS_SILENCE, SECOND_PART_RECEIVER, \
+      "A call on a state that is no session sets its silence to zero.") \
+    X(RECEIVER_29_CLEARS_OUTPUT, SECOND_PART_RECEIVER, \
+      "A call on a state that is no session clears the output buffer.") \
+    X(RECEIVER_REFUSED_START_KEEPS_STATE, SECOND_PART_RECEIVER, \
+      "A refused start leaves the state as it was.") \
     X(INDOOR_EQUAL_VERSION_IS_NEWER, SECOND_PART_INDOOR, \
       "A file with the FWVersion1 reported is newer.") \
     X(INDOOR_SECOND_VERSION_DECIDES_TIE, SECOND_PART_INDOOR, \
@@ -147,6 +175,26 @@
       "A time call that gets 27 adds to silence.") \
     X(INDOOR_START_27_BEFORE_46, SECOND_PART_INDOOR, \
       "A start judges 27 before 46.") \
+    X(INDOOR_LIMIT_CUT, SECOND_PART_INDOOR, \
+      "A start judges the lower 16 bits of the silence limit.") \
+    X(INDOOR_RESENDS_CUT, SECOND_PART_INDOOR, \
+      "A start judges the lower 8 bits of the count of resends.") \
+    X(INDOOR_ELAPSED_CUT, SECOND_PART_INDOOR, \
+      "The lower 16 bits of the elapsed time are counted.") \
+    X(INDOOR_ASKED_65536_STANDS, SECOND_PART_INDOOR, \
+      "A state in which block 65,536 is asked for is a session.") \
+    X(INDOOR_WAIT_65536_STANDS, SECOND_PART_INDOOR, \
+      "A state with a wait of 65,536 is a session.") \
+    X(INDOOR_SILENCE_65536_STANDS, SECOND_PART_INDOOR, \
+      "A state with a silence of 65,536 is a session.") \
+    X(INDOOR_RESENDS_256_STAND, SECOND_PART_INDOOR, \
+      "A state in which 256 resends were made is a session.") \
+    X(INDOOR_29_ENDS_SILENCE, SECOND_PART_INDOOR, \
+      "A call on a state that is no session sets its silence to zero.") \
+    X(INDOOR_29_CLEARS_OUTPUT, SECOND_PART_INDOOR, \
+      "A call on a state that is no session clears the output buffer.") \
+    X(INDOOR_REFUSED_START_KEEPS_STATE, SECOND_PART_INDOOR, \
+      "A refused start leaves the state as it was.") \
     X(MAILBOX_CANCEL_KEEPS_MESSAGE_IN, SECOND_PART_MAILBOX, \
       "CANCEL keeps MESSAGE_IN.") \
     X(MAILBOX_FAILURE_KEEPS_MESSAGE_IN, SECOND_PART_MAILBOX, \
@@ -222,7 +270,57 @@
     X(MAILBOX_RUN_OF_ANY_CODE_STANDS, SECOND_PART_MAILBOX, \
       "A state in which a command runs that never does is a mailbox.") \
     X(MAILBOX_RUN_ABOVE_COUNT_STANDS, SECOND_PART_MAILBOX, \
-      "A state in which a command runs on a connector above the count is a mailbox.")
+      "A state in which a command runs on a connector above the count is a mailbox.") \
+    X(MAILBOX_COUNT_CUT, SECOND_PART_MAILBOX, \
+      "The lower 8 bits of the count of connectors are judged.") \
+    X(MAILBOX_CONNECTOR_CUT, SECOND_PART_MAILBOX, \
+      "The lower 8 bits of the connector of a change are judged.") \
+    X(MAILBOX_MASK_65536_STANDS, SECOND_PART_MAILBOX, \
+      "A state with a mask of 17 bits is a mailbox.") \
+    X(MAILBOX_RESET_TYPE_256_STANDS, SECOND_PART_MAILBOX, \
+      "A state in which a command runs with a reset type of 9 bits is a mailbox.") \
+    X(MAILBOX_29_TURNS_OFF, SECOND_PART_MAILBOX, \
+      "A call on a state that is no mailbox turns its notifications off.") \
+    X(MAILBOX_29_CLEARS_MESSAGE_IN, SECOND_PART_MAILBOX, \
+      "A call on a state that is no mailbox clears its MESSAGE_IN.") \
+    X(MAILBOX_REFUSED_START_KEEPS_MESSAGE_IN, SECOND_PART_MAILBOX, \
+      "A refused start leaves MESSAGE_IN as it was.") \
+    X(RECORDING_REASON_HIGH_BYTE_FIRST, SECOND_PART_RECORDING, \
+      "The reason of a change is read high byte first.") \
+    X(RECORDING_REASON_BEFORE_CONNECTOR, SECOND_PART_RECORDING, \
+      "The reason of a change is written before its connector.") \
+    X(RECORDING_SUCCESS_WITH_ITS_BYTES, SECOND_PART_RECORDING, \
+      "A port success is read with so many bytes behind its length.") \
+    X(RECORDING_CONTROL_OF_7_BYTES, SECOND_PART_RECORDING, \
+      "The last byte of CONTROL is left out when it is written.") \
+    X(RECORDING_KIND_0_IS_FAILURE, SECOND_PART_RECORDING, \
+      "A record of kind 0 is read as a port failure.") \
+    X(RECORDING_KIND_CUT, SECOND_PART_RECORDING, \
+      "The lower 8 bits of the kind are judged when a record is written.") \
+    X(RECORDING_KIND_5_IS_CUT, SECOND_PART_RECORDING, \
+      "An unknown kind is found to be cut where nothing is behind it.") \
+    X(RECORDING_LAST_RECORD_IS_CUT, SECOND_PART_RECORDING, \
+      "A record that fills the recording to its last byte is found to be cut.") \
+    X(RECORDING_END_BEHIND_IS_CUT, SECOND_PART_RECORDING, \
+      "A place behind the recording's end is found to be cut.") \
+    X(RECORDING_CUT_MOVES_ON, SECOND_PART_RECORDING, \
+      "The next place behind a cut record is the recording's end.") \
+    X(RECORDING_WRITE_INTO_8, SECOND_PART_RECORDING, \
+      "A record of fewer bytes is written into a buffer of 8.") \
+    X(RECORDING_20_BEFORE_27, SECOND_PART_RECORDING, \
+      "20 is judged before 27.") \
+    X(RECORDING_LETTERS_SMALL, SECOND_PART_RECORDING, \
+      "CCI is printed with small letters.") \
+    X(RECORDING_CCI_WITHOUT_ZEROS, SECOND_PART_RECORDING, \
+      "CCI is printed without the zeros before it.") \
+    X(RECORDING_NUMBER_OF_2_DIGITS, SECOND_PART_RECORDING, \
+      "The number is printed with two digits.") \
+    X(RECORDING_LINE_INTO_12, SECOND_PART_RECORDING, \
+      "A line is written into a buffer of 12.") \
+    X(RECORDING_ZERO_BEHIND_LINE, SECOND_PART_RECORDING, \
+      "A zero byte is written behind a line.") \
+    X(RECORDING_STOP_WITHOUT_NEWLINE, SECOND_PART_RECORDING, \
+      "The line stop has no newline.")
 /* clang-format on */
 
 #define SECOND_FAULT_NAME(name, part, what) name,

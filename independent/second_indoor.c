@@ -275,7 +275,12 @@ int second_indoor_start(second_indoor *s, unsigned limit, unsigned resends, unsi
                         unsigned product, const unsigned version[4], const uint8_t *file,
                         size_t file_length, uint8_t *out, size_t out_length, size_t *written)
 {
+    limit = fault(INDOOR_LIMIT_CUT) ? limit % 65536 : limit;
+    resends = fault(INDOOR_RESENDS_CUT) ? resends % 256 : resends;
     *written = 0;
+    if (!fault(INDOOR_REFUSED_START_KEEPS_STATE)) {
+        memset(s, 0, sizeof *s);
+    }
     if (limit < 1 || limit > 10000 || resends > 10) {
         return 29;
     }
@@ -353,7 +358,8 @@ int second_indoor_response(second_indoor *s, const uint8_t *file, size_t file_le
 int second_indoor_time(second_indoor *s, const uint8_t *file, size_t file_length, unsigned elapsed,
                        uint8_t *out, size_t out_length, size_t *written)
 {
-    unsigned silence = s->silence + elapsed;
+    uint64_t passed = fault(INDOOR_ELAPSED_CUT) ? elapsed % 65536 : elapsed;
+    uint64_t silence = s->silence + passed;
     unsigned most = fault(INDOOR_ONE_RESEND_TOO_FEW) && s->most > 0 ? s->most - 1 : s->most;
 
     *written = 0;
@@ -363,17 +369,17 @@ int second_indoor_time(second_indoor *s, const uint8_t *file, size_t file_length
     if (out_length < LONGEST) {
         if (fault(INDOOR_27_COUNTS_TIME) && s->phase < SECOND_DONE && s->wait == 0 &&
             silence < s->limit) {
-            s->silence = silence;
+            s->silence = (unsigned)silence;
         }
         return 27;
     }
     if (s->phase == SECOND_DONE || s->phase == SECOND_FAILED) {
         return 0;
     }
-    if (elapsed < s->wait) {
-        s->wait -= elapsed;
+    if (passed < s->wait) {
+        s->wait -= (unsigned)passed;
         if (fault(INDOOR_SILENCE_GROWS_IN_A_WAIT)) {
-            s->silence = silence;
+            s->silence = (unsigned)silence;
         }
         return 0;
     }
@@ -381,7 +387,7 @@ int second_indoor_time(second_indoor *s, const uint8_t *file, size_t file_length
     /* 01: the call that ends a wait sends, its leftover time is dropped, and this is not a
      * resend. */
     if (s->wait > 0) {
-        s->silence = fault(INDOOR_LEFTOVER_OF_WAIT_KEPT) ? elapsed - s->wait : 0;
+        s->silence = fault(INDOOR_LEFTOVER_OF_WAIT_KEPT) ? (unsigned)(passed - s->wait) : 0;
         s->resends += fault(INDOOR_WAIT_COUNTS_AS_RESEND) ? 1 : 0;
         s->wait = 0;
         write_due(s, file, out, written);
@@ -389,14 +395,14 @@ int second_indoor_time(second_indoor *s, const uint8_t *file, size_t file_length
     }
 
     if (silence < s->limit || (fault(INDOOR_LIMIT_REACHED_IS_NO_EXPIRY) && silence == s->limit)) {
-        s->silence = silence;
+        s->silence = (unsigned)silence;
         return 0;
     }
     if ((s->phase == SECOND_SENDING && !fault(INDOOR_TRANSFER_RESENDS)) || s->resends >= most) {
         return fail(s, 40, out, written);
     }
     s->silence = 0;
-    s->resends += fault(INDOOR_EACH_LIMIT_IS_AN_EXPIRY) ? silence / s->limit : 1;
+    s->resends += fault(INDOOR_EACH_LIMIT_IS_AN_EXPIRY) ? (unsigned)(silence / s->limit) : 1;
     write_due(s, file, out, written);
     return 0;
 }

@@ -167,7 +167,12 @@ static void take_other_code(second_mailbox *m, unsigned code)
 
 int second_mailbox_fresh(second_mailbox *m, unsigned connectors)
 {
+    connectors = fault(MAILBOX_COUNT_CUT) ? connectors % 256 : connectors;
     if (connectors < 1 || connectors > 8) {
+        memset(m, 0, offsetof(second_mailbox, message_in));
+        if (!fault(MAILBOX_REFUSED_START_KEEPS_MESSAGE_IN)) {
+            zero_message_in(m);
+        }
         return 29;
     }
     m->connectors = connectors;
@@ -288,6 +293,7 @@ int second_mailbox_change(second_mailbox *m, unsigned connector, unsigned reason
     unsigned meets = reason & m->mask & (fault(MAILBOX_MASK_BIT_0_COUNTS) ? 0xFFFF : CHANGES);
     int recorded = (m->on && meets != 0) || (!m->on && fault(MAILBOX_CHANGE_RECORDED_WHILE_OFF));
 
+    connector = fault(MAILBOX_CONNECTOR_CUT) ? connector % 256 : connector;
     if ((connector == 0 || connector > m->connectors) &&
         !(fault(MAILBOX_9_AFTER_MASK) && !recorded)) {
         return 9;

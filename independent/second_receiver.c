@@ -218,8 +218,8 @@ static void take_close(second_receiver *r, uint8_t *out, size_t *written)
 }
 
 /* A bad verdict has been answered before; in Good the verdict no longer counts. */
-static void take_validate(second_receiver *r, enum second_verdict verdict, unsigned later,
-                          uint8_t *out, size_t *written)
+static void take_validate(second_receiver *r, unsigned verdict, unsigned later, uint8_t *out,
+                          size_t *written)
 {
     if (r->phase == SECOND_AWAIT && verdict == SECOND_VERDICT_LATER) {
         write_validate(out, written, STATUS_OK, later, 0);
@@ -232,7 +232,13 @@ static void take_validate(second_receiver *r, enum second_verdict verdict, unsig
 int second_receiver_start(second_receiver *r, unsigned limit, unsigned resends,
                           const uint8_t identity[19], size_t capacity)
 {
+    limit = fault(RECEIVER_LIMIT_CUT) ? limit % 65536 : limit;
+    resends = fault(RECEIVER_RESENDS_CUT) ? resends % 256 : resends;
+    capacity = fault(RECEIVER_CAPACITY_CUT) ? (uint32_t)capacity : capacity;
     if (limit < 1 || limit > 10000 || resends > 10 || capacity > LARGEST_IMAGE) {
+        if (!fault(RECEIVER_REFUSED_START_KEEPS_STATE)) {
+            memset(r, 0, sizeof *r);
+        }
         return 29;
     }
     r->limit = limit;
@@ -245,17 +251,24 @@ int second_receiver_start(second_receiver *r, unsigned limit, unsigned resends,
     return 0;
 }
 
-int second_receiver_request(second_receiver *r, uint8_t *image, size_t image_length,
-                            const uint8_t *request, size_t request_length, unsigned readiness,
-                            enum second_verdict verdict, unsigned later, uint8_t *out,
-                            size_t out_length, size_t *written)
+/* 26. */
+static int out_of_range(unsigned readiness, unsigned verdict, unsigned later)
 {
     unsigned longest_readiness =
         fault(RECEIVER_READINESS_255_TAKEN) ? LONGEST_WAIT + 1 : LONGEST_WAIT;
     unsigned least_later = fault(RECEIVER_LATER_0_TAKEN) ? 0 : 1;
-    int wait_wrong =
-        readiness > longest_readiness ||
-        (verdict == SECOND_VERDICT_LATER && (later < least_later || later > LONGEST_WAIT));
+
+    return readiness > longest_readiness || verdict < SECOND_VERDICT_GOOD ||
+           verdict > SECOND_VERDICT_LATER ||
+           (verdict == SECOND_VERDICT_LATER && (later < least_later || later > LONGEST_WAIT));
+}
+
+int second_receiver_request(second_receiver *r, uint8_t *image, size_t image_length,
+                            const uint8_t *request, size_t request_length, unsigned readiness,
+                            unsigned verdict, unsigned later, uint8_t *out, size_t out_length,
+                            size_t *written)
+{
+    int wait_wrong;
     unsigned type;
     unsigned number = 0;
     size_t length = 0;
@@ -264,6 +277,10 @@ int second_receiver_request(second_receiver *r, uint8_t *image, size_t image_len
     int file_wrong;
     int passes;
 
+    readiness = fault(RECEIVER_READINESS_CUT) ? readiness % 256 : readiness;
+    verdict = fault(RECEIVER_VERDICT_CUT) ? verdict % 256 : verdict;
+    later = fault(RECEIVER_LATER_CUT) ? later % 256 : later;
+    wait_wrong = out_of_range(readiness, verdict, later);
     *written = 0;
     if (image_length != r->capacity && !(fault(RECEIVER_27_BEFORE_28) && out_length < LONGEST)) {
         return 28;
@@ -355,7 +372,7 @@ int second_receiver_request(second_receiver *r, uint8_t *image, size_t image_len
 int second_receiver_time(second_receiver *r, unsigned elapsed, uint8_t *out, size_t out_length,
                          size_t *written)
 {
-    unsigned silence;
+    uint64_t silence;
     unsigned most;
 
     *written = 0;
@@ -365,15 +382,15 @@ int second_receiver_time(second_receiver *r, unsigned elapsed, uint8_t *out, siz
     if (r->phase != SECOND_TRANSFER && r->phase != SECOND_AWAIT) {
         return 0;
     }
-    silence = r->silence + elapsed;
+    silence = r->silence + (uint64_t)(fault(RECEIVER_ELAPSED_CUT) ? elapsed % 65536 : elapsed);
     if (silence < r->limit || (fault(RECEIVER_LIMIT_REACHED_IS_NO_EXPIRY) && silence == r->limit)) {
-        r->silence = silence;
+        r->silence = (unsigned)silence;
         return 0;
     }
 
     /* 01, Sizes and numbers: a call that passes several limits is one expiry, and what it passed
      * them by is dropped. */
-    r->silence = fault(RECEIVER_EXPIRY_KEEPS_REST) ? silence - r->limit : 0;
+    r->silence = fault(RECEIVER_EXPIRY_KEEPS_REST) ? (unsigned)(silence - r->limit) : 0;
     most = fault(RECEIVER_ONE_RESEND_TOO_MANY) ? r->most + 1 : r->most;
     if (r->resends >= most) {
         if (fault(RECEIVER_EXPIRY_KEEPS_COUNTS)) {

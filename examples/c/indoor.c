@@ -1,12 +1,12 @@
 #include "indoor.h"
 
-uint8_t indoor_start(indoor *here, port *cable, harsolvek_settings settings,
-                     harsolvek_release release, const uint8_t *file, size_t length)
+uint8_t indoor_start(indoor *here, port *cable, const harsolvek_settings *settings,
+                     const harsolvek_release *release, const uint8_t *file, size_t length)
 {
     uint8_t out[HARSOLVEK_MESSAGE_MOST];
     size_t written;
-    const uint8_t number = harsolvek_indoor_start_at(&here->session, settings, release, file,
-                                                     length, out, sizeof out, &written);
+    const uint8_t number = harsolvek_indoor_start(&here->session, settings, release, file, length,
+                                                  out, sizeof out, &written);
     here->cable = cable;
     here->file = file;
     here->length = length;
@@ -25,8 +25,8 @@ static int wrong_call(uint8_t number)
 
 static int ended(const indoor *here)
 {
-    return here->session.phase == HARSOLVEK_INDOOR_DONE ||
-           here->session.phase == HARSOLVEK_INDOOR_FAILED;
+    const uint32_t phase = harsolvek_indoor_phase(&here->session);
+    return phase == HARSOLVEK_INDOOR_DONE || phase == HARSOLVEK_INDOOR_FAILED;
 }
 
 /* This function and the next two answer 0 to go on, else what indoor_run ends with. */
@@ -34,8 +34,8 @@ static int take_response(indoor *here, const uint8_t *response, size_t length)
 {
     uint8_t out[HARSOLVEK_MESSAGE_MOST];
     size_t written;
-    const uint8_t number = harsolvek_indoor_response_at(
-        &here->session, here->file, here->length, response, length, out, sizeof out, &written);
+    const uint8_t number = harsolvek_indoor_response(&here->session, here->file, here->length,
+                                                     response, length, out, sizeof out, &written);
     if (written > 0) {
         port_send(here->cable, out, written);
     }
@@ -66,14 +66,11 @@ static int take_time(indoor *here, uint64_t now)
 {
     uint8_t out[HARSOLVEK_MESSAGE_MOST];
     size_t written;
-    uint8_t number = HARSOLVEK_TAKEN;
-    while (here->told < now && !wrong_call(number)) {
-        const uint16_t step = port_step(&here->told, now);
-        number = harsolvek_indoor_time_at(&here->session, here->file, here->length, step, out,
-                                          sizeof out, &written);
-        if (written > 0) {
-            port_send(here->cable, out, written);
-        }
+    const uint32_t elapsed = port_elapsed(&here->told, now);
+    const uint8_t number = harsolvek_indoor_time(&here->session, here->file, here->length, elapsed,
+                                                 out, sizeof out, &written);
+    if (written > 0) {
+        port_send(here->cable, out, written);
     }
     return wrong_call(number) ? number : 0;
 }
@@ -92,5 +89,5 @@ int indoor_run(indoor *here)
             result = take_time(here, now);
         }
     }
-    return result != 0 ? result : here->session.reason;
+    return result != 0 ? result : (int)harsolvek_indoor_reason(&here->session);
 }

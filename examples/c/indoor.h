@@ -19,8 +19,8 @@ typedef struct indoor {
 
 /* Starts a session and sends its first request. The file is lent until the end. The library's
  * number: 0, or 29 or 46. */
-uint8_t indoor_start(indoor *here, port *cable, harsolvek_settings settings,
-                     harsolvek_release release, const uint8_t *file, size_t length);
+uint8_t indoor_start(indoor *here, port *cable, const harsolvek_settings *settings,
+                     const harsolvek_release *release, const uint8_t *file, size_t length);
 
 /* Serves a session until it ends: 0 for Done, 40 to 45 for Failed, INDOOR_UNPLUGGED if the receiver
  * is gone. 27 to 29 where a call was wrong; 29 also if the session was never started. */

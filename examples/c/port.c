@@ -83,10 +83,9 @@ uint64_t port_now(void)
     return (uint64_t)now.tv_sec * 1000 + (uint64_t)now.tv_nsec / 1000000;
 }
 
-uint16_t port_step(uint64_t *told, uint64_t now)
+uint32_t port_elapsed(uint64_t *told, uint64_t now)
 {
-    const uint64_t elapsed = now - *told;
-    const uint16_t step = elapsed < UINT16_MAX ? (uint16_t)elapsed : UINT16_MAX;
-    *told += step;
-    return step;
+    const uint64_t elapsed = *told < now ? now - *told : 0;
+    *told += elapsed;
+    return elapsed < UINT32_MAX ? (uint32_t)elapsed : UINT32_MAX;
 }

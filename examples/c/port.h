@@ -66,9 +66,8 @@ void port_close(port *here);
 /* Milliseconds on a clock that nobody sets back. */
 uint64_t port_now(void);
 
-/* The time to hand over next: `told` is the time that the library knows, and is moved on towards
- * the later `now`. The library takes up to 65,535 ms a call, so a longer time, as after a sleep,
- * takes several steps until `told` is `now`. */
-uint16_t port_step(uint64_t *told, uint64_t now);
+/* The milliseconds to hand over: `told` is the time that the library knows, and becomes `now`, if
+ * that is later. One call is at most one expiry however long it was, also after a sleep. */
+uint32_t port_elapsed(uint64_t *told, uint64_t now);
 
 #endif

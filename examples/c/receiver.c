@@ -7,23 +7,23 @@
 /* After how many milliseconds the indoor end is to ask again for a verdict. */
 #define LATER_MS 20u
 
-uint8_t receiver_start(receiver *here, port *cable, harsolvek_settings settings,
-                       harsolvek_identity identity, uint8_t *image, size_t capacity)
+uint8_t receiver_start(receiver *here, port *cable, const harsolvek_settings *settings,
+                       const harsolvek_identity *identity, uint8_t *image, size_t capacity)
 {
     here->cable = cable;
     here->image = image;
     here->capacity = capacity;
     here->told = port_now();
     here->checking = 0;
-    return harsolvek_receiver_start_at(&here->session, settings, identity, capacity);
+    return harsolvek_receiver_start(&here->session, settings, identity, capacity);
 }
 
 /* THE PLACE OF THE SIGNATURE CHECK, which is no part of the library (01, The parts of the cable
- * job): put yours here. The image is whole by now, in the first `session.accepted.bytes` bytes of
+ * job): put yours here. The image is whole by now, in the first harsolvek_receiver_bytes bytes of
  * its memory. A check that takes long runs elsewhere, and the verdict is later until it has ended.
  * This one checks nothing: it is later for the first message that arrives in Await, whatever that
  * is, and from the next one on it finds the image good. */
-static uint8_t check_signature(receiver *here)
+static uint32_t check_signature(receiver *here)
 {
     if (here->checking) {
         return HARSOLVEK_VERDICT_GOOD;
@@ -34,9 +34,9 @@ static uint8_t check_signature(receiver *here)
 
 /* Only Await has an image to judge. Elsewhere the library makes no use of the verdict, and bad is
  * the one that does no harm. */
-static uint8_t verdict(receiver *here)
+static uint32_t verdict(receiver *here)
 {
-    if (here->session.phase == HARSOLVEK_RECEIVER_AWAIT) {
+    if (harsolvek_receiver_phase(&here->session) == HARSOLVEK_RECEIVER_AWAIT) {
         return check_signature(here);
     }
     here->checking = 0;
@@ -59,11 +59,12 @@ static int ends_silence(uint8_t number)
 /* This function and the next two answer 0 to go on, else what receiver_run ends with. */
 static int take_request(receiver *here, const uint8_t *request, size_t length)
 {
+    const harsolvek_given given = {READINESS, verdict(here), LATER_MS};
     uint8_t out[HARSOLVEK_MESSAGE_MOST];
     size_t written;
-    const uint8_t number = harsolvek_receiver_request_at(
-        &here->session, here->image, here->capacity, request, length, READINESS, verdict(here),
-        LATER_MS, out, sizeof out, &written);
+    const uint8_t number =
+        harsolvek_receiver_request(&here->session, here->image, here->capacity, request, length,
+                                   &given, out, sizeof out, &written);
     if (written > 0) {
         port_send(here->cable, out, written);
     }
@@ -92,13 +93,11 @@ static int take_time(receiver *here, uint64_t now)
 {
     uint8_t out[HARSOLVEK_MESSAGE_MOST];
     size_t written;
-    uint8_t number = HARSOLVEK_TAKEN;
-    while (here->told < now && !wrong_call(number)) {
-        const uint16_t step = port_step(&here->told, now);
-        number = harsolvek_receiver_time_at(&here->session, step, out, sizeof out, &written);
-        if (written > 0) {
-            port_send(here->cable, out, written);
-        }
+    const uint32_t elapsed = port_elapsed(&here->told, now);
+    const uint8_t number =
+        harsolvek_receiver_time(&here->session, elapsed, out, sizeof out, &written);
+    if (written > 0) {
+        port_send(here->cable, out, written);
     }
     return wrong_call(number) ? number : 0;
 }
@@ -122,9 +121,9 @@ int receiver_run(receiver *here)
 
 const uint8_t *receiver_image(const receiver *here, size_t *bytes)
 {
-    if (here->session.phase != HARSOLVEK_RECEIVER_GOOD) {
+    if (harsolvek_receiver_phase(&here->session) != HARSOLVEK_RECEIVER_GOOD) {
         return NULL;
     }
-    *bytes = here->session.accepted.bytes;
+    *bytes = harsolvek_receiver_bytes(&here->session);
     return here->image;
 }

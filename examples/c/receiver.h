@@ -21,8 +21,8 @@ typedef struct receiver {
 
 /* Starts a session for an image memory of `capacity` bytes, which is lent until the end. The
  * library's number: 0, or 29. */
-uint8_t receiver_start(receiver *here, port *cable, harsolvek_settings settings,
-                       harsolvek_identity identity, uint8_t *image, size_t capacity);
+uint8_t receiver_start(receiver *here, port *cable, const harsolvek_settings *settings,
+                       const harsolvek_identity *identity, uint8_t *image, size_t capacity);
 
 /* Serves the session until the cable is unplugged, also once the image is marked good: where the
  * answer to VALIDATE was lost, the indoor end asks again. RECEIVER_UNPLUGGED, or 26 to 29 where a

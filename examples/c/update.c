@@ -5,7 +5,8 @@
  *     tools/c build update examples/c/{update,indoor,receiver,port}.c
  *     tools/c run update FILE SEED LOSS_PERCENT REPEAT_PERCENT
  *
- * sends FILE and prints, say, `done: 20 requests sent, 3 lost, 2 repeated, image equals the file`.
+ * (the Makefile and CMakeLists.txt beside it build it in a project of its own) sends FILE and
+ * prints, say, `done: 20 requests sent, 3 lost, 2 repeated, image equals the file`.
  * The exit status is 0 only if the indoor end is Done, the receiver Good and its image the file.
  * With 7 10 10 behind FILE, each end loses one in ten of the messages that it sends and repeats one
  * in ten.
@@ -97,7 +98,8 @@ static int receiver_end(port *cable, int results)
     receiver here;
     report said;
     size_t bytes = 0;
-    int number = receiver_start(&here, cable, settings, identity, image, sizeof image);
+    uint16_t sum = 0;
+    int number = receiver_start(&here, cable, &settings, &identity, image, sizeof image);
     if (number == HARSOLVEK_TAKEN) {
         number = receiver_run(&here);
     }
@@ -107,7 +109,8 @@ static int receiver_end(port *cable, int results)
     }
     said.good = receiver_image(&here, &bytes) != NULL;
     said.bytes = (uint32_t)bytes;
-    said.sum = harsolvek_receiver_sum(here.session, image, sizeof image).sum;
+    (void)harsolvek_receiver_sum(&here.session, image, sizeof image, &sum);
+    said.sum = sum;
     return write_all(results, &said, sizeof said) != 0 || write_all(results, image, bytes) != 0;
 }
 
@@ -144,7 +147,7 @@ static const char *indoor_end(port *cable, size_t length)
     const harsolvek_release release = {VENDOR, PRODUCT, {NEW_VERSION, 0, 0, 0}};
     static char words[40];
     indoor here;
-    int number = indoor_start(&here, cable, settings, release, file, length);
+    int number = indoor_start(&here, cable, &settings, &release, file, length);
     if (number == HARSOLVEK_TAKEN) {
         number = indoor_run(&here);
     }

@@ -2,9 +2,11 @@
 // (01, Numbers we answer: 28, 27, 20, and then the step's own).
 use crate::outcome::finish;
 use crate::outcome::refused;
+use crate::send::block;
 use crate::send::send;
 use indoor_decide::decide;
 use indoor_state::answer::Answer;
+use indoor_state::plan::Plan;
 use indoor_state::session::Indoor;
 use indoor_state::session::Outcome;
 use wire::codes;
@@ -13,8 +15,10 @@ ghost use mathlib.Core.Path.{_≡_};
 ghost use Prim.Native.Nat.{_≤_};
 ghost use lib.ListN.{length};
 ghost use Rattle.basis.specs.Left.{left};
+ghost use Rattle.lent.specs.Written.{returnsWritten};
 ghost use Rattle.wire.specs.Codes.{longest};
 ghost use Rattle.wire.specs.Response.{parsedResponseOf as messageOf};
+ghost use Rattle.indoor_rules.specs.Send.{indoorBytesOf};
 ghost use Rattle.indoor_rules.specs.Response.{responseReadOf, indoorResponseOf};
 
 pub fn response(session: Indoor, file: &[u8], response: &[u8], out: &mut [u8]) -> Outcome
@@ -41,6 +45,18 @@ fn read(session: Indoor, file: &[u8], response: &[u8], out: &mut [u8]) -> Outcom
     let state = session.state;
     let step = decide(plan, state, valid);
     let answer = step.answer;
-    let written = send(out, file, plan, answer);
+    let written = reply(out, file, plan, answer);
     finish(plan, step, written)
+}
+
+// Most responses ask for a block, which is written without a look at the other requests.
+fn reply(out: &mut [u8], file: &[u8], plan: Plan, answer: Answer) -> usize
+    requires { ⌜ longest ≤ length (now out) ⌝ }
+    ensures { λ r. ⌜ left r (now (out .exit)) ≡ returnsWritten (indoorBytesOf plan (now (file .entry)) answer) (now (out .entry)) ⌝ }
+{
+    let Answer::Sending { number } = answer else {
+        let versions = plan.release.versions;
+        return send(out, file, versions, answer);
+    };
+    block(out, file, number)
 }

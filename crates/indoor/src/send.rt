@@ -2,7 +2,6 @@
 use indoor_decide::answer_sends;
 use indoor_state::answer::Answer;
 use indoor_state::answer::Sends;
-use indoor_state::plan::Plan;
 use wire::request::Request;
 use wire::request::Versions;
 ghost use mathlib.Core.Path.{_≡_};
@@ -12,14 +11,15 @@ ghost use Rattle.basis.specs.Left.{left};
 ghost use Rattle.wire.specs.Codes.{longest};
 ghost use Rattle.wire.specs.Written.{requestBytes};
 ghost use Rattle.lent.specs.Written.{returnsWritten};
-ghost use Rattle.indoor_rules.specs.Send.{blockBytes, sendsBytes, indoorBytesOf};
+ghost use Rattle.indoor_state.specs.Answer.{sendsOf};
+ghost use Rattle.indoor_rules.specs.Send.{blockBytes, sendsBytes};
 
-pub(crate) fn send(out: &mut [u8], file: &[u8], plan: Plan, answer: Answer) -> usize
+// Of the plan only the versions are sent.
+pub(crate) fn send(out: &mut [u8], file: &[u8], versions: Versions, answer: Answer) -> usize
     requires { ⌜ longest ≤ length (now out) ⌝ }
-    ensures { λ r. ⌜ left r (now (out .exit)) ≡ returnsWritten (indoorBytesOf plan (now (file .entry)) answer) (now (out .entry)) ⌝ }
+    ensures { λ r. ⌜ left r (now (out .exit)) ≡ returnsWritten (sendsBytes versions (now (file .entry)) (sendsOf answer)) (now (out .entry)) ⌝ }
 {
     let sends = answer_sends(answer);
-    let versions = plan.release.versions;
     deliver(out, file, versions, sends)
 }
 
@@ -49,7 +49,7 @@ pub(crate) fn message(out: &mut [u8], request: Request) -> usize
 }
 
 // DATA: its head, and then the block as a part of the lent file.
-fn block(out: &mut [u8], file: &[u8], number: u16) -> usize
+pub(crate) fn block(out: &mut [u8], file: &[u8], number: u16) -> usize
     requires { ⌜ longest ≤ length (now out) ⌝ }
     ensures { λ r. ⌜ left r (now (out .exit)) ≡ returnsWritten (blockBytes (now (file .entry)) number) (now (out .entry)) ⌝ }
 {

@@ -49,7 +49,8 @@ fn prompt(out: &mut [u8], file: &[u8], plan: Plan, answer: Answer) -> usize
     ensures { λ r. ⌜ left r (now (out .exit)) ≡ returnsWritten (indoorBytesOf plan (now (file .entry)) answer) (now (out .entry)) ⌝ }
 {
     let Answer::Passed = answer else {
-        return send(out, file, plan, answer);
+        let versions = plan.release.versions;
+        return send(out, file, versions, answer);
     };
     0
 }

@@ -3,7 +3,6 @@ use silence::Settings;
 use wire::request::Versions;
 
 // The file's vendor, product and four versions.
-#[repr(C)]
 pub struct Release {
     pub vendor: u16,
     pub product: u16,
@@ -11,7 +10,6 @@ pub struct Release {
 }
 
 // `length` is the file's, in bytes.
-#[repr(C)]
 pub struct Plan {
     pub settings: Settings,
     pub release: Release,

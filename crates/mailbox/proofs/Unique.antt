@@ -1,12 +1,11 @@
 -- Each public contract leaves one answer and one state of the lent memory. Written from the contracts by tools/contracts.
 use Prim.Native.Nat.{ℕ}
-use mathlib.Core.Bool.{Bool}
 use mathlib.Core.List.{List}
 use mathlib.Core.Path.{_≡_}
 use Rattle.basis.specs.Only.{only}
 use Rattle.mailbox_rules.specs.Events.{eventOf, writes, succeeds, fails, changes, writeStepOf}
 use Rattle.mailbox_rules.specs.Mailbox.{mailboxFreshOf, mailboxCciOf, messageInOf}
-use Rattle.mailbox_rules.specs.MessageIn.{settledOf, keepsOf}
+use Rattle.mailbox_rules.specs.MessageIn.{settledOf}
 use Rattle.mailbox_state.specs.declared.mailbox.Fresh.{Fresh}
 use Rattle.mailbox_state.specs.declared.mailbox.Mailbox.{Mailbox}
 use Rattle.mailbox_state.specs.declared.mailbox.Outcome.{Outcome}
@@ -67,9 +66,3 @@ pub one-settle : (message : List ℕ) (effect : MessageEffect) (bytes message-le
     → message-left′ ≡ settledOf message effect bytes
     → message-left ≡ message-left′
 one-settle message effect bytes message-left message-left′ is is′ = only is is′
-
-pub one-keeps : (effect : MessageEffect) (r r′ : Bool)
-    → r ≡ keepsOf effect
-    → r′ ≡ keepsOf effect
-    → r ≡ r′
-one-keeps effect r r′ is is′ = only is is′

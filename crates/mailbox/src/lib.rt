@@ -12,5 +12,4 @@ pub use event::write_step;
 pub use mailbox::cci;
 pub use mailbox::fresh;
 pub use mailbox::message_in;
-pub use settle_call::keeps;
 pub use settle_call::settle;

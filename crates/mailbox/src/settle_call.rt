@@ -1,7 +1,7 @@
 // What a step does to MESSAGE_IN, carried out on a lent array: the one routine for the mailbox, the replay and C (01, The mailbox).
 use mailbox_state::step::MessageEffect;
 ghost use mathlib.Core.Path.{_≡_};
-ghost use Rattle.mailbox_rules.specs.MessageIn.{filledOf, settledOf, keepsOf};
+ghost use Rattle.mailbox_rules.specs.MessageIn.{filledOf, settledOf};
 
 // `bytes` are those that the port reports.
 pub fn settle(message: &mut [u8; 256], effect: MessageEffect, bytes: &[u8])
@@ -22,17 +22,4 @@ fn fill(message: &mut [u8; 256], bytes: &[u8])
 {
     *message = [0; 256];
     lent::put(message, 0, bytes);
-}
-
-// Whether `settle` changes nothing, so that a caller which copies MESSAGE_IN can copy it once.
-pub fn keeps(effect: MessageEffect) -> bool
-    ensures { λ r. ⌜ r ≡ keepsOf effect ⌝ }
-{
-    match effect {
-        MessageEffect::Kept => true,
-        MessageEffect::ZeroedAtReset => false,
-        MessageEffect::ZeroedAtCancel => false,
-        MessageEffect::ZeroedAtCompletion => false,
-        MessageEffect::Filled => false,
-    }
 }

@@ -1,7 +1,7 @@
 -- MESSAGE_IN: filled by a success, zeroed by every other completion, by cancel and by reset, kept by a start, by ACK and by a refusal
 -- (01, The mailbox).
 use Prim.Native.Nat.{ℕ, zero, suc, _-_, _≤_}
-use mathlib.Core.Bool.{true, false, true≢false}
+use mathlib.Core.Bool.{true}
 use mathlib.Core.List.{List, [], _++_}
 use mathlib.Core.Path.{_≡_, refl, sym, _∙_, ap, subst}
 use native.Mathlib.Nat.{sub-zero, suc-sub-suc, zero-sub}
@@ -17,13 +17,12 @@ use Rattle.mailbox_state.specs.declared.answer.Answer.the-variants.{Taken}
 use Rattle.mailbox_state.specs.declared.status.CommandStatus.{CommandStatus}
 use Rattle.mailbox_state.specs.declared.status.CommandStatus.the-variants.{Nothing, ResetDone, Busy, Completed, Failed, NotSupported, Cancelled, Acknowledged}
 use Rattle.mailbox_state.specs.declared.step.MessageEffect.{MessageEffect}
-use Rattle.mailbox_state.specs.declared.step.MessageEffect.the-variants as effect
 use Rattle.mailbox_state.specs.declared.step.Step.{Step}
 use Rattle.mailbox_rules.specs.Refusal.{situationOf, refusalOf}
 use Rattle.mailbox_rules.specs.Write.{withStatus, controlStepOf}
 use Rattle.mailbox_rules.proofs.Command.{EffectOf, write-takes}
 use Rattle.mailbox_rules.proofs.Report.{success-completes, failure-completes}
-use Rattle.mailbox_rules.specs.MessageIn.{zeroMessageIn, filledOf, settledOf, keepsOf}
+use Rattle.mailbox_rules.specs.MessageIn.{zeroMessageIn, filledOf, settledOf}
 use Rattle.mailbox_rules.specs.Mailbox.{messageInOf, mailbox, mailboxReturns}
 use Rattle.mailbox_rules.specs.Events.{writes, succeeds, fails, stepReturns, eventOf}
 use Rattle.mailbox_state.specs.declared.mailbox.Mailbox.{Mailbox}
@@ -89,20 +88,3 @@ module _ (m : Mailbox) (control : List ℕ) where
 pub failure-zeroes : (m : Mailbox) → runsOf (m .state .status) ≡ true → messageInOf (eventOf m fails .mailbox) ≡ zeroMessageIn
 unfolding settledOf
 failure-zeroes m e = rw (failure-completes (m .state) e)
-
--- An effect that does not keep MESSAGE_IN leaves the same, whatever was in it; one that does leaves it.
-pub settled-anew : (effect : MessageEffect) (before other bytes : List ℕ) → keepsOf effect ≡ false → settledOf before effect bytes ≡ settledOf other effect bytes
-unfolding settledOf
-settled-anew effect.Kept before other bytes e = absurd (true≢false e)
-settled-anew effect.ZeroedAtReset before other bytes e = refl
-settled-anew effect.ZeroedAtCancel before other bytes e = refl
-settled-anew effect.ZeroedAtCompletion before other bytes e = refl
-settled-anew effect.Filled before other bytes e = refl
-
-pub settled-keeps : (effect : MessageEffect) (before bytes : List ℕ) → keepsOf effect ≡ true → settledOf before effect bytes ≡ before
-unfolding settledOf
-settled-keeps effect.Kept before bytes e = refl
-settled-keeps effect.ZeroedAtReset before bytes e = absurd (true≢false (sym e))
-settled-keeps effect.ZeroedAtCancel before bytes e = absurd (true≢false (sym e))
-settled-keeps effect.ZeroedAtCompletion before bytes e = absurd (true≢false (sym e))
-settled-keeps effect.Filled before bytes e = absurd (true≢false (sym e))

@@ -1,6 +1,5 @@
 -- MESSAGE_IN, and what a step does to it (01, The mailbox).
 use Prim.Native.Nat.{ℕ}
-use mathlib.Core.Bool.{Bool, true, false}
 use mathlib.Core.List.{List}
 use lib.ListN.{replicate}
 use Rattle.lent.specs.Put.{putOf}
@@ -25,11 +24,3 @@ settledOf message ZeroedAtReset bytes = zeroMessageIn
 settledOf message ZeroedAtCancel bytes = zeroMessageIn
 settledOf message ZeroedAtCompletion bytes = zeroMessageIn
 settledOf message Filled bytes = filledOf bytes
-
--- Whether it is as it was before the step, whatever it holds.
-abbrev pub keepsOf : MessageEffect → Bool
-keepsOf Kept = true
-keepsOf ZeroedAtReset = false
-keepsOf ZeroedAtCancel = false
-keepsOf ZeroedAtCompletion = false
-keepsOf Filled = false

@@ -23,3 +23,4 @@ pub mod OfFile
 pub mod ReadBack
 pub mod Truthful
 pub mod NotBuilt
+pub mod Hearing

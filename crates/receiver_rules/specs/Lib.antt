@@ -7,3 +7,4 @@ pub mod Request
 pub mod Time
 pub mod Sum
 pub mod History
+pub mod Hearing

@@ -1,5 +1,4 @@
 // The receiver's phases, and the counts of what it has accepted (01, The receiver's phases).
-#[repr(C)]
 pub struct Accepted {
     pub blocks: u16,
     pub bytes: u32,

@@ -14,6 +14,13 @@ pub struct Step {
     pub store: Store,
 }
 
+// The phase after the request and the answer. `kept`: nothing changes, and silence and resends are not set to zero either.
+pub struct Heard {
+    pub phase: Phase,
+    pub answer: Answer,
+    pub kept: bool,
+}
+
 pub struct Tick {
     pub phase: Phase,
     pub silence: u16,

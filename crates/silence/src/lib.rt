@@ -4,7 +4,6 @@ ghost use Rattle.silence.specs.Settings.{settingsOf, settingsNumberOf};
 ghost use Rattle.silence.specs.Expiry.{grownOf};
 
 // The limit in milliseconds, and how often a message may be sent again (001 T5-30, T5-31, T6-1).
-#[repr(C)]
 pub struct Settings {
     pub limit: u16,
     pub resends: u8,

@@ -1,7 +1,6 @@
 // What a request says (001 T5-3 to T5-15).
 
 // FWVersion1 to FWVersion4 (001 T5-6, T5-18).
-#[repr(C)]
 pub struct Versions {
     pub first: u16,
     pub second: u16,

@@ -2,7 +2,6 @@
 use crate::request::Versions;
 
 // The fields of 001 T5-18 behind its Status.
-#[repr(C)]
 pub struct Identity {
     pub vendor: u16,
     pub product: u16,

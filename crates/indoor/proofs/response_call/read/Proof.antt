@@ -23,4 +23,4 @@ read-spec =
     let decided = sent .before .before in
     let matched = decided .before .before .before .before in
     let read = matched .before .before in
-    rw (← (read .read-response .ensures), matched .parsed .given .1, ← (decided .decide .ensures), c .finish .ensures, answers (sent .send .ensures), leaves (sent .send .ensures))))
+    rw (← (read .read-response .ensures), matched .parsed .given .1, ← (decided .decide .ensures), c .finish .ensures, answers (sent .reply .ensures), leaves (sent .reply .ensures))))

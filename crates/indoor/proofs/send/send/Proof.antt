@@ -11,5 +11,5 @@ send-spec =
     (λ c. search needs)
     (λ c.
     let called = c .before .before in
-    let decided = called .before .before .before in
+    let decided = called .before .before in
     rw (← (decided .answer-sends .ensures)) (called .deliver .ensures)))

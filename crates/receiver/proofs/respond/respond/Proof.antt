@@ -1,3 +1,5 @@
+use mathlib.Core.Path.{sym, _∙_}
+use Rattle.receiver_rules.proofs.Hearing.{sends-identity, sends-answer}
 use borrow.Author.Needs.{needs}
 use Rattle.receiver.proofs.respond.respond.Statement.{statement}
 use Rattle.receiver.proofs.respond.respond.Tie as tie
@@ -9,4 +11,17 @@ respond-spec =
     (λ c κs. search needs)
     (λ c κs. search needs)
     (λ c. search needs)
-    (λ c. rw (← (c .before .before .before .before .reply .ensures)) (c .before .before .deliver .ensures)))
+    (λ c.
+    let afterSendIdentity = c .before .before in
+    let afterTest = afterSendIdentity .before .before in
+    let afterHasIdentity = afterTest .before in
+    let entry = afterHasIdentity .before .before in
+    afterSendIdentity .send-identity .ensures ∙ sends-identity _ _ _ _ (entry .pre) (sym (afterHasIdentity .has-identity .ensures) ∙ afterTest .if1 .taken))
+    (λ c κs. search needs)
+    (λ c. search needs)
+    (λ c.
+    let afterSendAnswer = c .before .before in
+    let afterTest = afterSendAnswer .before .before in
+    let afterHasIdentity = afterTest .before in
+    let entry = afterHasIdentity .before .before in
+    afterSendAnswer .send-answer .ensures ∙ sends-answer _ _ _ _ (entry .pre) (sym (afterHasIdentity .has-identity .ensures) ∙ afterTest .if1 .left)))

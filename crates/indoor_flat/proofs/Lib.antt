@@ -1,4 +1,0 @@
-pub mod Sessions
-pub mod Inverse
-pub mod Rows
-pub mod Unique

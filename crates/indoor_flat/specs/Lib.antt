@@ -1,3 +1,0 @@
-pub mod PhaseNumbers
-pub mod Flat
-pub mod Valid

@@ -1,4 +1,0 @@
-pub mod Receiver
-pub mod Indoor
-pub mod Mailbox
-pub mod Handed

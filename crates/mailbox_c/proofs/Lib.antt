@@ -1,0 +1,11 @@
+pub mod Codes
+pub mod Spread
+pub mod Waits
+pub mod Narrowing
+pub mod Mailboxes
+pub mod Rows
+pub mod Inverse
+pub mod Fitting
+pub mod Fresh
+pub mod Events
+pub mod Unique

@@ -1,0 +1,9 @@
+pub mod Waiting
+pub mod Notifying
+pub mod Running
+pub mod Status
+pub mod Words
+pub mod Fits
+pub mod Valid
+pub mod Calls
+pub mod Handed

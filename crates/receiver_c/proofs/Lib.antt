@@ -1,0 +1,11 @@
+pub mod Narrowing
+pub mod Sessions
+pub mod Laid
+pub mod Inverse
+pub mod Counting
+pub mod Requested
+pub mod Verdicts
+pub mod Small
+pub mod Handed
+pub mod Rows
+pub mod Unique

@@ -1,3 +1,0 @@
-pub mod Flat
-pub mod Verdict
-pub mod Valid

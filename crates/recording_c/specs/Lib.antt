@@ -1,0 +1,4 @@
+pub mod Layout
+pub mod Reads
+pub mod Writes
+pub mod Lines

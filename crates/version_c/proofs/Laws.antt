@@ -1,0 +1,6 @@
+-- The version in the header's own number, HARSOLVEK_VERSION (include/harsolvek.h).
+use mathlib.Core.Path.{_≡_, refl}
+use Rattle.version_c.specs.Version.{harsolvekVersion}
+
+pub version-is : harsolvekVersion ≡ 0x010000
+version-is = refl
