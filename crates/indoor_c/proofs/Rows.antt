@@ -11,6 +11,7 @@ use Rattle.indoor_state.specs.declared.plan.Plan.{Plan}
 use Rattle.indoor_rules.specs.Session.{indoor}
 use Rattle.indoor_c.specs.PhaseWords.{phaseWordsOf}
 use Rattle.indoor_c.specs.Words.{wordsOf, noWords}
+use Rattle.indoor_c.specs.Calls.{releaseOf}
 
 module _ (plan : Plan) (silence resends : ℕ) where
   -- Phase, block asked for, wait, empty block sent, silence, resends, reason; what a phase does not have is 0.
@@ -47,6 +48,12 @@ module _ (plan : Plan) (silence resends : ℕ) where
       ∷ []
   unfolding phaseWordsOf
   phase-rows asked wait reason = refl
+
+-- What a start is lent: vendor, product and the four versions, in this order.
+pub release-row : (vendor product first second third fourth : ℕ)
+    → releaseOf (vendor ∷ product ∷ first ∷ second ∷ third ∷ fourth ∷ [])
+    ≡ record { vendor = vendor; product = product; versions = record { first = first; second = second; third = third; fourth = fourth } }
+release-row vendor product first second third fourth = refl
 
 pub none-zeros : noWords ≡ 0 ∷ 0 ∷ 0 ∷ 0 ∷ 0 ∷ 0 ∷ 0 ∷ 0 ∷ 0 ∷ 0 ∷ 0 ∷ 0 ∷ 0 ∷ []
 none-zeros = refl
