@@ -59,8 +59,8 @@ extern "C" {
 #endif
 
 /* The version of this header, a byte each for its three numbers; harsolvek_version() is that of the
- * library. */
-#define HARSOLVEK_VERSION 0x010000u
+ * library. 1.1.0: a release is newer by its four versions, and not by the first alone. */
+#define HARSOLVEK_VERSION 0x010100u
 
 /* The largest image memory and the largest file, in bytes. */
 #define HARSOLVEK_IMAGE_MOST 1048575u
@@ -148,7 +148,7 @@ enum harsolvek_number {
     HARSOLVEK_SILENCE = 40,
     /* status not OK, or INITIATE or VALIDATE wait 255 */
     HARSOLVEK_REFUSED = 41,
-    /* not newer */
+    /* not newer: another vendor or product, or versions that do not come later */
     HARSOLVEK_NOT_NEWER = 42,
     /* larger than the MaxImageSize of a ready answer */
     HARSOLVEK_TOO_LARGE = 43,
@@ -160,7 +160,8 @@ enum harsolvek_number {
     HARSOLVEK_FILE_SIZE = 46
 };
 
-/* FWVersion1 to FWVersion4 of a firmware. */
+/* FWVersion1 to FWVersion4 of a firmware, the most significant first. Of two firmwares the later one
+ * has the greater number at the first place at which they differ. */
 typedef struct harsolvek_versions {
     uint16_t first;
     uint16_t second;
@@ -366,7 +367,8 @@ static inline uint32_t harsolvek_receiver_resends(const harsolvek_receiver *stat
 
 /* ---- The indoor end ---- */
 
-/* What the file is offered as. */
+/* What the file is offered as. It is newer than what a receiver reports if vendor and product agree
+ * and its versions are later. Equal ones are not. */
 typedef struct harsolvek_release {
     uint16_t vendor;
     uint16_t product;

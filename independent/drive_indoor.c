@@ -230,15 +230,24 @@ static uint8_t draw_status(choice *from)
     return (uint8_t)(choice_one_in(from, 24) ? 1 + choice_below(from, 255) : 0);
 }
 
-/* 001 T5-18. The file is mostly newer, now and then by one version or not at all. */
+/* 001 T5-18. The versions agree up to a place, or in all four; behind it they are noise. The file is
+ * mostly newer, by one at that place; now and then it is older there, or alike. */
 static size_t draw_identity(choice *from, const second_indoor *state, uint8_t *bytes)
 {
-    unsigned first = state->version[0];
-    const uint32_t reported[] = {first > 0 ? first - 1 : 0, choice_below(from, first), first,
-                                 first + 1, draw_word(from)};
+    const unsigned place = choice_below(from, 4);
+    const unsigned own = state->version[place];
+    const uint32_t reported[] = {own > 0 ? own - 1 : 0, choice_below(from, own), own, own + 1,
+                                 draw_word(from)};
+    const int alike = choice_one_in(from, 16);
     draw_put(bytes + 3, draw_beside(from, state->vendor));
     draw_put(bytes + 5, draw_beside(from, state->product));
-    draw_put(bytes + 9, choice_one_in(from, 4) ? CHOICE_OF(from, reported) : reported[0]);
+    for (unsigned i = 0; i < (alike ? 4 : place); i++) {
+        draw_put(bytes + 9 + 2 * i, state->version[i]);
+    }
+    if (!alike) {
+        draw_put(bytes + 9 + 2 * place,
+                 choice_one_in(from, 4) ? CHOICE_OF(from, reported) : reported[0]);
+    }
     return 22;
 }
 

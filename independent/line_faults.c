@@ -163,7 +163,8 @@ static void offer_as_newer(line_session *s)
     const harsolvek_identity identity = harsolvek_receiver_identity(&s->receiver);
     if (s->kind == LINE_OLD && indoor_in(s, HARSOLVEK_INDOOR_IDENTIFY)) {
         s->indoor.word[VENDOR_PRODUCT] = identity.vendor + 65536u * identity.product;
-        s->indoor.word[VERSIONS] |= 65535;
+        s->indoor.word[VERSIONS] = UINT32_MAX;
+        s->indoor.word[VERSIONS + 1] = UINT32_MAX;
     }
 }
 

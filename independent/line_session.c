@@ -106,42 +106,57 @@ static uint16_t some_word(choice *from)
     return (uint16_t)choice_below(from, 65536);
 }
 
+/* One that another can be smaller or greater than. */
+static uint16_t some_version(choice *from)
+{
+    return (uint16_t)(1 + choice_below(from, 65534));
+}
+
 static harsolvek_release some_release(choice *from)
 {
     harsolvek_release release;
     release.vendor = some_word(from);
     release.product = some_word(from);
-    release.versions.first = (uint16_t)(1 + choice_below(from, 65535));
-    release.versions.second = some_word(from);
-    release.versions.third = some_word(from);
-    release.versions.fourth = some_word(from);
+    release.versions.first = some_version(from);
+    release.versions.second = some_version(from);
+    release.versions.third = some_version(from);
+    release.versions.fourth = some_version(from);
     return release;
 }
 
-/* The file is newer if vendor and product agree and its FWVersion1 is greater (01, The indoor end's
- * phases). */
+/* Versions than which the offered ones come later: alike up to a place, smaller there, and any
+ * behind it (02 a). If not, greater there, or alike in all four. */
+static harsolvek_versions some_versions(choice *from, const harsolvek_versions *offered, int later)
+{
+    const uint16_t own[] = {offered->first, offered->second, offered->third, offered->fourth};
+    const unsigned place = choice_below(from, later ? 4 : 5);
+    harsolvek_versions versions;
+    uint16_t told[4];
+    for (unsigned i = 0; i < 4; i++) {
+        told[i] = i < place ? own[i] : some_word(from);
+    }
+    if (place < 4) {
+        told[place] = (uint16_t)(later ? choice_below(from, own[place])
+                                       : own[place] + 1 + choice_below(from, 65535u - own[place]));
+    }
+    versions.first = told[0];
+    versions.second = told[1];
+    versions.third = told[2];
+    versions.fourth = told[3];
+    return versions;
+}
+
+/* The file is newer, but where the kind says that it is not: for the vendor, the product or the
+ * versions. */
 static harsolvek_identity some_identity(line_session *s, const harsolvek_release *release)
 {
     choice *from = &s->choices;
-    const uint32_t offered = release->versions.first;
+    const unsigned reason = s->kind == LINE_OLD ? 1 + choice_below(from, 3) : 0;
     harsolvek_identity identity;
     memset(&identity, 0, sizeof identity);
-    identity.vendor = release->vendor;
-    identity.product = release->product;
-    identity.versions.first = (uint16_t)choice_below(from, offered);
-    identity.versions.second = some_word(from);
-    if (s->kind == LINE_OLD) {
-        switch (choice_below(from, 3)) {
-        case 0:
-            identity.vendor ^= 1;
-            break;
-        case 1:
-            identity.product ^= 256;
-            break;
-        default:
-            identity.versions.first = (uint16_t)(offered + choice_below(from, 65536 - offered));
-        }
-    }
+    identity.vendor = reason == 1 ? release->vendor ^ 1 : release->vendor;
+    identity.product = reason == 2 ? release->product ^ 256 : release->product;
+    identity.versions = some_versions(from, &release->versions, reason != 3);
     return identity;
 }
 

@@ -106,9 +106,15 @@
     X(RECEIVER_REFUSED_START_KEEPS_STATE, SECOND_PART_RECEIVER, \
       "A refused start leaves the state as it was.") \
     X(INDOOR_EQUAL_VERSION_IS_NEWER, SECOND_PART_INDOOR, \
-      "A file with the FWVersion1 reported is newer.") \
-    X(INDOOR_SECOND_VERSION_DECIDES_TIE, SECOND_PART_INDOOR, \
-      "With equal FWVersion1 a greater FWVersion2 makes the file newer.") \
+      "A file with the four versions reported is newer.") \
+    X(INDOOR_FIRST_VERSION_ALONE, SECOND_PART_INDOOR, \
+      "Of the versions FWVersion1 alone is compared.") \
+    X(INDOOR_THIRD_VERSION_BEFORE_SECOND, SECOND_PART_INDOOR, \
+      "FWVersion2 is ordered within FWVersion3.") \
+    X(INDOOR_FOURTH_VERSION_FORGOTTEN, SECOND_PART_INDOOR, \
+      "FWVersion4 is not compared.") \
+    X(INDOOR_ANY_GREATER_VERSION_DECIDES, SECOND_PART_INDOOR, \
+      "A file of which any version is greater is newer.") \
     X(INDOOR_VENDOR_NOT_COMPARED, SECOND_PART_INDOOR, \
       "The vendor is not compared.") \
     X(INDOOR_PRODUCT_NOT_COMPARED, SECOND_PART_INDOOR, \

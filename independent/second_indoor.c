@@ -175,10 +175,38 @@ static unsigned type_due(const second_indoor *s)
     }
 }
 
-/* 01: of the versions FWVersion1 alone decides. */
+/* 001 section 5.3.1: FWVersion2 counts within FWVersion1, 3 within 2 and 4 within 3, so the four are
+ * digits of one number to the base 65,536. */
+static uint64_t version_number(const unsigned version[4])
+{
+    const int exchanged = fault(INDOOR_THIRD_VERSION_BEFORE_SECOND);
+    const uint64_t two = ((uint64_t)version[0] << 16) + version[exchanged ? 2 : 1];
+    const uint64_t three = (two << 16) + version[exchanged ? 1 : 2];
+
+    if (fault(INDOOR_FIRST_VERSION_ALONE)) {
+        return version[0];
+    }
+    return (three << 16) + (fault(INDOOR_FOURTH_VERSION_FORGOTTEN) ? 0 : version[3]);
+}
+
+/* Equal is not later (02 a). */
+static int later(const unsigned ours[4], const unsigned theirs[4])
+{
+    if (fault(INDOOR_ANY_GREATER_VERSION_DECIDES)) {
+        return ours[0] > theirs[0] || ours[1] > theirs[1] || ours[2] > theirs[2] ||
+               ours[3] > theirs[3];
+    }
+    if (version_number(ours) == version_number(theirs)) {
+        return fault(INDOOR_EQUAL_VERSION_IS_NEWER);
+    }
+    return version_number(ours) > version_number(theirs);
+}
+
+/* 02 a): vendor and product agree, and the file's four versions come later. */
 static int newer(const second_indoor *s, const uint8_t *response)
 {
-    unsigned reported = number_at(response + 9);
+    const unsigned reported[4] = {number_at(response + 9), number_at(response + 11),
+                                  number_at(response + 13), number_at(response + 15)};
 
     if (number_at(response + 3) != s->vendor && !fault(INDOOR_VENDOR_NOT_COMPARED)) {
         return 0;
@@ -186,11 +214,7 @@ static int newer(const second_indoor *s, const uint8_t *response)
     if (number_at(response + 5) != s->product && !fault(INDOOR_PRODUCT_NOT_COMPARED)) {
         return 0;
     }
-    if (s->version[0] == reported) {
-        return fault(INDOOR_EQUAL_VERSION_IS_NEWER) || (fault(INDOOR_SECOND_VERSION_DECIDES_TIE) &&
-                                                        s->version[1] > number_at(response + 11));
-    }
-    return s->version[0] > reported;
+    return later(s->version, reported);
 }
 
 /* 001 T5-20: MaxImageSize is 20 bits, and the four reserved ones above it are ignored when read. */

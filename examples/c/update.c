@@ -39,10 +39,12 @@
 /* How long the child may take to hand over its image once the cable is unplugged. */
 #define REPORT_MS 10000
 
-#define VENDOR      0x1209
-#define PRODUCT     0x0001
-#define OLD_VERSION 1
-#define NEW_VERSION 2
+#define VENDOR  0x1209
+#define PRODUCT 0x0001
+
+/* The receiver is on 3.1, and the file is 3.2. */
+static const harsolvek_versions old_versions = {3, 1, 0, 0};
+static const harsolvek_versions new_versions = {3, 2, 0, 0};
 
 /* What the child reports of the receiver at its end; the image's accepted bytes follow it. */
 typedef struct report {
@@ -94,7 +96,7 @@ static int receiver_end(port *cable, int results)
 {
     const harsolvek_settings settings = {RECEIVER_LIMIT_MS, RESENDS};
     const harsolvek_identity identity = {
-        .vendor = VENDOR, .product = PRODUCT, .versions = {OLD_VERSION, 0, 0, 0}};
+        .vendor = VENDOR, .product = PRODUCT, .versions = old_versions};
     receiver here;
     report said;
     size_t bytes = 0;
@@ -144,7 +146,7 @@ static const char *compare(int results, size_t length)
 static const char *indoor_end(port *cable, size_t length)
 {
     const harsolvek_settings settings = {INDOOR_LIMIT_MS, RESENDS};
-    const harsolvek_release release = {VENDOR, PRODUCT, {NEW_VERSION, 0, 0, 0}};
+    const harsolvek_release release = {VENDOR, PRODUCT, new_versions};
     static char words[40];
     indoor here;
     int number = indoor_start(&here, cable, &settings, &release, file, length);

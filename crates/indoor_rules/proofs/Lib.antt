@@ -1,5 +1,6 @@
 pub mod Accepted
 pub mod Compared
+pub mod Releases
 pub mod Due
 pub mod Elapsed
 pub mod Orders

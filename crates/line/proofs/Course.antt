@@ -75,10 +75,10 @@ low-or-last j n false e h = let no = ltb-false j n e in inr (omega arith)
 
 -- Reserved bits, which a reader clears, do not change whether a file is newer.
 newer-cleared : (release : Release) (identity : Identity) → Newer release identity → Newer release (cleared identity)
-newer-cleared release identity h = record { vendor = h .vendor; product = h .product; version = h .version }
+newer-cleared release identity h = record { vendor = h .vendor; product = h .product; later = h .later }
 
 cleared-newer : (release : Release) (identity : Identity) → Newer release (cleared identity) → Newer release identity
-cleared-newer release identity h = record { vendor = h .vendor; product = h .product; version = h .version }
+cleared-newer release identity h = record { vendor = h .vendor; product = h .product; later = h .later }
 
 module _ (file memory : List ℕ) (release : Release) (identity : Identity) where
   -- A newer file that fits.

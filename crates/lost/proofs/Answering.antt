@@ -64,7 +64,7 @@ module _ (x : Given) (ms : ℕ) (l : Timed) where
     over-validate t sent wait number = refl
 
     newer : Newer (x .release) (cleared (x .identity))
-    newer = let h = newer-only (x .release) (x .identity) (fits .newer) in record { vendor = h .vendor; product = h .product; version = h .version }
+    newer = let h = newer-only (x .release) (x .identity) (fits .newer) in record { vendor = h .vendor; product = h .product; later = h .later }
 
     first-trip : trips x 1 ≡ x .up + x .down
     first-trip =

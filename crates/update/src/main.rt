@@ -1,5 +1,6 @@
 // One whole update to watch: the file on standard input goes from the indoor end to the receiver over a line that loses and repeats
-// messages by a seed. Arguments: the seed, how many in a hundred are lost and how many repeated, and `quiet` for the result alone.
+// messages by a seed. Arguments: the seed, how many in a hundred are lost and how many repeated, the four versions that the file is offered
+// as and the four that the receiver reports, and `quiet` for the result alone.
 mod counts;
 mod given;
 mod page;
@@ -44,8 +45,8 @@ fn read(file: &mut [u8], image: &mut [u8]) {
         return;
     }
     session::start(
-        identity(),
-        release(),
+        identity(given.reported),
+        release(given.offered),
         given.luck,
         given.quiet,
         &file[..n],
@@ -62,9 +63,7 @@ fn goes_on(n: usize, room: usize) -> bool {
     libc::read(STDIN_FILENO, &mut more) != 0
 }
 
-// A receiver that runs version 1 of its firmware; the file is version 2.
-fn identity() -> Identity {
-    let versions = version(1);
+fn identity(versions: Versions) -> Identity {
     Identity {
         vendor: VENDOR,
         product: PRODUCT,
@@ -79,8 +78,7 @@ fn identity() -> Identity {
     }
 }
 
-fn release() -> Release {
-    let versions = version(2);
+fn release(versions: Versions) -> Release {
     Release {
         vendor: VENDOR,
         product: PRODUCT,
@@ -91,12 +89,3 @@ fn release() -> Release {
 const VENDOR: u16 = 0x1209;
 
 const PRODUCT: u16 = 0x0001;
-
-fn version(first: u16) -> Versions {
-    Versions {
-        first,
-        second: 0,
-        third: 0,
-        fourth: 0,
-    }
-}

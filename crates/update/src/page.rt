@@ -54,7 +54,7 @@ impl Page {
         self.word(&digits[..count])
     }
 
-    // The next word begins at this column, or after what is there.
+    // The next word begins at this column, or a space after what is there.
     pub(crate) fn column(self, column: usize) -> Page
         requires { ⌜ self .at ≤ 120 ⌝ }
         ensures { λ r. ⌜ r .at ≤ 120 ⌝ }
@@ -65,7 +65,7 @@ impl Page {
                 return Page { bytes, at: column };
             }
         }
-        self
+        self.word(b" ")
     }
 
     // Returns whether the line could be written.

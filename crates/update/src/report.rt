@@ -4,6 +4,7 @@ use crate::page::Page;
 use crate::phases;
 use crate::session::Ended;
 use crate::turn;
+use crate::words;
 use indoor_state::phase::Phase;
 use indoor_state::phase::Reason;
 use lossy_ends::Ends;
@@ -36,6 +37,9 @@ pub(crate) fn ended(ended: Ended, file: &[u8], image: &[u8])
     let counts = ended.counts;
     let receiver = ends.receiver;
     let judged = judge(ends, file, image);
+    if offered(ends) {
+        return;
+    }
     if outcome(receiver, phases::indoors(ends.indoor), judged, file, image) {
         return;
     }
@@ -58,6 +62,17 @@ fn judge(ends: Ends, file: &[u8], image: &[u8]) -> Judged
     ensures { λ r. ⌜ (r .done ≡ true → r .same ≡ true) ⌝ }
 {
     lossy_session::judge(ends, file, image)
+}
+
+// The two versions by which the indoor end judges whether the file is newer (02 a).
+fn offered(ends: Ends) -> bool {
+    let indoor = ends.indoor;
+    let plan = indoor.plan;
+    let release = plan.release;
+    let receiver = ends.receiver;
+    let identity = receiver.identity;
+    let page = words::version(Page::blank().word(b"offered: "), release.versions);
+    say(words::version(page.word(b"; the receiver reports "), identity.versions))
 }
 
 // What is not done is told on standard error.

@@ -2,6 +2,7 @@
 use crate::page::Page;
 use wire::request::Parsed as Asks;
 use wire::request::Request;
+use wire::request::Versions;
 use wire::response::Parsed as Tells;
 use wire::response::Response;
 ghost use Prim.Native.Nat.{_≤_};
@@ -16,12 +17,26 @@ pub(crate) fn request(page: Page, message: &[u8]) -> Page
     };
     match valid {
         Request::GetFwId => page.word(b"GET_FW_ID"),
-        Request::Initiate(_) => page.word(b"INITIATE"),
+        Request::Initiate(offered) => version(page.word(b"INITIATE, "), offered),
         Request::Data { number, size } => block(page, number, size),
         Request::Validate => page.word(b"VALIDATE"),
         Request::Abort => page.word(b"ABORT"),
         Request::NotBuilt => page.word(b"not built"),
     }
+}
+
+// FWVersion1 to FWVersion4, with points between them.
+pub(crate) fn version(page: Page, versions: Versions) -> Page
+    requires { ⌜ page .at ≤ 120 ⌝ }
+    ensures { λ r. ⌜ r .at ≤ 120 ⌝ }
+{
+    let two = page.number(versions.first as u64)
+        .word(b".")
+        .number(versions.second as u64);
+    two.word(b".")
+        .number(versions.third as u64)
+        .word(b".")
+        .number(versions.fourth as u64)
 }
 
 fn block(page: Page, number: u16, size: usize) -> Page
@@ -43,8 +58,8 @@ pub(crate) fn response(page: Page, message: &[u8]) -> Page
     match valid {
         Response::GetFwId {
             status: _,
-            identity: _,
-        } => page.word(b"GET_FW_ID"),
+            identity,
+        } => version(page.word(b"GET_FW_ID, "), identity.versions),
         Response::Initiate {
             status: _,
             wait: _,

@@ -1,43 +1,45 @@
 // A whole session of both ends over a clean line, on the image and the file that the sessions of one end borrow too.
 use crate::bench;
 use crate::indoor_phase;
+use crate::release;
+use crate::release::Offered;
 use crate::session;
 use clean::Ran;
 use indoor_state::plan::Release;
 use saying::Said;
 use script::Field;
-use wire::request::Versions;
 
-// The run gets only the lent parts of file and image.
 pub(crate) fn answer(words: &[u8], file: &[u8], image: &mut [u8]) -> Said {
     let limit = Field::none().next(words, 65535);
     let resends = limit.next(words, 255);
     let capacity = resends.next(words, bench::MEMORY);
     let length = capacity.next(words, bench::MEMORY);
-    let vendor = length.next(words, 65535);
-    let product = vendor.next(words, 65535);
-    let version = product.next(words, 65535);
-    if !version.is_last(words) {
+    let offered = release::behind(length, words);
+    let Offered::As(release) = offered else {
         return Said::not_understood();
-    }
-    let release = Release {
-        vendor: vendor.word(),
-        product: product.word(),
-        versions: Versions {
-            first: version.word(),
-            second: 0,
-            third: 0,
-            fourth: 0,
-        },
     };
-    let room = script::part_of(image, capacity.value);
-    carried(
+    let part = script::upto(file, length.value);
+    lent(
         limit.word(),
         resends.byte(),
         release,
-        script::upto(file, length.value),
-        &mut image[..room],
+        part,
+        capacity.value,
+        image,
     )
+}
+
+// The run gets only the lent part of the image.
+fn lent(
+    limit: u16,
+    resends: u8,
+    release: Release,
+    file: &[u8],
+    capacity: usize,
+    image: &mut [u8],
+) -> Said {
+    let room = script::part_of(image, capacity);
+    carried(limit, resends, release, file, &mut image[..room])
 }
 
 fn carried(limit: u16, resends: u8, release: Release, file: &[u8], image: &mut [u8]) -> Said {

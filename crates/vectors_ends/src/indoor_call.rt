@@ -2,13 +2,13 @@
 use crate::bench::Session;
 use crate::indoor_word::Call;
 use crate::indoor_word::Step;
-use indoor_state::plan::Release;
+use crate::release;
+use crate::release::Offered;
 use indoor_state::session::Indoor;
 use indoor_state::session::Outcome;
 use indoor_state::session::Started;
 use script::Field;
 use wire::codes;
-use wire::request::Versions;
 
 pub(crate) enum Called {
     Begun(Started),
@@ -33,24 +33,9 @@ pub(crate) fn run(
 fn start(words: &[u8], file: &[u8], buffer: &mut [u8]) -> Called {
     let limit = Field::none().next(words, 65535);
     let resends = limit.next(words, 255);
-    let vendor = resends.next(words, 65535);
-    let product = vendor.next(words, 65535);
-    let first = product.next(words, 65535);
-    let second = first.next(words, 65535);
-    let third = second.next(words, 65535);
-    let fourth = third.next(words, 65535);
-    if !fourth.is_last(words) {
+    let offered = release::behind(resends, words);
+    let Offered::As(release) = offered else {
         return Called::NotUnderstood;
-    }
-    let release = Release {
-        vendor: vendor.word(),
-        product: product.word(),
-        versions: Versions {
-            first: first.word(),
-            second: second.word(),
-            third: third.word(),
-            fourth: fourth.word(),
-        },
     };
     Called::Begun(indoor::start(limit.word(), resends.byte(), release, file, buffer))
 }

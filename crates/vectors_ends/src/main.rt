@@ -12,6 +12,7 @@ mod indoor_word;
 mod lend;
 mod outcome;
 mod phase;
+mod release;
 mod session;
 mod verdict;
 mod word;

@@ -1,4 +1,5 @@
 use Rattle.basis.specs.Pick.{tests}
+use borrow.Author.Needs.{needs}
 use Rattle.indoor_rules.specs.Newer.{newerOf}
 use Rattle.indoor_decide.proofs.compare.newer.Statement.{statement}
 use Rattle.indoor_decide.proofs.compare.newer.Tie as tie
@@ -10,4 +11,5 @@ newer-spec =
     (tie.spec
     (λ c. search tests)
     (λ c. search tests)
-    (λ c. search tests))
+    (λ c κs. search needs)
+    (λ c. search (tests, ← (c .later .ensures))))
