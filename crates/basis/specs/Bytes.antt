@@ -11,6 +11,7 @@ Bytes m = (i : ℕ) → byte_at m i < 256
 
 -- Each number in it is below 256, and every list of such numbers is one.
 pub bytes_below : (m : List ℕ) → Bytes m → (x : ℕ) → Memᴰ x m → x < 256
+bytes_below [] small x h = elim h [ ]
 bytes_below (y ∷ m) small x (Memᴰ.head e) = rw e (small zero)
 bytes_below (y ∷ m) small x (Memᴰ.tail h) = bytes_below m (λ i. small (suc i)) x h
 

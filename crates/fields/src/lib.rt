@@ -1,4 +1,6 @@
 // What two fields of a message hold: the code of a status, and an identity without its reserved bits (001 T5-18, T5-29).
+#![tactic(auto)]
+
 ghost use Rattle.std.specs.Prelude.{◌≡◌};
 ghost use Rattle.wire.specs.Identity.{cleared};
 ghost use Rattle.wire.specs.Status.{code_of};

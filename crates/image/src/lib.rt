@@ -1,4 +1,6 @@
 // The blocks of a file and the bytes that were accepted (01, Sizes and numbers).
+#![tactic(auto)]
+
 mod blocks;
 mod sum;
 

@@ -1,4 +1,6 @@
 // The indoor end's calls: a session's start, one response, one time call (01, The indoor end's phases).
+#![tactic(auto)]
+
 mod outcome;
 mod response_call;
 mod send;

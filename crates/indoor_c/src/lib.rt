@@ -1,4 +1,6 @@
 // The indoor end for C: its calls on a session of thirteen lent words (include/harsolvek.h).
+#![tactic(auto)]
+
 mod is_session;
 mod phase_words;
 mod response_call;

@@ -1,5 +1,7 @@
 // What the indoor end decides on a response and when time passes: its next state and what it answers. Nothing here touches memory
 // (01, The indoor end's phases).
+#![tactic(auto)]
+
 mod answer;
 mod compare;
 mod response;

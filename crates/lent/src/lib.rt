@@ -1,4 +1,6 @@
 // Bytes put into lent memory at a place. Blocks, responses and padded arrays all go through this one copy loop.
+#![tactic(auto)]
+
 ghost use Rattle.std.specs.Prelude.{◌≡◌, ◌+◌, ◌≤◌, length};
 ghost use Rattle.basis.specs.Left.{left};
 ghost use Rattle.lent.specs.Put.{pasted, put_of};

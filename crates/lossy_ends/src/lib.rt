@@ -1,4 +1,6 @@
 // Both ends on a line that loses and repeats: what one of them writes in a call is then on its way.
+#![tactic(auto)]
+
 mod ends;
 mod indoors;
 mod roof;

@@ -1,4 +1,6 @@
 // A session over a line that loses and repeats: how both ends start, time that passes there, and whether the image is the file.
+#![tactic(auto)]
+
 mod clock;
 mod judge_call;
 mod pass_call;

@@ -1,4 +1,6 @@
 // What becomes of a message on a line that loses and repeats, by a seed.
+#![tactic(auto)]
+
 mod called;
 mod luck;
 mod way;

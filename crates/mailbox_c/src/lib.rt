@@ -1,4 +1,6 @@
 // The mailbox for C: its calls on a state of ten words and on MESSAGE_IN, both where they lie (include/harsolvek.h).
+#![tactic(auto)]
+
 mod carry;
 mod change;
 mod failure;

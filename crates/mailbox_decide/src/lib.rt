@@ -1,4 +1,6 @@
 // What the mailbox decides on a write, on a report of the port and on a change, and what CCI then says. Nothing here touches memory (01, The mailbox).
+#![tactic(auto)]
+
 mod answer;
 mod bits;
 mod changes;

@@ -1,4 +1,6 @@
 // A recording played on a mailbox: one record, and a part of a recording (01, Replay program).
+#![tactic(auto)]
+
 mod part;
 mod step;
 mod turn;

@@ -1,4 +1,6 @@
 // Bytes read as update messages: any byte string is answered, and nothing is read past its end.
+#![tactic(auto)]
+
 mod header;
 mod number;
 mod request;

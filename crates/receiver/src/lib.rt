@@ -1,5 +1,7 @@
 // The receiver's calls: a session's start, and what borrows memory: one request, one time call, the image sum
 // (01, The receiver's phases).
+#![tactic(auto)]
+
 mod hearing;
 mod outcome;
 mod request_call;

@@ -1,4 +1,6 @@
 // The receiver's C boundary: its calls on a session of fourteen words that the caller lends (include/harsolvek.h).
+#![tactic(auto)]
+
 mod is_session;
 mod pack;
 mod request_call;

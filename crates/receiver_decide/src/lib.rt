@@ -1,5 +1,7 @@
 // What the receiver decides: on a request which phase comes next, what is answered and where a block goes, and what time does. Nothing here
 // touches memory (01, The receiver's phases).
+#![tactic(auto)]
+
 mod answer;
 mod phase;
 mod range;

@@ -1,4 +1,6 @@
 // Records of a recording, read at a place and written into a lent buffer (01, Replay program).
+#![tactic(auto)]
+
 mod kinds;
 mod reader;
 mod record;

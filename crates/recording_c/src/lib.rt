@@ -1,4 +1,6 @@
 // The records of a recording for C: read at a place, written into a lent buffer, and the lines that they print (include/harsolvek.h).
+#![tactic(auto)]
+
 mod kinds;
 mod line_calls;
 mod read_call;

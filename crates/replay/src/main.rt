@@ -1,4 +1,6 @@
 // Plays the recording on standard input on a mailbox with two connectors, and prints a line for each record (01, Replay program).
+#![tactic(auto)]
+
 mod buffer;
 mod course;
 mod progress;

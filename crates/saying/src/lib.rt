@@ -1,5 +1,7 @@
 // The text that a program of the vectors prints after a line of its script, put together by value, piece by piece; only the program
 // prints.
+#![tactic(auto)]
+
 mod decimal;
 mod hex;
 mod memory;

@@ -1,4 +1,6 @@
 // The script of the vectors as it is read: its lines that ask for an answer, and their words, numbers and bytes.
+#![tactic(auto)]
+
 mod digit;
 mod field;
 mod heading;

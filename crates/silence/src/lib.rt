@@ -1,4 +1,6 @@
 // The silence limit and the resend count of a session, and the one expiry rule of both ends (01, Sizes and numbers).
+#![tactic(auto)]
+
 ghost use Rattle.std.specs.Prelude.{◌≡◌};
 ghost use Rattle.silence.specs.Settings.{settings_of, settings_number_of};
 ghost use Rattle.silence.specs.Expiry.{grown_of};
@@ -23,6 +25,7 @@ impl Settings {
 
     pub const RESENDS_MOST: u8 = 10;
 
+    #[tactic(auto, using(basis::specs::Pick::tests), unfolding(crate::specs::Settings::settings_of))]
     pub fn new(limit: u16, resends: u8) -> Checked
         ensures { result ≡ settings_of limit resends }
     {
@@ -67,6 +70,7 @@ pub struct Grown {
 }
 
 // The sum is taken in a wider type, so that no silence and no elapsed time can wrap.
+#[tactic(auto, using(basis::specs::Pick::tests), unfolding(crate::specs::Expiry::grown_of))]
 pub fn grow(silence: u16, elapsed: u16, resends: u8, settings: Settings) -> Grown
     ensures { result ≡ grown_of silence elapsed resends settings }
 {

@@ -1,6 +1,8 @@
 // One whole update to watch: the file on standard input goes from the indoor end to the receiver over a line that loses and repeats
 // messages by a seed. Arguments: the seed, how many in a hundred are lost and how many repeated, the four versions that the file is offered
 // as and the four that the receiver reports, and `quiet` for the result alone.
+#![tactic(auto)]
+
 mod counts;
 mod given;
 mod page;

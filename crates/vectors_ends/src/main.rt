@@ -1,5 +1,7 @@
 // Reads a script of sessions of the receiver, of the indoor end and of both, and prints after each line what its call answered and left
 // (01, The receiver's phases; 01, The indoor end's phases).
+#![tactic(auto)]
+
 mod bench;
 mod call;
 mod clean_line;

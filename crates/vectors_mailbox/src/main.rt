@@ -1,4 +1,6 @@
 // Reads a script of mailboxes and recordings, and prints behind each line what came of it (01, The mailbox; 01, Replay program).
+#![tactic(auto)]
+
 mod ending;
 mod mailbox_call;
 mod mailbox_held;

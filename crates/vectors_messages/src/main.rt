@@ -1,4 +1,6 @@
 // Reads a script of messages, and prints after each line what is read in the message and what is written of it (001 chapter 5).
+#![tactic(auto)]
+
 mod message;
 mod requests;
 mod responses;

@@ -1,4 +1,6 @@
 // The library's version for C, in an archive member of its own, so that each part can be linked without the others.
+#![tactic(auto)]
+
 ghost use Rattle.std.specs.Prelude.{◌≡◌};
 ghost use Rattle.version_c.specs.Version.{harsolvek_version};
 

@@ -1,4 +1,6 @@
 // Numbers of other widths than their rules take: a wide one that is narrowed, and two narrow ones in a word.
+#![tactic(auto)]
+
 ghost use Rattle.std.specs.Prelude.{◌≡◌};
 ghost use Rattle.width.specs.Narrow.{at_most};
 ghost use Rattle.width.specs.Halves.{halves_of};

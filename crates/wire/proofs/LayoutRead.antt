@@ -60,11 +60,13 @@ module _ (body : List ℕ) (most : length body ≤ 258) where
   request_not_built_reads t (Memᴰ.head e) = rw e (request_body _ body most)
   request_not_built_reads t (Memᴰ.tail (Memᴰ.head e)) = rw e (request_body _ body most)
   request_not_built_reads t (Memᴰ.tail (Memᴰ.tail (Memᴰ.head e))) = rw e (request_body _ body most)
+  request_not_built_reads t (Memᴰ.tail (Memᴰ.tail (Memᴰ.tail h))) = elim h [ ]
 
   pub response_not_built_reads : (t : ℕ) → Memᴰ t responses_not_built → response.parsed_response_of (0x01 ∷ t ∷ body) ≡ ResPar.Valid Res.NotBuilt
   unfolding response.response_of_type pick
   response_not_built_reads t (Memᴰ.head e) = rw e (response_body _ body most)
   response_not_built_reads t (Memᴰ.tail (Memᴰ.head e)) = rw e (response_body _ body most)
+  response_not_built_reads t (Memᴰ.tail (Memᴰ.tail h)) = elim h [ ]
 
 pub identity_reads : (status a b c d hardware silicon e f g h i j k l bank flags1 flags2 flags3 flags4 : ℕ)
     → response.parsed_response_of (

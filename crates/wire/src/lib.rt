@@ -1,4 +1,6 @@
 // The update messages: what each one says, and the codes that it says it with (001 T5-1 to T5-29).
+#![tactic(auto)]
+
 pub mod codes;
 pub mod request;
 pub mod response;

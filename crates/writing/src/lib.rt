@@ -1,4 +1,6 @@
 // Update messages written as bytes: an array by value with its length, and the one routine that puts it into a lent buffer.
+#![tactic(auto)]
+
 mod message;
 mod request;
 mod response;
