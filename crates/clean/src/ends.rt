@@ -7,7 +7,7 @@ use receiver_state::session::Receiver;
 use receiver_state::verdict::Verdict;
 
 // `underway` counts the bytes of the request on its way; 0 where there is none.
-#[derive(Drop)]
+#[derive(Clone, Copy)]
 pub struct Ends {
     pub receiver: Receiver,
     pub indoor: Indoor,

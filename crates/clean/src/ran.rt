@@ -6,7 +6,7 @@ use indoor_state::phase::Phase;
 
 // `Settings` and `FileSize` are a refused start (29, 46). `Ended` has the indoor end's phase once nothing is on its way, and how many
 // requests were sent.
-#[derive(Drop)]
+#[derive(Clone, Copy)]
 pub enum Ran {
     Settings,
     FileSize,

@@ -6,7 +6,7 @@ ghost use Rattle.commands.specs.Control.{fields_of, control_of};
 pub const CONTROL_SIZE: usize = 8;
 
 // The fields that the commands of document 01 use; each command looks at its own.
-#[derive(Drop)]
+#[derive(Clone, Copy)]
 pub struct Control {
     pub code: u8,
     // 000 T4-5, T4-15, T4-41: Connector Number.
@@ -20,7 +20,7 @@ pub struct Control {
     pub completed: bool,
 }
 
-#[derive(Drop)]
+#[derive(Clone, Copy)]
 pub enum Parsed {
     Fields(Control),
     WrongLength,

@@ -2,7 +2,7 @@
 ghost use Rattle.std.specs.Prelude.{◌≡◌};
 ghost use Rattle.commands.specs.Table.{entry_of};
 
-#[derive(Drop)]
+#[derive(Clone, Copy)]
 pub enum Class {
     // PPM_RESET, CANCEL, ACK_CC_CI and SET_NOTIFICATION_ENABLE.
     Reset,
@@ -15,7 +15,7 @@ pub enum Class {
 }
 
 // `connector`: whether a connector number is needed.
-#[derive(Drop)]
+#[derive(Clone, Copy)]
 pub struct Entry {
     pub class: Class,
     pub connector: bool,

@@ -5,7 +5,7 @@ ghost use Rattle.indoor_c.specs.PhaseWords.{indoor_phase_of, indoor_reason_of, i
 use indoor_state::phase::{Phase, Progress, Reason};
 use width::HALF_MOST;
 
-#[derive(Drop)]
+#[derive(Clone, Copy)]
 pub(crate) struct PhaseWords {
     pub phase: u32,
     pub asked: u32,

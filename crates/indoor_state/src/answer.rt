@@ -1,7 +1,7 @@
 // What a call of the indoor end answers: document 01's number, and the request that goes out with it.
 use crate::phase::Reason;
 
-#[derive(Drop)]
+#[derive(Clone, Copy)]
 pub enum Answer {
     // 0, by the request that goes out.
     Identifying,
@@ -22,7 +22,7 @@ pub enum Answer {
 }
 
 // At most one request goes out with an answer; a block is given by its number.
-#[derive(Drop)]
+#[derive(Clone, Copy)]
 pub enum Sends {
     Nothing,
     GetFwId,

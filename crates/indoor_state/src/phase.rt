@@ -1,7 +1,7 @@
 // The indoor end's state (01, The indoor end's phases).
 
 // Why it failed: 40 to 45 (01, Numbers we answer).
-#[derive(Drop)]
+#[derive(Clone, Copy)]
 pub enum Reason {
     Silence,
     Refused,
@@ -13,14 +13,14 @@ pub enum Reason {
 
 // The block last asked for, the milliseconds left of the wait before it is sent (0 for no wait), and whether the empty block has been
 // sent.
-#[derive(Drop)]
+#[derive(Clone, Copy)]
 pub struct Progress {
     pub asked: u16,
     pub wait: u16,
     pub emptied: bool,
 }
 
-#[derive(Drop)]
+#[derive(Clone, Copy)]
 pub enum Phase {
     Identify,
     Initiate { wait: u16 },
@@ -31,7 +31,7 @@ pub enum Phase {
 }
 
 // What a call may change: `silence` is in milliseconds, and `resends` counts the resends made since the last accepted response.
-#[derive(Drop)]
+#[derive(Clone, Copy)]
 pub struct State {
     pub phase: Phase,
     pub silence: u16,

@@ -3,7 +3,7 @@ use silence::Settings;
 use wire::request::Versions;
 
 // The file's vendor, product and four versions.
-#[derive(Drop)]
+#[derive(Clone, Copy)]
 pub struct Release {
     pub vendor: u16,
     pub product: u16,
@@ -11,7 +11,7 @@ pub struct Release {
 }
 
 // `length` is the file's, in bytes.
-#[derive(Drop)]
+#[derive(Clone, Copy)]
 pub struct Plan {
     pub settings: Settings,
     pub release: Release,

@@ -3,14 +3,14 @@ use crate::answer::Answer;
 use crate::phase::State;
 use crate::plan::Plan;
 
-#[derive(Drop)]
+#[derive(Clone, Copy)]
 pub struct Indoor {
     pub plan: Plan,
     pub state: State,
 }
 
 // `written` is how many bytes of the output buffer the first request took.
-#[derive(Drop)]
+#[derive(Clone, Copy)]
 pub enum Started {
     Made { session: Indoor, written: usize },
     Settings,
@@ -19,7 +19,7 @@ pub enum Started {
 }
 
 // What a response and a time call return: the session after it, the answer, and how many bytes of the output buffer were written.
-#[derive(Drop)]
+#[derive(Clone, Copy)]
 pub struct Outcome {
     pub session: Indoor,
     pub answer: Answer,

@@ -2,7 +2,7 @@
 use crate::answer::Answer;
 use crate::phase::State;
 
-#[derive(Drop)]
+#[derive(Clone, Copy)]
 pub struct Step {
     pub state: State,
     pub answer: Answer,

@@ -5,7 +5,7 @@ ghost use Rattle.std.specs.Prelude.{◌≡◌, ◌+◌, ◌≤◌, length};
 ghost use Rattle.basis.specs.Left.{left};
 ghost use Rattle.lent.specs.Put.{pasted, put_of};
 
-#[derive(Drop)]
+#[derive(Clone, Copy)]
 pub enum Placed {
     Stored,
     NoRoom,

@@ -12,7 +12,7 @@ use luck::{Fate, Going, Luck, Way, Went};
 use receiver_state::session::Receiver;
 
 // `rises` says whether the request went, `way` how many bytes of its buffer the message had, and `luck` is the generator for the next message.
-#[derive(Drop)]
+#[derive(Clone, Copy)]
 pub struct Carried {
     pub ends: Ends,
     pub luck: Luck,

@@ -4,7 +4,7 @@ use indoor_state::session::Indoor;
 use luck::Way;
 use receiver_state::session::Receiver;
 
-#[derive(Drop)]
+#[derive(Clone, Copy)]
 pub struct Ends {
     pub receiver: Receiver,
     pub indoor: Indoor,

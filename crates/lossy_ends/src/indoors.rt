@@ -5,7 +5,7 @@ ghost use Rattle.lossy_ends.specs.Indoors.{indoors_of};
 use indoor_state::session::{Indoor, Outcome};
 use luck::{Answered, Way};
 
-#[derive(Drop)]
+#[derive(Clone, Copy)]
 pub struct Indoors {
     pub indoor: Indoor,
     pub up: Way,

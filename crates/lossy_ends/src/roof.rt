@@ -5,7 +5,7 @@ ghost use Rattle.lossy_ends.specs.Roof.{roof_of};
 use luck::{Answered, Way};
 use receiver_state::session::{Outcome, Receiver};
 
-#[derive(Drop)]
+#[derive(Clone, Copy)]
 pub struct Roof {
     pub receiver: Receiver,
     pub down: Way,

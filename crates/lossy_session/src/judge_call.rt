@@ -8,7 +8,7 @@ use lossy_ends::Ends;
 use receiver_state::session::Receiver;
 
 // `done`: the indoor end reports done. `same`: the receiver has accepted the file's bytes.
-#[derive(Drop)]
+#[derive(Clone, Copy)]
 pub struct Judged {
     pub done: bool,
     pub same: bool,

@@ -7,7 +7,7 @@ use crate::clock;
 use lossy_ends::{Ends, Indoors, Roof};
 use luck::Answered;
 
-#[derive(Drop)]
+#[derive(Clone, Copy)]
 pub struct Passed {
     pub ends: Ends,
     pub above: Answered,

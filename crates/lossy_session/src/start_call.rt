@@ -11,14 +11,14 @@ use receiver_state::session::{Receiver, Started as Made};
 use wire::response::Identity;
 
 // An end's silence limit in milliseconds and its resends, not yet tested (29).
-#[derive(Drop)]
+#[derive(Clone, Copy)]
 pub struct Limits {
     pub silence: u16,
     pub resends: u8,
 }
 
 // `Refused` has the number of the start that refused (01, Numbers we answer).
-#[derive(Drop)]
+#[derive(Clone, Copy)]
 pub enum Started {
     Made(Ends),
     Refused(u8),

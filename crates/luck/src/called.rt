@@ -5,7 +5,7 @@ ghost use Rattle.luck.specs.Called.{answered_of};
 use crate::way::Way;
 
 // The answer's number (01, Numbers we answer), whether a message was sent, and whether that took the place of one that has never arrived.
-#[derive(Drop)]
+#[derive(Clone, Copy)]
 pub struct Answered {
     pub number: u8,
     pub sent: bool,

@@ -5,27 +5,27 @@ ghost use Rattle.luck.specs.Luck.{seeded_of, next_luck, percent_of, fate_of, goe
 use crate::way::Way;
 
 // In percent: how many messages are lost, and how many of those that arrive come once more.
-#[derive(Drop)]
+#[derive(Clone, Copy)]
 pub struct Odds {
     pub loss: u32,
     pub again: u32,
 }
 
-#[derive(Drop)]
+#[derive(Clone, Copy)]
 pub struct Luck {
     pub word: u32,
     pub odds: Odds,
 }
 
 // `Missing`: the message is lost, or there is none. `stays`: it arrives, and will arrive once more.
-#[derive(Drop)]
+#[derive(Clone, Copy)]
 pub enum Fate {
     Missing,
     Arrives { stays: bool },
 }
 
 // The message that goes next, `rises` for a request, and what becomes of it. `luck` is the generator for the message after it.
-#[derive(Drop)]
+#[derive(Clone, Copy)]
 pub struct Going {
     pub luck: Luck,
     pub rises: bool,

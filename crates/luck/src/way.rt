@@ -2,7 +2,7 @@
 ghost use Rattle.std.specs.Prelude.{◌≡◌};
 ghost use Rattle.luck.specs.Way.{no_message, way_of, message_on_way, rises_of, next_way, after_arrival_of, after_write_of, pushed_of};
 
-#[derive(Drop)]
+#[derive(Clone, Copy)]
 pub struct Way {
     pub bytes: usize,
     pub again: bool,

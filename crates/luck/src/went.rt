@@ -6,7 +6,7 @@ use crate::called::Answered;
 use crate::luck::Going;
 use crate::way::Way;
 
-#[derive(Drop)]
+#[derive(Clone, Copy)]
 pub enum Went {
     Nothing,
     Lost,
@@ -14,7 +14,7 @@ pub enum Went {
 }
 
 // What is on its way up and down after a message has not arrived.
-#[derive(Drop)]
+#[derive(Clone, Copy)]
 pub struct Missed {
     pub up: Way,
     pub down: Way,

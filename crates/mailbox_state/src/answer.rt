@@ -1,5 +1,5 @@
 // What an event is answered; a definition gives each case its number (01, Numbers we answer).
-#[derive(Drop)]
+#[derive(Clone, Copy)]
 pub enum Answer {
     Taken,
     ControlLength,

@@ -2,13 +2,13 @@
 use crate::answer::Answer;
 use crate::state::State;
 
-#[derive(Drop)]
+#[derive(Clone, Copy)]
 pub struct Mailbox {
     pub state: State,
     pub message: [u8; 256],
 }
 
-#[derive(Drop)]
+#[derive(Clone, Copy)]
 pub struct Outcome {
     pub mailbox: Mailbox,
     pub answer: Answer,
@@ -16,7 +16,7 @@ pub struct Outcome {
 
 // What a start returns: `number` is 0, or 29 for a count that no mailbox has. An enum of this language holds no array, so the number is
 // beside the mailbox; beside a 29 it has no connector.
-#[derive(Drop)]
+#[derive(Clone, Copy)]
 pub struct Fresh {
     pub mailbox: Mailbox,
     pub number: u8,

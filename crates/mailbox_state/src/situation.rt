@@ -1,6 +1,6 @@
 // What a write is judged by (01, Numbers we answer: 2 to 6): of the mailbox, whether notifications are off, a command runs, an
 // acknowledgement is due and a connector is shown; of ACK_CC_CI, its bits 16 (`change`) and 17 (`completed`).
-#[derive(Drop)]
+#[derive(Clone, Copy)]
 pub struct Situation {
     pub off: bool,
     pub runs: bool,

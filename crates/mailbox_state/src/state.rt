@@ -2,21 +2,21 @@
 use crate::status::CommandStatus;
 
 // A mask is there only while notifications are on.
-#[derive(Drop)]
+#[derive(Clone, Copy)]
 pub enum Notifications {
     Off,
     On { mask: u16 },
 }
 
 // `shown` is a connector or 0 for none; connector c waits if `waiting[c - 1]`.
-#[derive(Drop)]
+#[derive(Clone, Copy)]
 pub struct Changes {
     pub shown: u8,
     pub waiting: [bool; 8],
 }
 
 // `connectors` is how many there are.
-#[derive(Drop)]
+#[derive(Clone, Copy)]
 pub struct State {
     pub connectors: u8,
     pub notifications: Notifications,

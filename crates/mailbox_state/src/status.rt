@@ -2,14 +2,14 @@
 // no flag beside it can contradict it.
 
 // What the port is to do: `connector` is 0 where the command needs none, and `reset_type` is CONNECTOR_RESET's (000 T4-5), else 0.
-#[derive(Drop)]
+#[derive(Clone, Copy)]
 pub struct Command {
     pub code: u8,
     pub connector: u8,
     pub reset_type: u8,
 }
 
-#[derive(Drop)]
+#[derive(Clone, Copy)]
 pub enum CommandStatus {
     Nothing,
     ResetDone,

@@ -3,7 +3,7 @@ use crate::answer::Answer;
 use crate::state::State;
 
 // 01, The mailbox: start and ACK keep MESSAGE_IN; reset, cancel and a completion without data zero it; a success fills it.
-#[derive(Drop)]
+#[derive(Clone, Copy)]
 pub enum MessageEffect {
     Kept,
     ZeroedAtReset,
@@ -12,7 +12,7 @@ pub enum MessageEffect {
     Filled,
 }
 
-#[derive(Drop)]
+#[derive(Clone, Copy)]
 pub struct Step {
     pub state: State,
     pub answer: Answer,

@@ -11,14 +11,14 @@ use printing::Line;
 use recording::{Ending, Read};
 
 // Why no further record was played: none is found at the place, or its line does not fit into the output.
-#[derive(Drop)]
+#[derive(Clone, Copy)]
 pub enum Stop {
     Ended(Ending),
     Full,
 }
 
 // The next record is at `taken`, and the next line goes to `written`.
-#[derive(Drop)]
+#[derive(Clone, Copy)]
 pub struct Played {
     pub mailbox: Mailbox,
     pub taken: usize,

@@ -8,7 +8,7 @@ use mailbox_state::mailbox::Mailbox;
 use printing::Line;
 use recording::Record;
 
-#[derive(Drop)]
+#[derive(Clone, Copy)]
 pub struct Turn {
     pub mailbox: Mailbox,
     pub answer: Answer,

@@ -2,7 +2,7 @@
 ghost use Rattle.std.specs.Prelude.{◌≡◌};
 ghost use Rattle.printing.specs.Line.{tail_of, tail_in};
 
-#[derive(Drop)]
+#[derive(Clone, Copy)]
 pub(crate) struct Tail {
     pub bytes: [u8; 5],
     pub len: usize,

@@ -8,7 +8,7 @@ use crate::tail::tail_of;
 // Eight digits, a space, three digits and a newline.
 pub const LONGEST: usize = 13;
 
-#[derive(Drop)]
+#[derive(Clone, Copy)]
 pub struct Line {
     pub bytes: [u8; LONGEST],
     pub len: usize,

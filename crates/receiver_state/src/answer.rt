@@ -1,7 +1,7 @@
 // What a call of the receiver answers: document 01's number, and the response that goes out with it.
 use wire::response::Response;
 
-#[derive(Drop)]
+#[derive(Clone, Copy)]
 pub enum Answer {
     // 0. A time call answers `Passed`, or `Asking` or `Closed` where it sends its DATA response again.
     Identified,
@@ -30,7 +30,7 @@ pub enum Answer {
 }
 
 // At most one response goes out with an answer.
-#[derive(Drop)]
+#[derive(Clone, Copy)]
 pub enum Reply {
     Nothing,
     Sends(Response),

@@ -5,7 +5,7 @@ use silence::Settings;
 use wire::response::Identity;
 
 // `silence` is in milliseconds, and `resends` counts the resends made since the last well-formed request.
-#[derive(Drop)]
+#[derive(Clone, Copy)]
 pub struct Receiver {
     pub settings: Settings,
     pub identity: Identity,
@@ -15,14 +15,14 @@ pub struct Receiver {
     pub resends: u8,
 }
 
-#[derive(Drop)]
+#[derive(Clone, Copy)]
 pub enum Started {
     Made(Receiver),
     Refused,
 }
 
 // What a request and a time call return: the session after it, the answer, and how many bytes of the output buffer were written.
-#[derive(Drop)]
+#[derive(Clone, Copy)]
 pub struct Outcome {
     pub session: Receiver,
     pub answer: Answer,

@@ -3,13 +3,13 @@ use crate::answer::Answer;
 use crate::phase::Phase;
 
 // Where in the image the request's block is put: nowhere, or at 256 × this number.
-#[derive(Drop)]
+#[derive(Clone, Copy)]
 pub enum Store {
     Nowhere,
     At(u16),
 }
 
-#[derive(Drop)]
+#[derive(Clone, Copy)]
 pub struct Step {
     pub phase: Phase,
     pub answer: Answer,
@@ -17,14 +17,14 @@ pub struct Step {
 }
 
 // The phase after the request and the answer. `kept`: nothing changes, and silence and resends are not set to zero either.
-#[derive(Drop)]
+#[derive(Clone, Copy)]
 pub struct Heard {
     pub phase: Phase,
     pub answer: Answer,
     pub kept: bool,
 }
 
-#[derive(Drop)]
+#[derive(Clone, Copy)]
 pub struct Tick {
     pub phase: Phase,
     pub silence: u16,

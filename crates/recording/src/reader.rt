@@ -5,7 +5,7 @@ ghost use Rattle.recording.specs.Reading.{next_record_of, control_from, change_f
 use crate::kinds;
 use crate::record::{ControlBytes, Record};
 
-#[derive(Drop)]
+#[derive(Clone, Copy)]
 pub enum Read {
     // The record after it begins at `next`.
     Found { record: Record, next: usize },
@@ -13,7 +13,7 @@ pub enum Read {
 }
 
 // Why no record is found.
-#[derive(Drop)]
+#[derive(Clone, Copy)]
 pub enum Ending {
     // The recording ends here, after a whole record.
     Whole,

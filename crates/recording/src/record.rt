@@ -3,7 +3,7 @@ ghost use Rattle.std.specs.Prelude.{◌≡◌};
 ghost use Rattle.recording.specs.Record.{control_bytes};
 
 // CONTROL's eight bytes, each a field, because an enum of this language holds no array.
-#[derive(Drop)]
+#[derive(Clone, Copy)]
 pub struct ControlBytes {
     pub first: u8,
     pub second: u8,
@@ -15,7 +15,7 @@ pub struct ControlBytes {
     pub eighth: u8,
 }
 
-#[derive(Drop)]
+#[derive(Clone, Copy)]
 pub enum Record {
     Control(ControlBytes),
     Change { connector: u8, reason: u16 },

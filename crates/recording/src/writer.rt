@@ -9,7 +9,7 @@ use crate::record::{ControlBytes, Record};
 // 01, Numbers we answer: below 9 bytes no record is written, also one that would fit.
 const ROOM_LEAST: usize = kinds::CONTROL_SIZE;
 
-#[derive(Drop)]
+#[derive(Clone, Copy)]
 pub enum Written {
     // How many bytes were written, at the buffer's start.
     Whole(usize),
@@ -28,7 +28,7 @@ impl Written {
     }
 }
 
-#[derive(Drop)]
+#[derive(Clone, Copy)]
 struct Nine {
     bytes: [u8; 9],
     len: usize,

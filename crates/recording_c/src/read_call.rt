@@ -6,7 +6,7 @@ use crate::kinds;
 use recording::{Ending, Read, Record};
 
 // A record as C has it, struct harsolvek_record.
-#[derive(Drop)]
+#[derive(Clone, Copy)]
 struct Numbers {
     kind: u32,
     reason: u16,
@@ -15,7 +15,7 @@ struct Numbers {
     control: [u8; 8],
 }
 
-#[derive(Drop)]
+#[derive(Clone, Copy)]
 struct Reading {
     // enum harsolvek_found
     number: u64,

@@ -10,7 +10,7 @@ use recording::{ControlBytes, Record, Written};
 const MALFORMED: u64 = 20;
 
 // The record that C hands in, if its kind is one.
-#[derive(Drop)]
+#[derive(Clone, Copy)]
 enum Given {
     Known(Record),
     NoSuchKind,

@@ -4,14 +4,14 @@ ghost use Rattle.replay.specs.Turns.{runs_of, end_of};
 
 use playing::Stop;
 
-#[derive(Drop)]
+#[derive(Clone, Copy)]
 pub(crate) enum Course {
     Runs,
     Over(End),
 }
 
 // Why no further read is made.
-#[derive(Drop)]
+#[derive(Clone, Copy)]
 pub(crate) enum End {
     // Nothing more comes, or nothing more is read behind an unknown kind, and what closes a recording that stops so is written.
     Closed(Stop),

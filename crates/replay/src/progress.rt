@@ -14,7 +14,7 @@ use playing::Stop;
 use recording::Ending;
 
 // The first `held` bytes of the buffer are not played yet, and `stop` says why.
-#[derive(Drop)]
+#[derive(Clone, Copy)]
 pub(crate) struct Progress {
     pub mailbox: Mailbox,
     pub held: usize,

@@ -8,7 +8,7 @@ use lent::Placed;
 const ROOM: usize = 4096;
 
 // The text is at the start of the array.
-#[derive(Drop)]
+#[derive(Clone, Copy)]
 pub struct Said {
     pub len: usize,
     pub bytes: [u8; ROOM],

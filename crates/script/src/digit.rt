@@ -5,7 +5,7 @@ ghost use Rattle.script.specs.Digits.{digit_read_of, byte_read_of};
 // Above the value of every digit: the character is none.
 const NO_DIGIT: u8 = 16;
 
-#[derive(Drop)]
+#[derive(Clone, Copy)]
 pub(crate) enum Byte {
     Is(u8),
     NoByte,

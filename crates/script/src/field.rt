@@ -7,7 +7,7 @@ use crate::number::decimal;
 use crate::words::word_at;
 
 // A word's number, where the word ends, and whether this word and all before it are numbers.
-#[derive(Drop)]
+#[derive(Clone, Copy)]
 pub struct Field {
     pub known: bool,
     pub value: usize,

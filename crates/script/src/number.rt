@@ -5,7 +5,7 @@ ghost use Rattle.script.specs.Decimal.{no_number, added_of, decimal_step_of, dec
 use crate::digit::digit;
 
 // `value` is 0 where `known` is false.
-#[derive(Drop)]
+#[derive(Clone, Copy)]
 pub struct Number {
     pub known: bool,
     pub value: usize,

@@ -9,7 +9,7 @@ use crate::parts::from;
 // The largest count that a word may give, which is more than there is room for.
 const TIMES_MOST: usize = 9999;
 
-#[derive(Drop)]
+#[derive(Clone, Copy)]
 pub(crate) enum Run {
     Of { byte: u8, times: usize },
     Other,

@@ -10,7 +10,7 @@ use crate::words::word_at;
 pub const ROOM: usize = 320;
 
 // The bytes are at the start of the array, zeros after them. `known` is true if every word was a byte or a run of bytes.
-#[derive(Drop)]
+#[derive(Clone, Copy)]
 pub struct Spelled {
     pub known: bool,
     pub len: usize,

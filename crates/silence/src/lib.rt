@@ -6,13 +6,13 @@ ghost use Rattle.silence.specs.Settings.{settings_of, settings_number_of};
 ghost use Rattle.silence.specs.Expiry.{grown_of};
 
 // The limit in milliseconds, and how often a message may be sent again (001 T5-30, T5-31, T6-1).
-#[derive(Drop)]
+#[derive(Clone, Copy)]
 pub struct Settings {
     pub limit: u16,
     pub resends: u8,
 }
 
-#[derive(Drop)]
+#[derive(Clone, Copy)]
 pub enum Checked {
     Made(Settings),
     Refused,
@@ -54,7 +54,7 @@ impl Checked {
     }
 }
 
-#[derive(Drop)]
+#[derive(Clone, Copy)]
 pub enum Event {
     Quiet,
     Resend,
@@ -62,7 +62,7 @@ pub enum Event {
 }
 
 // The silence and the resends made after a call's elapsed time, and what happened in it.
-#[derive(Drop)]
+#[derive(Clone, Copy)]
 pub struct Grown {
     pub silence: u16,
     pub resends: u8,

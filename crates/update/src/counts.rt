@@ -2,7 +2,7 @@
 use luck::{Answered, Went};
 
 // `pushed` counts those that a newer message replaced before they arrived.
-#[derive(Drop)]
+#[derive(Clone, Copy)]
 pub(crate) struct Counts {
     pub requests: u32,
     pub responses: u32,

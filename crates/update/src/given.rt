@@ -27,7 +27,7 @@ const REPORTED: usize = 8;
 const MOST: usize = 12;
 
 // `known` is false where an argument is none of these, or there are more of them.
-#[derive(Drop)]
+#[derive(Clone, Copy)]
 pub(crate) struct Given {
     pub known: bool,
     pub luck: Luck,
@@ -37,7 +37,7 @@ pub(crate) struct Given {
 }
 
 // `known` is false where one of the four is no version.
-#[derive(Drop)]
+#[derive(Clone, Copy)]
 struct Told {
     known: bool,
     versions: Versions,

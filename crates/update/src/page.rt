@@ -7,7 +7,7 @@ const WIDTH: usize = 120;
 
 const DIGITS: usize = 20;
 
-#[derive(Drop)]
+#[derive(Clone, Copy)]
 pub(crate) struct Page {
     pub bytes: [u8; WIDTH],
     pub at: usize,

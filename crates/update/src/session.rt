@@ -25,7 +25,7 @@ const RESENDS: u8 = 10;
 const TURNS_MOST: u32 = 10000000;
 
 // `turns` were taken; `failed` says whether a line could not be written.
-#[derive(Drop)]
+#[derive(Clone, Copy)]
 pub(crate) struct Ended {
     pub ends: Ends,
     pub counts: Counts,

@@ -21,7 +21,7 @@ pub(crate) fn clock(turns: u32) -> u64 {
 }
 
 // `failed` says whether a line could not be written.
-#[derive(Drop)]
+#[derive(Clone, Copy)]
 pub(crate) struct Stepped {
     pub ends: Ends,
     pub counts: Counts,

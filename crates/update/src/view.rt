@@ -13,7 +13,7 @@ pub(crate) const ANSWER: usize = 48;
 pub(crate) const PHASE: usize = 56;
 
 // The milliseconds since the start, and the blocks of the file.
-#[derive(Drop)]
+#[derive(Clone, Copy)]
 pub(crate) struct View {
     pub quiet: bool,
     pub clock: u64,

@@ -13,14 +13,14 @@ pub(crate) const BUFFER: usize = script::ROOM;
 pub(crate) const UNWRITTEN: u8 = 0xEE;
 
 // How many bytes are lent: of the image or the file, and of the output buffer.
-#[derive(Drop)]
+#[derive(Clone, Copy)]
 pub(crate) struct Lent {
     pub memory: usize,
     pub buffer: usize,
 }
 
 // `written`: the last line could be written.
-#[derive(Drop)]
+#[derive(Clone, Copy)]
 pub(crate) struct Bench {
     pub outdoors: Outdoors,
     pub indoors: Indoors,
@@ -28,21 +28,21 @@ pub(crate) struct Bench {
 }
 
 // The receiver's part. `session` is `Refused` before the first start too: there is no session.
-#[derive(Drop)]
+#[derive(Clone, Copy)]
 pub(crate) struct Outdoors {
     pub session: Started,
     pub lent: Lent,
     pub said: Said,
 }
 
-#[derive(Drop)]
+#[derive(Clone, Copy)]
 pub(crate) struct Indoors {
     pub session: Session,
     pub lent: Lent,
     pub said: Said,
 }
 
-#[derive(Drop)]
+#[derive(Clone, Copy)]
 pub(crate) enum Session {
     Of(Indoor),
     Nothing,

@@ -8,7 +8,7 @@ use receiver_state::verdict::Verdict;
 use script::Field;
 use wire::codes;
 
-#[derive(Drop)]
+#[derive(Clone, Copy)]
 pub(crate) enum Called {
     Ended(Outcome),
     Summed(Summed),

@@ -7,7 +7,7 @@ use indoor_state::session::{Indoor, Outcome, Started};
 use script::Field;
 use wire::codes;
 
-#[derive(Drop)]
+#[derive(Clone, Copy)]
 pub(crate) enum Called {
     Begun(Started),
     Ended(Outcome),

@@ -1,6 +1,6 @@
 // The words behind `indoor` that say what a line does (01, The indoor end's phases).
 
-#[derive(Drop)]
+#[derive(Clone, Copy)]
 pub(crate) enum Act {
     Lend,
     Try,
@@ -8,14 +8,14 @@ pub(crate) enum Act {
     Other,
 }
 
-#[derive(Drop)]
+#[derive(Clone, Copy)]
 pub(crate) enum Call {
     Start,
     Step(Step),
 }
 
 // The calls that need a session.
-#[derive(Drop)]
+#[derive(Clone, Copy)]
 pub(crate) enum Step {
     Response,
     Blocks,

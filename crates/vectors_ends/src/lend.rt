@@ -3,7 +3,7 @@ use crate::bench;
 use crate::bench::Lent;
 use script::Field;
 
-#[derive(Drop)]
+#[derive(Clone, Copy)]
 pub(crate) enum Lending {
     Of(Lent),
     Other,

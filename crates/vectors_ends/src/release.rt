@@ -3,7 +3,7 @@ use indoor_state::plan::Release;
 use script::Field;
 use wire::request::Versions;
 
-#[derive(Drop)]
+#[derive(Clone, Copy)]
 pub(crate) enum Offered {
     As(Release),
     NotUnderstood,

@@ -1,6 +1,6 @@
 // What a word at the start of a line asks for.
 
-#[derive(Drop)]
+#[derive(Clone, Copy)]
 pub(crate) enum Word {
     Session(Act),
     Indoor,
@@ -8,7 +8,7 @@ pub(crate) enum Word {
 }
 
 // What a line does with a session of the receiver, or with the memories that are lent to it.
-#[derive(Drop)]
+#[derive(Clone, Copy)]
 pub(crate) enum Act {
     Start,
     Call(Call),
@@ -18,7 +18,7 @@ pub(crate) enum Act {
     Other,
 }
 
-#[derive(Drop)]
+#[derive(Clone, Copy)]
 pub(crate) enum Call {
     Ask,
     Blocks,

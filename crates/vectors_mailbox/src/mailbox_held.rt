@@ -3,7 +3,7 @@ use mailbox_state::mailbox::Mailbox;
 use saying::Said;
 
 // No enum can hold the bytes of MESSAGE_IN, so `there` says whether `mailbox` is one that a line made.
-#[derive(Drop)]
+#[derive(Clone, Copy)]
 pub(crate) struct Held {
     pub there: bool,
     pub mailbox: Mailbox,

@@ -1,6 +1,6 @@
 // The words behind `mailbox` that say what a line does (01, The mailbox).
 
-#[derive(Drop)]
+#[derive(Clone, Copy)]
 pub(crate) enum Act {
     New,
     Step(Step),
@@ -8,7 +8,7 @@ pub(crate) enum Act {
 }
 
 // For a mailbox that there is. `reported` is true of the bytes of a success and false of CONTROL's.
-#[derive(Drop)]
+#[derive(Clone, Copy)]
 pub(crate) enum Step {
     Bytes { reported: bool },
     Failure,

@@ -13,7 +13,7 @@ const OUTPUT: usize = 4000;
 const PLACE_MOST: usize = 1048576;
 
 // The record at a place is read, or all are played.
-#[derive(Drop)]
+#[derive(Clone, Copy)]
 enum Query {
     Record { at: usize },
     Replay,

@@ -4,7 +4,7 @@ use saying::Said;
 use script::Spelled;
 
 // What a word at the start of a line asks for. `asking` is true of a request and false of a response.
-#[derive(Drop)]
+#[derive(Clone, Copy)]
 enum Word {
     Message { asking: bool },
     Sweep(Varied),
@@ -12,7 +12,7 @@ enum Word {
 }
 
 // The byte at a place goes through every value, or the length through every length that there is room for.
-#[derive(Drop)]
+#[derive(Clone, Copy)]
 enum Varied {
     Nothing,
     Byte(u8),

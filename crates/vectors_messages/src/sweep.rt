@@ -41,7 +41,7 @@ fn over_values(asking: bool, message: Spelled, at: usize) -> Said
 }
 
 // The valid lengths found so far: none, a range, or more than one range.
-#[derive(Drop)]
+#[derive(Clone, Copy)]
 enum Span {
     Nothing,
     Of { first: usize, last: usize },

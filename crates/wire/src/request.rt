@@ -1,7 +1,7 @@
 // What a request says (001 T5-3 to T5-15).
 
 // FWVersion1 to FWVersion4 (001 T5-6, T5-18).
-#[derive(Drop)]
+#[derive(Clone, Copy)]
 pub struct Versions {
     pub first: u16,
     pub second: u16,
@@ -9,7 +9,7 @@ pub struct Versions {
     pub fourth: u16,
 }
 
-#[derive(Drop)]
+#[derive(Clone, Copy)]
 pub enum Request {
     GetFwId,
     Initiate(Versions),
@@ -22,7 +22,7 @@ pub enum Request {
 }
 
 // Malformed is answered 20 (01, Numbers we answer).
-#[derive(Drop)]
+#[derive(Clone, Copy)]
 pub enum Parsed {
     Valid(Request),
     Malformed,

@@ -2,7 +2,7 @@
 use crate::request::Versions;
 
 // The fields of 001 T5-18 behind its Status.
-#[derive(Drop)]
+#[derive(Clone, Copy)]
 pub struct Identity {
     pub vendor: u16,
     pub product: u16,
@@ -16,7 +16,7 @@ pub struct Identity {
     pub flags4: u8,
 }
 
-#[derive(Drop)]
+#[derive(Clone, Copy)]
 pub enum Response {
     GetFwId { status: u8, identity: Identity },
     Initiate { status: u8, wait: u8, size: u32 },
@@ -27,7 +27,7 @@ pub enum Response {
 }
 
 // Malformed is answered 20 (01, Numbers we answer).
-#[derive(Drop)]
+#[derive(Clone, Copy)]
 pub enum Parsed {
     Valid(Response),
     Malformed,

@@ -1,5 +1,5 @@
 // The statuses that document 01 has us answer with, out of 001 T5-29.
-#[derive(Drop)]
+#[derive(Clone, Copy)]
 pub enum Status {
     Ok,
     File,

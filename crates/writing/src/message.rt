@@ -8,13 +8,13 @@ use wire::codes;
 // The longest message that has no block is a GET_FW_ID response (001 T5-18).
 const MOST: usize = codes::GET_FW_ID_RESPONSE_LENGTH;
 
-#[derive(Drop)]
+#[derive(Clone, Copy)]
 pub struct Message {
     pub bytes: [u8; MOST],
     pub len: usize,
 }
 
-#[derive(Drop)]
+#[derive(Clone, Copy)]
 pub enum Sent {
     Written(usize),
     // The buffer, or the message's own array, is shorter than the message's length.
