@@ -2,6 +2,7 @@
 ghost use Rattle.std.specs.Prelude.{◌≡◌, ◌%◌};
 ghost use Rattle.printing.specs.Digits.{digit_of, hex_of};
 
+#[tactic(auto, using(crate::proofs::Digits::hex_eight))]
 pub fn digits(value: u32) -> [u8; 8]
     ensures { result ≡ hex_of 8 value }
 {

@@ -14,6 +14,7 @@ pub struct Line {
     pub len: usize,
 }
 
+#[tactic(auto, using(crate::proofs::Texts::line_joined, crate::proofs::Texts::tail_short), unfolding(crate::specs::Line::tail_in))]
 pub fn line_of(cci: u32, number: u8) -> Line
     ensures { result ≡ line_of cci number }
 {
