@@ -34,6 +34,7 @@ pub struct Going {
 }
 
 impl Luck {
+    #[tactic(auto, unfolding(crate::specs::Luck::goes_of))]
     pub fn goes(self, rising: Way, falling: Way) -> Going
         ensures { result ≡ goes_of self rising falling }
     {
@@ -77,6 +78,7 @@ impl Luck {
     }
 
     // A repeat always arrives, and does not come a third time.
+    #[tactic(auto, using(basis::specs::Pick::tests), unfolding(crate::specs::Luck::fate_of))]
     fn fate(self, way: Way) -> Fate
         ensures { result ≡ fate_of self way }
     {

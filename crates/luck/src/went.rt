@@ -23,6 +23,7 @@ pub struct Missed {
 
 impl Going {
     // Nothing was on its way, or the message is lost.
+    #[tactic(auto, using(basis::specs::Pick::tests), unfolding(crate::specs::Went::missed_of))]
     pub fn missed(self, rising: Way, falling: Way) -> Missed
         ensures { result ≡ missed_of self rising falling }
     {
