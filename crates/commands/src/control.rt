@@ -26,6 +26,7 @@ pub enum Parsed {
     WrongLength,
 }
 
+#[tactic(auto, using(basis::specs::Pick::tests), unfolding(crate::specs::Control::control_of, crate::specs::Control::fields_of))]
 pub fn take_apart(control: &[u8]) -> Parsed
     ensures { result ≡ control_of control.now }
 {

@@ -93,6 +93,7 @@ const ENTRIES: [Entry; CODES] = [
 ];
 
 // Codes above the table's are not supported either (01, The mailbox: "other codes").
+#[tactic(auto, using(crate::proofs::Rows::above))]
 pub fn look(code: u8) -> Entry
     ensures { result ≡ entry_of code }
 {

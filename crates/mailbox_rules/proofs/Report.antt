@@ -9,7 +9,6 @@ use Rattle.mailbox_state.specs.Answer.{mailbox_number_of}
 use Rattle.mailbox_state.specs.Step.{mailbox_step, refused}
 use Rattle.mailbox_state.specs.Status.{runs_of}
 use Rattle.mailbox_state.specs.declared.answer.Answer.TheVariants.{Taken, NothingRuns, DataTooLong}
-use Rattle.mailbox_state.specs.declared.status.CommandStatus.{CommandStatus}
 use Rattle.mailbox_state.specs.declared.status.CommandStatus.TheVariants.{Completed, Failed}
 use Rattle.mailbox_state.specs.declared.state.State.{State}
 use Rattle.mailbox_state.specs.declared.step.MessageEffect.TheVariants.{ZeroedAtCompletion, Filled}

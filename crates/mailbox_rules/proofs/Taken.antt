@@ -23,7 +23,7 @@ use Rattle.mailbox_rules.specs.Mailbox.{mailbox_cci_of}
 use Rattle.mailbox_rules.specs.MessageIn.{settled_of}
 use Rattle.mailbox_rules.specs.Refusal.{situation_of, refusal_of}
 use Rattle.mailbox_rules.specs.Says.{Says}
-use Rattle.mailbox_rules.specs.Sentences.{answers, next, shown, Ready, Gives, Completes}
+use Rattle.mailbox_rules.specs.Sentences.{answers, next, Ready, Gives, Completes}
 use Rattle.mailbox_rules.specs.Write.{control_step_of}
 use Rattle.mailbox_rules.proofs.ByCode as code
 use Rattle.mailbox_rules.proofs.Command.{write_refused}

@@ -1,5 +1,5 @@
 -- What a start makes, and every event leaves (01, The mailbox): `event_formed` in proofs/WellFormed.antt, `event_sizes` in proofs/Sizes.antt.
-use Rattle.std.specs.Prelude.{ℕ, ◌≤◌, true, false, ◌≡◌, length, get_or}
+use Rattle.std.specs.Prelude.{ℕ, ◌≤◌, false, ◌≡◌, length, get_or}
 use Rattle.commands.specs.Table.{entry_of}
 use Rattle.commands.specs.declared.table.Class.TheVariants.{Run}
 use Rattle.mailbox_state.specs.State.{off_of}

@@ -17,7 +17,6 @@ use Rattle.mailbox_state.specs.declared.status.CommandStatus.{CommandStatus}
 use Rattle.mailbox_state.specs.declared.status.CommandStatus.TheVariants.{ResetDone, Busy, Completed, Failed, NotSupported, Cancelled, Acknowledged}
 use Rattle.mailbox_state.specs.declared.state.Notifications.TheVariants.{Off, On}
 use Rattle.mailbox_state.specs.declared.state.State.{State}
-use Rattle.mailbox_state.specs.declared.step.MessageEffect.{MessageEffect}
 use Rattle.mailbox_state.specs.declared.step.MessageEffect.TheVariants.{Kept, ZeroedAtReset, ZeroedAtCancel, ZeroedAtCompletion}
 use Rattle.mailbox_state.specs.declared.step.Step.{Step}
 use Rattle.mailbox_rules.specs.Changes.{next_shown_of}
