@@ -22,6 +22,7 @@ pub enum Ending {
     UnknownKind,
 }
 
+#[tactic(auto, using(basis::specs::Pick::tests), unfolding(crate::specs::Reading::next_record_of))]
 pub fn next(recording: &[u8], at: usize) -> Read
     ensures { result ≡ next_record_of recording.now at }
 {
@@ -47,6 +48,7 @@ pub fn next(recording: &[u8], at: usize) -> Read
     Read::Ended(Ending::UnknownKind)
 }
 
+#[tactic(auto, using(basis::specs::Pick::tests))]
 fn control(recording: &[u8], at: usize) -> Read
     requires { at < length recording.now }
     ensures { result ≡ control_from recording.now at }
@@ -60,6 +62,7 @@ fn control(recording: &[u8], at: usize) -> Read
     }
 }
 
+#[tactic(auto, using(basis::specs::Pick::tests))]
 fn change(recording: &[u8], at: usize) -> Read
     requires { at < length recording.now }
     ensures { result ≡ change_from recording.now at }
@@ -73,6 +76,7 @@ fn change(recording: &[u8], at: usize) -> Read
     }
 }
 
+#[tactic(auto, using(basis::specs::Pick::tests))]
 fn success(recording: &[u8], at: usize) -> Read
     requires { at < length recording.now }
     ensures { result ≡ success_from recording.now at }

@@ -34,6 +34,7 @@ struct Nine {
     len: usize,
 }
 
+#[tactic(auto, using(basis::specs::Pick::tests), unfolding(crate::specs::Writing::record_write_of))]
 pub fn write(record: Record, out: &mut [u8]) -> Written
     ensures { left result out.new ≡ record_write_of «record» out.old }
 {
@@ -48,6 +49,7 @@ pub fn write(record: Record, out: &mut [u8]) -> Written
 }
 
 // The record's bytes, and zeros after them.
+#[tactic(auto, unfolding(crate::specs::Writing::record_bytes_of, crate::specs::Writing::in_nine))]
 fn nine_of(record: Record) -> Nine
     ensures { result ≡ in_nine (record_bytes_of «record») }
 {
