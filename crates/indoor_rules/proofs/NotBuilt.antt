@@ -1,7 +1,7 @@
 -- Every response of a type that is known and not built, whatever its body: 21 in every phase, and nothing changes (01, The parts of the cable
 -- job; 01, Numbers we answer).
 use Prim.Native.Nat.{ℕ, ◌≤◌}
-use mathlib.Core.Path.{◌≡◌, refl}
+use mathlib.Core.Path.{◌≡◌}
 use mathlib.Core.List.{List, ◌∷◌, Memᴰ}
 use lib.ListN.{length}
 use Rattle.basis.specs.Left.{left}

@@ -72,6 +72,7 @@ reached_below (passes {s = s} h lent elapsed out same) =
     (λ _ _. stays_below s.plan s.state.silence s.state.resends elapsed below s.state.phase)
 
 genuine_each : (versions : Versions) (file : List ℕ) (sent : List (List ℕ)) (m : List ℕ) → AllGenuine versions file sent → Memᴰ m sent → Genuine versions file m (message.parsed_request_of m)
+genuine_each versions file [] m all h = elim h [ ]
 genuine_each versions file (x ∷ sent) m all (Memᴰ.head e) = rw e all.0
 genuine_each versions file (x ∷ sent) m all (Memᴰ.tail h) = genuine_each versions file sent m all.1 h
 
