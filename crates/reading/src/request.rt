@@ -7,6 +7,7 @@ use crate::number::{versions_at, word_at};
 use wire::codes;
 use wire::request::{Parsed, Request};
 
+#[tactic(auto, using(basis::specs::Pick::tests), unfolding(wire::specs::Request::parsed_request_of))]
 pub fn read_request(msg: &[u8]) -> Parsed
     ensures { result ≡ parsed_request_of msg.now }
 {
@@ -16,6 +17,7 @@ pub fn read_request(msg: &[u8]) -> Parsed
     typed(msg, msg[1])
 }
 
+#[tactic(auto, using(basis::specs::Pick::tests), unfolding(wire::specs::Request::request_of_type))]
 fn typed(msg: &[u8], t: u8) -> Parsed
     ensures { result ≡ request_of_type msg.now t }
 {
@@ -55,6 +57,7 @@ fn bare(msg: &[u8], request: Request) -> Parsed
     Parsed::Valid(request)
 }
 
+#[tactic(auto, using(basis::specs::Pick::tests), unfolding(wire::specs::Request::initiate_in))]
 fn initiate(msg: &[u8]) -> Parsed
     ensures { result ≡ initiate_in msg.now }
 {
@@ -64,6 +67,7 @@ fn initiate(msg: &[u8]) -> Parsed
     Parsed::Valid(Request::Initiate(versions_at(msg, 2)))
 }
 
+#[tactic(auto, using(basis::specs::Pick::tests), unfolding(wire::specs::Request::data_in))]
 fn block(msg: &[u8]) -> Parsed
     ensures { result ≡ data_in msg.now }
 {

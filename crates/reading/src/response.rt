@@ -10,6 +10,7 @@ use fields::cleared;
 use wire::codes;
 use wire::response::{Identity, Parsed, Response};
 
+#[tactic(auto, using(basis::specs::Pick::tests), unfolding(wire::specs::Response::parsed_response_of))]
 pub fn read_response(msg: &[u8]) -> Parsed
     ensures { result ≡ parsed_response_of msg.now }
 {
@@ -19,6 +20,7 @@ pub fn read_response(msg: &[u8]) -> Parsed
     typed(msg, msg[1])
 }
 
+#[tactic(auto, using(basis::specs::Pick::tests), unfolding(wire::specs::Response::response_of_type))]
 fn typed(msg: &[u8], t: u8) -> Parsed
     ensures { result ≡ response_of_type msg.now t }
 {
@@ -43,6 +45,7 @@ fn typed(msg: &[u8], t: u8) -> Parsed
     Parsed::Malformed
 }
 
+#[tactic(auto, using(basis::specs::Pick::tests), unfolding(wire::specs::Response::identified_in))]
 fn identified(msg: &[u8]) -> Parsed
     ensures { result ≡ identified_in msg.now }
 {
@@ -55,6 +58,7 @@ fn identified(msg: &[u8]) -> Parsed
 }
 
 // 001 T5-18.
+#[tactic(auto, using(basis::specs::Pick::tests))]
 fn identity_in(msg: &[u8]) -> Identity
     requires { length msg.now ≡ get_fw_id_response_length }
     ensures { result ≡ identity_in msg.now }
@@ -76,6 +80,7 @@ fn identity_in(msg: &[u8]) -> Identity
     }
 }
 
+#[tactic(auto, using(basis::specs::Pick::tests), unfolding(wire::specs::Response::initiated_in))]
 fn initiated(msg: &[u8]) -> Parsed
     ensures { result ≡ initiated_in msg.now }
 {
@@ -90,6 +95,7 @@ fn initiated(msg: &[u8]) -> Parsed
     })
 }
 
+#[tactic(auto, using(basis::specs::Pick::tests), unfolding(wire::specs::Response::receipt_in))]
 fn receipt(msg: &[u8]) -> Parsed
     ensures { result ≡ receipt_in msg.now }
 {

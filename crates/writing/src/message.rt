@@ -44,6 +44,7 @@ impl Message {
     }
 }
 
+#[tactic(auto, using(basis::specs::Pick::tests), unfolding(crate::specs::Message::sent_of))]
 fn lead(out: &mut [u8], bytes: [u8; MOST], len: usize) -> Sent
     ensures { left result out.new ≡ sent_of bytes len out.old }
 {

@@ -8,6 +8,7 @@ use wire::codes;
 use wire::request::{Request, Versions};
 
 // Of a DATA request this is its head of four bytes, which the block follows. What is not built is written as nothing.
+#[tactic(auto, using(basis::specs::Pick::tests), unfolding(wire::specs::Written::request_bytes))]
 pub fn write_request(request: Request) -> Message
     ensures { result ≡ message_of (request_bytes request) }
 {

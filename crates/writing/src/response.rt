@@ -9,6 +9,7 @@ use wire::codes;
 use wire::response::{Identity, Response};
 
 // What is not built is written as nothing.
+#[tactic(auto, using(basis::specs::Pick::tests), unfolding(wire::specs::Written::response_bytes))]
 pub fn write_response(response: Response) -> Message
     ensures { result ≡ message_of (response_bytes response) }
 {
@@ -29,6 +30,7 @@ pub fn write_response(response: Response) -> Message
     }
 }
 
+#[tactic(auto, using(basis::specs::Pick::tests), unfolding(wire::specs::Written::identified_bytes))]
 fn identified(status: u8, identity: Identity) -> Message
     ensures { result ≡ message_of (identified_bytes status identity) }
 {
