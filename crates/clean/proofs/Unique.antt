@@ -1,7 +1,5 @@
 -- Each public contract leaves one answer and one state of the lent memory. Written from the contracts by tools/contracts.
-use Prim.Native.Nat.{ℕ}
-use mathlib.Core.List.{List}
-use mathlib.Core.Path.{◌≡◌}
+use Rattle.std.specs.Prelude.{List, ℕ, ◌≡◌}
 use Rattle.basis.specs.Left.{left}
 use Rattle.basis.specs.Only.{only}
 use Rattle.clean.specs.Run.{clean_number_of, clean_run_of}
@@ -11,11 +9,11 @@ use Rattle.clean.specs.declared.ran.Ran.{Ran}
 use Rattle.indoor_state.specs.declared.plan.Release.{Release}
 use Rattle.wire.specs.declared.response.Identity.{Identity}
 
-pub one_turn : (self : Ends) (file image up down : List ℕ) (r r' : Ends) (image-left image-left' up_left up-left' down-left down-left' : List ℕ)
-    → turned r image-left up_left down-left ≡ clean_turn_of self file image up down
-    → turned r' image-left' up-left' down-left' ≡ clean_turn_of self file image up down
-    → turned r image-left up_left down-left ≡ turned r' image-left' up-left' down-left'
-one_turn self file image up down r r' image-left image-left' up_left up-left' down-left down-left' is is' = only is is'
+pub one_turn : (self : Ends) (file image up down : List ℕ) (r r' : Ends) (image_left image_left' up_left up_left' down_left down_left' : List ℕ)
+    → turned r image_left up_left down_left ≡ clean_turn_of self file image up down
+    → turned r' image_left' up_left' down_left' ≡ clean_turn_of self file image up down
+    → turned r image_left up_left down_left ≡ turned r' image_left' up_left' down_left'
+one_turn self file image up down r r' image_left image_left' up_left up_left' down_left down_left' is is' = only is is'
 
 pub one_number : (self : Ran) (r r' : ℕ)
     → r ≡ clean_number_of self
@@ -23,8 +21,8 @@ pub one_number : (self : Ran) (r r' : ℕ)
     → r ≡ r'
 one_number self r r' is is' = only is is'
 
-pub one_run : (limit resends : ℕ) (identity : Identity) (release : Release) (file image : List ℕ) (r r' : Ran) (image-left image-left' : List ℕ)
-    → left r image-left ≡ clean_run_of limit resends identity release file image
-    → left r' image-left' ≡ clean_run_of limit resends identity release file image
-    → left r image-left ≡ left r' image-left'
-one_run limit resends identity release file image r r' image-left image-left' is is' = only is is'
+pub one_run : (limit resends : ℕ) (identity : Identity) (release : Release) (file image : List ℕ) (r r' : Ran) (image_left image_left' : List ℕ)
+    → left r image_left ≡ clean_run_of limit resends identity release file image
+    → left r' image_left' ≡ clean_run_of limit resends identity release file image
+    → left r image_left ≡ left r' image_left'
+one_run limit resends identity release file image r r' image_left image_left' is is' = only is is'

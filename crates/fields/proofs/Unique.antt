@@ -1,6 +1,5 @@
 -- Each public contract leaves one answer and one state of the lent memory. Written from the contracts by tools/contracts.
-use Prim.Native.Nat.{ℕ}
-use mathlib.Core.Path.{◌≡◌}
+use Rattle.std.specs.Prelude.{◌≡◌, ℕ}
 use Rattle.basis.specs.Only.{only}
 use Rattle.wire.specs.Identity.{cleared}
 use Rattle.wire.specs.Status.{code_of}

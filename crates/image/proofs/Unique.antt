@@ -1,5 +1,5 @@
 -- Each public contract leaves one answer and one state of the lent memory. Written from the contracts by tools/contracts.
-use Rattle.std.proofs.Common.{◌≡◌, ℕ, Bool, List, take}
+use Rattle.std.specs.Prelude.{ℕ, ◌≡◌, Bool, List, take}
 use Rattle.basis.specs.Left.{left}
 use Rattle.basis.specs.Only.{only}
 use Rattle.image.specs.Blocks.{blocks_of, place_of, block_passes_of, put_block_of, block_at}
@@ -24,11 +24,11 @@ pub one_passes : (number size capacity : ℕ) (r r' : Bool)
     → r ≡ r'
 one_passes number size capacity r r' is is' = only is is'
 
-pub one_put_block : (image : List ℕ) (number : ℕ) (block : List ℕ) (r r' : Placed) (image-left image-left' : List ℕ)
-    → left r image-left ≡ put_block_of image number block
-    → left r' image-left' ≡ put_block_of image number block
-    → left r image-left ≡ left r' image-left'
-one_put_block image number block r r' image-left image-left' is is' = only is is'
+pub one_put_block : (image : List ℕ) (number : ℕ) (block : List ℕ) (r r' : Placed) (image_left image_left' : List ℕ)
+    → left r image_left ≡ put_block_of image number block
+    → left r' image_left' ≡ put_block_of image number block
+    → left r image_left ≡ left r' image_left'
+one_put_block image number block r r' image_left image_left' is is' = only is is'
 
 pub one_block_at : (file : List ℕ) (number : ℕ) (r r' : List ℕ)
     → r ≡ block_at file number

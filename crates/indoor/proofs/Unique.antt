@@ -1,7 +1,5 @@
 -- Each public contract leaves one answer and one state of the lent memory. Written from the contracts by tools/contracts.
-use Prim.Native.Nat.{ℕ}
-use mathlib.Core.List.{List}
-use mathlib.Core.Path.{◌≡◌}
+use Rattle.std.specs.Prelude.{List, ℕ, ◌≡◌}
 use Rattle.basis.specs.Left.{left}
 use Rattle.basis.specs.Only.{only}
 use Rattle.indoor_rules.specs.Response.{indoor_response_of}
@@ -13,17 +11,17 @@ use Rattle.indoor_state.specs.declared.session.Indoor.{Indoor}
 use Rattle.indoor_state.specs.declared.session.Outcome.{Outcome}
 use Rattle.indoor_state.specs.declared.session.Started.{Started}
 
-pub one_response : (session : Indoor) (file response out : List ℕ) (r r' : Outcome) (out-left out-left' : List ℕ)
-    → left r out-left ≡ indoor_response_of session file response out
-    → left r' out-left' ≡ indoor_response_of session file response out
-    → left r out-left ≡ left r' out-left'
-one_response session file response out r r' out-left out-left' is is' = only is is'
+pub one_response : (session : Indoor) (file response out : List ℕ) (r r' : Outcome) (out_left out_left' : List ℕ)
+    → left r out_left ≡ indoor_response_of session file response out
+    → left r' out_left' ≡ indoor_response_of session file response out
+    → left r out_left ≡ left r' out_left'
+one_response session file response out r r' out_left out_left' is is' = only is is'
 
-pub one_start : (limit resends : ℕ) (release : Release) (file out : List ℕ) (r r' : Started) (out-left out-left' : List ℕ)
-    → left r out-left ≡ indoor_start_of limit resends release file out
-    → left r' out-left' ≡ indoor_start_of limit resends release file out
-    → left r out-left ≡ left r' out-left'
-one_start limit resends release file out r r' out-left out-left' is is' = only is is'
+pub one_start : (limit resends : ℕ) (release : Release) (file out : List ℕ) (r r' : Started) (out_left out_left' : List ℕ)
+    → left r out_left ≡ indoor_start_of limit resends release file out
+    → left r' out_left' ≡ indoor_start_of limit resends release file out
+    → left r out_left ≡ left r' out_left'
+one_start limit resends release file out r r' out_left out_left' is is' = only is is'
 
 pub one_started_number : (started : Started) (r r' : ℕ)
     → r ≡ indoor_start_number_of started
@@ -31,8 +29,8 @@ pub one_started_number : (started : Started) (r r' : ℕ)
     → r ≡ r'
 one_started_number started r r' is is' = only is is'
 
-pub one_time : (session : Indoor) (file : List ℕ) (elapsed : ℕ) (out : List ℕ) (r r' : Outcome) (out-left out-left' : List ℕ)
-    → left r out-left ≡ indoor_time_of session file elapsed out
-    → left r' out-left' ≡ indoor_time_of session file elapsed out
-    → left r out-left ≡ left r' out-left'
-one_time session file elapsed out r r' out-left out-left' is is' = only is is'
+pub one_time : (session : Indoor) (file : List ℕ) (elapsed : ℕ) (out : List ℕ) (r r' : Outcome) (out_left out_left' : List ℕ)
+    → left r out_left ≡ indoor_time_of session file elapsed out
+    → left r' out_left' ≡ indoor_time_of session file elapsed out
+    → left r out_left ≡ left r' out_left'
+one_time session file elapsed out r r' out_left out_left' is is' = only is is'

@@ -1,5 +1,5 @@
 -- Each public contract leaves one answer and one state of the lent memory. Written from the contracts by tools/contracts.
-use mathlib.Core.Path.{◌≡◌}
+use Rattle.std.specs.Prelude.{◌≡◌}
 use Rattle.basis.specs.Only.{only}
 use Rattle.indoor_state.specs.declared.session.Outcome.{Outcome}
 use Rattle.lossy_ends.specs.Indoors.{indoors_of}

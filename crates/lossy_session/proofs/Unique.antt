@@ -1,7 +1,5 @@
 -- Each public contract leaves one answer and one state of the lent memory. Written from the contracts by tools/contracts.
-use Prim.Native.Nat.{ℕ}
-use mathlib.Core.List.{List}
-use mathlib.Core.Path.{◌≡◌}
+use Rattle.std.specs.Prelude.{List, ℕ, ◌≡◌}
 use Rattle.basis.specs.Left.{left}
 use Rattle.basis.specs.Only.{only}
 use Rattle.indoor_state.specs.declared.plan.Release.{Release}
@@ -22,14 +20,14 @@ pub one_judge : (ends : Ends) (file image : List ℕ) (r r' : Judged)
     → r ≡ r'
 one_judge ends file image r r' is is' = only is is'
 
-pub one_pass : (ends : Ends) (elapsed : ℕ) (file up down : List ℕ) (r r' : Passed) (up_left up-left' down-left down-left' : List ℕ)
-    → both r up_left down-left ≡ both_pass_of ends elapsed file up down
-    → both r' up-left' down-left' ≡ both_pass_of ends elapsed file up down
-    → both r up_left down-left ≡ both r' up-left' down-left'
-one_pass ends elapsed file up down r r' up_left up-left' down-left down-left' is is' = only is is'
+pub one_pass : (ends : Ends) (elapsed : ℕ) (file up down : List ℕ) (r r' : Passed) (up_left up_left' down_left down_left' : List ℕ)
+    → both r up_left down_left ≡ both_pass_of ends elapsed file up down
+    → both r' up_left' down_left' ≡ both_pass_of ends elapsed file up down
+    → both r up_left down_left ≡ both r' up_left' down_left'
+one_pass ends elapsed file up down r r' up_left up_left' down_left down_left' is is' = only is is'
 
-pub one_start : (roof indoors : Limits) (identity : Identity) (release : Release) (file : List ℕ) (capacity : ℕ) (up : List ℕ) (r r' : Started) (up_left up-left' : List ℕ)
+pub one_start : (roof indoors : Limits) (identity : Identity) (release : Release) (file : List ℕ) (capacity : ℕ) (up : List ℕ) (r r' : Started) (up_left up_left' : List ℕ)
     → left r up_left ≡ both_start_of roof indoors identity release file capacity up
-    → left r' up-left' ≡ both_start_of roof indoors identity release file capacity up
-    → left r up_left ≡ left r' up-left'
-one_start roof indoors identity release file capacity up r r' up_left up-left' is is' = only is is'
+    → left r' up_left' ≡ both_start_of roof indoors identity release file capacity up
+    → left r up_left ≡ left r' up_left'
+one_start roof indoors identity release file capacity up r r' up_left up_left' is is' = only is is'

@@ -1,8 +1,5 @@
 -- Each public contract leaves one answer and one state of the lent memory. Written from the contracts by tools/contracts.
-use Prim.Native.Nat.{ℕ}
-use mathlib.Core.Bool.{Bool}
-use mathlib.Core.List.{List}
-use mathlib.Core.Path.{◌≡◌}
+use Rattle.std.specs.Prelude.{ℕ, ◌≡◌, List, Bool}
 use Rattle.basis.specs.Only.{only}
 use Rattle.luck.specs.Called.{answered_of}
 use Rattle.luck.specs.Luck.{goes_of, seeded_of}

@@ -1,7 +1,5 @@
 -- Each public contract leaves one answer and one state of the lent memory. Written from the contracts by tools/contracts.
-use Prim.Native.Nat.{ℕ}
-use mathlib.Core.List.{List}
-use mathlib.Core.Path.{◌≡◌}
+use Rattle.std.specs.Prelude.{List, ℕ, ◌≡◌}
 use Rattle.basis.specs.Only.{only}
 use Rattle.mailbox_rules.specs.Events.{event_of, writes, succeeds, fails, changes, write_step_of}
 use Rattle.mailbox_rules.specs.Mailbox.{mailbox_fresh_of, mailbox_cci_of, message_in_of}
@@ -61,8 +59,8 @@ pub one_message_in : (mailbox : Mailbox) (r r' : List ℕ)
     → r ≡ r'
 one_message_in mailbox r r' is is' = only is is'
 
-pub one_settle : (message : List ℕ) (effect : MessageEffect) (bytes message-left message-left' : List ℕ)
-    → message-left ≡ settled_of message effect bytes
-    → message-left' ≡ settled_of message effect bytes
-    → message-left ≡ message-left'
-one_settle message effect bytes message-left message-left' is is' = only is is'
+pub one_settle : (message : List ℕ) (effect : MessageEffect) (bytes message_left message_left' : List ℕ)
+    → message_left ≡ settled_of message effect bytes
+    → message_left' ≡ settled_of message effect bytes
+    → message_left ≡ message_left'
+one_settle message effect bytes message_left message_left' is is' = only is is'

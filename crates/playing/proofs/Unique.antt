@@ -1,7 +1,5 @@
 -- Each public contract leaves one answer and one state of the lent memory. Written from the contracts by tools/contracts.
-use Prim.Native.Nat.{ℕ}
-use mathlib.Core.List.{List}
-use mathlib.Core.Path.{◌≡◌}
+use Rattle.std.specs.Prelude.{List, ℕ, ◌≡◌}
 use Rattle.basis.specs.Left.{left}
 use Rattle.basis.specs.Only.{only}
 use Rattle.mailbox_state.specs.declared.mailbox.Mailbox.{Mailbox}
@@ -14,11 +12,11 @@ use Rattle.playing.specs.declared.turn.Turn.{Turn}
 use Rattle.printing.specs.declared.text.Line.{Line}
 use Rattle.recording.specs.declared.record.Record.{Record}
 
-pub one_play : (mailbox : Mailbox) (part out : List ℕ) (r r' : Played) (out-left out-left' : List ℕ)
-    → left r out-left ≡ play_of mailbox part out
-    → left r' out-left' ≡ play_of mailbox part out
-    → left r out-left ≡ left r' out-left'
-one_play mailbox part out r r' out-left out-left' is is' = only is is'
+pub one_play : (mailbox : Mailbox) (part out : List ℕ) (r r' : Played) (out_left out_left' : List ℕ)
+    → left r out_left ≡ play_of mailbox part out
+    → left r' out_left' ≡ play_of mailbox part out
+    → left r out_left ≡ left r' out_left'
+one_play mailbox part out r r' out_left out_left' is is' = only is is'
 
 pub one_play_record : (mailbox : Mailbox) («record» : Record) (r r' : Turn)
     → r ≡ turn_of mailbox «record»

@@ -1,7 +1,5 @@
 -- Each public contract leaves one answer and one state of the lent memory. Written from the contracts by tools/contracts.
-use Prim.Native.Nat.{ℕ}
-use mathlib.Core.List.{List, []}
-use mathlib.Core.Path.{◌≡◌}
+use Rattle.std.specs.Prelude.{ℕ, List, ◌≡◌, []}
 use Rattle.basis.specs.Only.{only}
 use Rattle.printing.specs.Digits.{hex_of}
 use Rattle.printing.specs.Line.{line_of, stop_of, line_in}

@@ -1,8 +1,5 @@
 -- Each public contract leaves one answer and one state of the lent memory. Written from the contracts by tools/contracts.
-use Prim.Native.Nat.{ℕ}
-use mathlib.Core.Bool.{Bool}
-use mathlib.Core.List.{List}
-use mathlib.Core.Path.{◌≡◌}
+use Rattle.std.specs.Prelude.{ℕ, List, ◌≡◌, Bool}
 use Rattle.basis.specs.Left.{left}
 use Rattle.basis.specs.Only.{only}
 use Rattle.receiver_rules.specs.Hearing.{heard_of, has_identity, identity_sent_of, answer_sent_of}
@@ -22,17 +19,17 @@ use Rattle.receiver_state.specs.declared.sum.Summed.{Summed}
 use Rattle.receiver_state.specs.declared.verdict.Verdict.{Verdict}
 use Rattle.wire.specs.declared.response.Identity.{Identity}
 
-pub one_hear : (phase : Phase) (capacity : ℕ) (image request : List ℕ) (readiness : ℕ) (verdict : Verdict) (room : ℕ) (r r' : Heard) (image-left image-left' : List ℕ)
-    → left r image-left ≡ heard_of phase capacity image request readiness verdict room
-    → left r' image-left' ≡ heard_of phase capacity image request readiness verdict room
-    → left r image-left ≡ left r' image-left'
-one_hear phase capacity image request readiness verdict room r r' image-left image-left' is is' = only is is'
+pub one_hear : (phase : Phase) (capacity : ℕ) (image request : List ℕ) (readiness : ℕ) (verdict : Verdict) (room : ℕ) (r r' : Heard) (image_left image_left' : List ℕ)
+    → left r image_left ≡ heard_of phase capacity image request readiness verdict room
+    → left r' image_left' ≡ heard_of phase capacity image request readiness verdict room
+    → left r image_left ≡ left r' image_left'
+one_hear phase capacity image request readiness verdict room r r' image_left image_left' is is' = only is is'
 
-pub one_request : (session : Receiver) (image request : List ℕ) (readiness : ℕ) (verdict : Verdict) (out : List ℕ) (r r' : Outcome) (image-left image-left' out-left out-left' : List ℕ)
-    → effect r image-left out-left ≡ receiver_request_of session image request readiness verdict out
-    → effect r' image-left' out-left' ≡ receiver_request_of session image request readiness verdict out
-    → effect r image-left out-left ≡ effect r' image-left' out-left'
-one_request session image request readiness verdict out r r' image-left image-left' out-left out-left' is is' = only is is'
+pub one_request : (session : Receiver) (image request : List ℕ) (readiness : ℕ) (verdict : Verdict) (out : List ℕ) (r r' : Outcome) (image_left image_left' out_left out_left' : List ℕ)
+    → effect r image_left out_left ≡ receiver_request_of session image request readiness verdict out
+    → effect r' image_left' out_left' ≡ receiver_request_of session image request readiness verdict out
+    → effect r image_left out_left ≡ effect r' image_left' out_left'
+one_request session image request readiness verdict out r r' image_left image_left' out_left out_left' is is' = only is is'
 
 pub one_has_identity : (answer : Answer) (r r' : Bool)
     → r ≡ has_identity answer
@@ -40,17 +37,17 @@ pub one_has_identity : (answer : Answer) (r r' : Bool)
     → r ≡ r'
 one_has_identity answer r r' is is' = only is is'
 
-pub one_send_identity : (out : List ℕ) (identity : Identity) (r r' : ℕ) (out-left out-left' : List ℕ)
-    → left r out-left ≡ identity_sent_of identity out
-    → left r' out-left' ≡ identity_sent_of identity out
-    → left r out-left ≡ left r' out-left'
-one_send_identity out identity r r' out-left out-left' is is' = only is is'
+pub one_send_identity : (out : List ℕ) (identity : Identity) (r r' : ℕ) (out_left out_left' : List ℕ)
+    → left r out_left ≡ identity_sent_of identity out
+    → left r' out_left' ≡ identity_sent_of identity out
+    → left r out_left ≡ left r' out_left'
+one_send_identity out identity r r' out_left out_left' is is' = only is is'
 
-pub one_send_answer : (out : List ℕ) (capacity : ℕ) (answer : Answer) (r r' : ℕ) (out-left out-left' : List ℕ)
-    → left r out-left ≡ answer_sent_of capacity answer out
-    → left r' out-left' ≡ answer_sent_of capacity answer out
-    → left r out-left ≡ left r' out-left'
-one_send_answer out capacity answer r r' out-left out-left' is is' = only is is'
+pub one_send_answer : (out : List ℕ) (capacity : ℕ) (answer : Answer) (r r' : ℕ) (out_left out_left' : List ℕ)
+    → left r out_left ≡ answer_sent_of capacity answer out
+    → left r' out_left' ≡ answer_sent_of capacity answer out
+    → left r out_left ≡ left r' out_left'
+one_send_answer out capacity answer r r' out_left out_left' is is' = only is is'
 
 pub one_start : (limit resends : ℕ) (identity : Identity) (capacity : ℕ) (r r' : Started)
     → r ≡ receiver_start_of limit resends identity capacity
@@ -76,8 +73,8 @@ pub one_summed_number : (summed : Summed) (r r' : ℕ)
     → r ≡ r'
 one_summed_number summed r r' is is' = only is is'
 
-pub one_time : (session : Receiver) (elapsed : ℕ) (out : List ℕ) (r r' : Outcome) (out-left out-left' : List ℕ)
-    → left r out-left ≡ receiver_time_of session elapsed out
-    → left r' out-left' ≡ receiver_time_of session elapsed out
-    → left r out-left ≡ left r' out-left'
-one_time session elapsed out r r' out-left out-left' is is' = only is is'
+pub one_time : (session : Receiver) (elapsed : ℕ) (out : List ℕ) (r r' : Outcome) (out_left out_left' : List ℕ)
+    → left r out_left ≡ receiver_time_of session elapsed out
+    → left r' out_left' ≡ receiver_time_of session elapsed out
+    → left r out_left ≡ left r' out_left'
+one_time session elapsed out r r' out_left out_left' is is' = only is is'

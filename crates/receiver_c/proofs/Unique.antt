@@ -1,7 +1,5 @@
 -- Each public contract leaves one answer and one state of the lent memory. Written from the contracts by tools/contracts.
-use Prim.Native.Nat.{ℕ}
-use mathlib.Core.List.{List}
-use mathlib.Core.Path.{◌≡◌}
+use Rattle.std.specs.Prelude.{List, ℕ, ◌≡◌}
 use Rattle.basis.specs.Flag.{byte_of}
 use Rattle.basis.specs.Left.{left}
 use Rattle.basis.specs.Only.{only}
@@ -14,29 +12,29 @@ pub one_harsolvek_receiver_is_session_raw : (words : List ℕ) (r r' : ℕ)
     → r ≡ r'
 one_harsolvek_receiver_is_session_raw words r r' is is' = only is is'
 
-pub one_harsolvek_receiver_request_raw : (words image request given out : List ℕ) (written r r' : ℕ) (words_left words-left' image-left image-left' out-left out-left' : List ℕ) (written-left written-left' : ℕ)
-    → receiver_called r written-left words_left image-left out-left ≡ harsolvek_receiver_request words image request given out
-    → receiver_called r' written-left' words-left' image-left' out-left' ≡ harsolvek_receiver_request words image request given out
-    → receiver_called r written-left words_left image-left out-left ≡ receiver_called r' written-left' words-left' image-left' out-left'
-one_harsolvek_receiver_request_raw words image request given out written r r' words_left words-left' image-left image-left' out-left out-left' written-left written-left' is is' = only is is'
+pub one_harsolvek_receiver_request_raw : (words image request given out : List ℕ) (written r r' : ℕ) (words_left words_left' image_left image_left' out_left out_left' : List ℕ) (written_left written_left' : ℕ)
+    → receiver_called r written_left words_left image_left out_left ≡ harsolvek_receiver_request words image request given out
+    → receiver_called r' written_left' words_left' image_left' out_left' ≡ harsolvek_receiver_request words image request given out
+    → receiver_called r written_left words_left image_left out_left ≡ receiver_called r' written_left' words_left' image_left' out_left'
+one_harsolvek_receiver_request_raw words image request given out written r r' words_left words_left' image_left image_left' out_left out_left' written_left written_left' is is' = only is is'
 
-pub one_harsolvek_receiver_start_raw : (words settings numbers bytes : List ℕ) (capacity r r' : ℕ) (words_left words-left' : List ℕ)
+pub one_harsolvek_receiver_start_raw : (words settings numbers bytes : List ℕ) (capacity r r' : ℕ) (words_left words_left' : List ℕ)
     → left r words_left ≡ harsolvek_receiver_start settings numbers bytes capacity
-    → left r' words-left' ≡ harsolvek_receiver_start settings numbers bytes capacity
-    → left r words_left ≡ left r' words-left'
-one_harsolvek_receiver_start_raw words settings numbers bytes capacity r r' words_left words-left' is is' = only is is'
+    → left r' words_left' ≡ harsolvek_receiver_start settings numbers bytes capacity
+    → left r words_left ≡ left r' words_left'
+one_harsolvek_receiver_start_raw words settings numbers bytes capacity r r' words_left words_left' is is' = only is is'
 
-pub one_harsolvek_receiver_sum_raw : (words image : List ℕ) (sum r r' sum_left sum-left' : ℕ)
+pub one_harsolvek_receiver_sum_raw : (words image : List ℕ) (sum r r' sum_left sum_left' : ℕ)
     → receiver_summed r sum_left ≡ harsolvek_receiver_sum words image
-    → receiver_summed r' sum-left' ≡ harsolvek_receiver_sum words image
-    → receiver_summed r sum_left ≡ receiver_summed r' sum-left'
-one_harsolvek_receiver_sum_raw words image sum r r' sum_left sum-left' is is' = only is is'
+    → receiver_summed r' sum_left' ≡ harsolvek_receiver_sum words image
+    → receiver_summed r sum_left ≡ receiver_summed r' sum_left'
+one_harsolvek_receiver_sum_raw words image sum r r' sum_left sum_left' is is' = only is is'
 
-pub one_harsolvek_receiver_time_raw : (words : List ℕ) (elapsed : ℕ) (out : List ℕ) (written r r' : ℕ) (words_left words-left' out-left out-left' : List ℕ) (written-left written-left' : ℕ)
-    → receiver_timed r written-left words_left out-left ≡ harsolvek_receiver_time words elapsed out
-    → receiver_timed r' written-left' words-left' out-left' ≡ harsolvek_receiver_time words elapsed out
-    → receiver_timed r written-left words_left out-left ≡ receiver_timed r' written-left' words-left' out-left'
-one_harsolvek_receiver_time_raw words elapsed out written r r' words_left words-left' out-left out-left' written-left written-left' is is' = only is is'
+pub one_harsolvek_receiver_time_raw : (words : List ℕ) (elapsed : ℕ) (out : List ℕ) (written r r' : ℕ) (words_left words_left' out_left out_left' : List ℕ) (written_left written_left' : ℕ)
+    → receiver_timed r written_left words_left out_left ≡ harsolvek_receiver_time words elapsed out
+    → receiver_timed r' written_left' words_left' out_left' ≡ harsolvek_receiver_time words elapsed out
+    → receiver_timed r written_left words_left out_left ≡ receiver_timed r' written_left' words_left' out_left'
+one_harsolvek_receiver_time_raw words elapsed out written r r' words_left words_left' out_left out_left' written_left written_left' is is' = only is is'
 
 pub one_harsolvek_receiver_layout_1 : (r r' : ℕ)
     → r ≡ receiver_words

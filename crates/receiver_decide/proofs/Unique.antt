@@ -1,7 +1,5 @@
 -- Each public contract leaves one answer and one state of the lent memory. Written from the contracts by tools/contracts.
-use Prim.Native.Nat.{ℕ}
-use mathlib.Core.Bool.{Bool}
-use mathlib.Core.Path.{◌≡◌}
+use Rattle.std.specs.Prelude.{ℕ, ◌≡◌, Bool}
 use Rattle.basis.specs.Only.{only}
 use Rattle.receiver_rules.specs.Decide.{receiver_decide_of}
 use Rattle.receiver_rules.specs.Range.{out_of_range}

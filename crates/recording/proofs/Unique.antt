@@ -1,7 +1,5 @@
 -- Each public contract leaves one answer and one state of the lent memory. Written from the contracts by tools/contracts.
-use Prim.Native.Nat.{ℕ}
-use mathlib.Core.List.{List}
-use mathlib.Core.Path.{◌≡◌}
+use Rattle.std.specs.Prelude.{List, ℕ, ◌≡◌}
 use Rattle.basis.specs.Left.{left}
 use Rattle.basis.specs.Only.{only}
 use Rattle.recording.specs.Reading.{next_record_of}
@@ -30,8 +28,8 @@ pub one_number : (self : Written) (r r' : ℕ)
     → r ≡ r'
 one_number self r r' is is' = only is is'
 
-pub one_write : («record» : Record) (out : List ℕ) (r r' : Written) (out-left out-left' : List ℕ)
-    → left r out-left ≡ record_write_of «record» out
-    → left r' out-left' ≡ record_write_of «record» out
-    → left r out-left ≡ left r' out-left'
-one_write «record» out r r' out-left out-left' is is' = only is is'
+pub one_write : («record» : Record) (out : List ℕ) (r r' : Written) (out_left out_left' : List ℕ)
+    → left r out_left ≡ record_write_of «record» out
+    → left r' out_left' ≡ record_write_of «record» out
+    → left r out_left ≡ left r' out_left'
+one_write «record» out r r' out_left out_left' is is' = only is is'

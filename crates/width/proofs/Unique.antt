@@ -1,6 +1,5 @@
 -- Each public contract leaves one answer and one state of the lent memory. Written from the contracts by tools/contracts.
-use Prim.Native.Nat.{ℕ}
-use mathlib.Core.Path.{◌≡◌}
+use Rattle.std.specs.Prelude.{ℕ, ◌≡◌}
 use Rattle.basis.specs.Only.{only}
 use Rattle.width.specs.Halves.{halves_of}
 use Rattle.width.specs.Narrow.{at_most}

@@ -1,7 +1,5 @@
 -- Each public contract leaves one answer and one state of the lent memory. Written from the contracts by tools/contracts.
-use Prim.Native.Nat.{ℕ}
-use mathlib.Core.List.{List}
-use mathlib.Core.Path.{◌≡◌}
+use Rattle.std.specs.Prelude.{List, ℕ, ◌≡◌}
 use Rattle.basis.specs.Left.{left}
 use Rattle.basis.specs.Only.{only}
 use Rattle.wire.specs.Written.{request_bytes, response_bytes}
@@ -11,11 +9,11 @@ use Rattle.writing.specs.Message.{send_of, message_of}
 use Rattle.writing.specs.declared.message.Message.{Message}
 use Rattle.writing.specs.declared.message.Sent.{Sent}
 
-pub one_send : (self : Message) (out : List ℕ) (r r' : Sent) (out-left out-left' : List ℕ)
-    → left r out-left ≡ send_of self out
-    → left r' out-left' ≡ send_of self out
-    → left r out-left ≡ left r' out-left'
-one_send self out r r' out-left out-left' is is' = only is is'
+pub one_send : (self : Message) (out : List ℕ) (r r' : Sent) (out_left out_left' : List ℕ)
+    → left r out_left ≡ send_of self out
+    → left r' out_left' ≡ send_of self out
+    → left r out_left ≡ left r' out_left'
+one_send self out r r' out_left out_left' is is' = only is is'
 
 pub one_write_request : (request : Request) (r r' : Message)
     → r ≡ message_of (request_bytes request)
