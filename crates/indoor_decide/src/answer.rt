@@ -40,6 +40,7 @@ pub fn reason_number(reason: Reason) -> u8
     }
 }
 
+#[tactic(auto, unfolding(indoor_state::specs::Answer::sends_of))]
 pub fn answer_sends(answer: Answer) -> Sends
     ensures { result ≡ sends_of answer }
 {

@@ -24,6 +24,7 @@ pub fn decide(plan: Plan, state: State, response: Response) -> Step
     decided(plan, state, phase, response)
 }
 
+#[tactic(auto, unfolding(indoor_rules::specs::Decide::indoor_decide_in))]
 fn decided(plan: Plan, state: State, phase: Phase, response: Response) -> Step
     ensures { result ≡ indoor_decide_in plan state phase response }
 {
@@ -46,6 +47,7 @@ fn passes_over(state: State) -> Step
     }
 }
 
+#[tactic(auto, using(basis::specs::Pick::tests), unfolding(indoor_rules::specs::Decide::not_ok, basis::specs::Pick::differ))]
 fn not_ok(status: u8) -> bool
     ensures { result ≡ not_ok status }
 {
@@ -54,6 +56,7 @@ fn not_ok(status: u8) -> bool
 }
 
 // Every status but OK is 41 (001 T5-29), whatever else the response says.
+#[tactic(auto, using(basis::specs::Pick::tests), unfolding(indoor_rules::specs::Decide::where_ok))]
 fn where_ok(status: u8, further: Step) -> Step
     ensures { result ≡ where_ok status further }
 {
@@ -63,6 +66,7 @@ fn where_ok(status: u8, further: Step) -> Step
     further
 }
 
+#[tactic(auto, using(basis::specs::Pick::tests), unfolding(indoor_rules::specs::Decide::indoor_identify_of))]
 fn identify(plan: Plan, state: State, response: Response) -> Step
     ensures { result ≡ indoor_identify_of plan state response }
 {
@@ -82,6 +86,7 @@ fn compared(plan: Plan, reported: Identity) -> Step
     goes(Phase::Initiate { wait: 0 }, Answer::Initiating)
 }
 
+#[tactic(auto, using(basis::specs::Pick::tests), unfolding(indoor_rules::specs::Decide::indoor_initiate_of))]
 fn initiate(plan: Plan, state: State, response: Response) -> Step
     ensures { result ≡ indoor_initiate_of plan state response }
 {
@@ -120,6 +125,7 @@ fn sends(plan: Plan, number: u16, emptied: bool) -> Step
     goes(phase, Answer::Sending { number })
 }
 
+#[tactic(auto, using(basis::specs::Pick::tests), unfolding(indoor_rules::specs::Decide::indoor_transfer_of))]
 fn transfer(plan: Plan, state: State, p: Progress, response: Response) -> Step
     ensures { result ≡ indoor_transfer_of plan state p response }
 {
@@ -152,6 +158,7 @@ fn close(plan: Plan, emptied: bool, number: u16) -> Step
     close_number(plan, number)
 }
 
+#[tactic(auto, using(basis::specs::Pick::tests), unfolding(indoor_rules::specs::Decide::indoor_close_number_of))]
 fn close_number(plan: Plan, number: u16) -> Step
     ensures { result ≡ indoor_close_number_of plan number }
 {
@@ -162,6 +169,7 @@ fn close_number(plan: Plan, number: u16) -> Step
     goes(Phase::Validate { wait: 0 }, Answer::Validating)
 }
 
+#[tactic(auto, using(basis::specs::Pick::tests), unfolding(indoor_rules::specs::Decide::block_asked_of))]
 fn block_asked(plan: Plan, emptied: bool, wait: u8, number: u16) -> Step
     ensures { result ≡ block_asked_of plan emptied wait number }
 {
@@ -180,6 +188,7 @@ fn block_asked(plan: Plan, emptied: bool, wait: u8, number: u16) -> Step
     goes(Phase::Transfer(p), Answer::Waiting)
 }
 
+#[tactic(auto, using(basis::specs::Pick::tests), unfolding(indoor_rules::specs::Decide::indoor_validate_of))]
 fn validate(state: State, response: Response) -> Step
     ensures { result ≡ indoor_validate_of state response }
 {

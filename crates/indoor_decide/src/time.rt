@@ -20,6 +20,7 @@ pub fn pass(plan: Plan, state: State, elapsed: u16) -> Step
     passed(plan, state, phase, elapsed)
 }
 
+#[tactic(auto, unfolding(indoor_rules::specs::Tick::indoor_tick_in))]
 fn passed(plan: Plan, state: State, phase: Phase, elapsed: u16) -> Step
     ensures { result ≡ indoor_tick_in plan state phase elapsed }
 {
@@ -62,6 +63,7 @@ fn grows(plan: Plan, state: State, elapsed: u16) -> Grown
     silence::grow(state.silence, elapsed, state.resends, settings)
 }
 
+#[tactic(auto, unfolding(indoor_rules::specs::Tick::resends_of))]
 fn resends(plan: Plan, state: State, again: Answer, elapsed: u16) -> Step
     ensures { result ≡ resends_of plan state again elapsed }
 {
@@ -71,6 +73,7 @@ fn resends(plan: Plan, state: State, again: Answer, elapsed: u16) -> Step
     resend_on_event(phase, again, grown, event)
 }
 
+#[tactic(auto, unfolding(indoor_rules::specs::Tick::resend_on_event))]
 fn resend_on_event(phase: Phase, again: Answer, grown: Grown, event: Event) -> Step
     ensures { result ≡ resend_on_event phase again grown event }
 {
@@ -81,6 +84,7 @@ fn resend_on_event(phase: Phase, again: Answer, grown: Grown, event: Event) -> S
     }
 }
 
+#[tactic(auto, unfolding(indoor_rules::specs::Tick::transfer_expires_of))]
 fn transfer_expires(plan: Plan, state: State, elapsed: u16) -> Step
     ensures { result ≡ transfer_expires_of plan state elapsed }
 {
@@ -91,6 +95,7 @@ fn transfer_expires(plan: Plan, state: State, elapsed: u16) -> Step
 }
 
 // Nothing is resent in Transfer: the first expiry is 40.
+#[tactic(auto, unfolding(indoor_rules::specs::Tick::transfer_on_event))]
 fn transfer_on_event(phase: Phase, grown: Grown, event: Event) -> Step
     ensures { result ≡ transfer_on_event phase grown event }
 {
@@ -129,6 +134,7 @@ fn initiate(plan: Plan, state: State, wait: u16, elapsed: u16) -> Step
     wait_over(state, Phase::Initiate { wait: 0 }, Answer::Initiating)
 }
 
+#[tactic(auto, using(basis::specs::Pick::tests), unfolding(indoor_rules::specs::Tick::transfer_tick_of))]
 fn transfer(plan: Plan, state: State, p: Progress, elapsed: u16) -> Step
     ensures { result ≡ transfer_tick_of plan state p elapsed }
 {
