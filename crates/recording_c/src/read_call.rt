@@ -48,6 +48,7 @@ pub extern "C" fn harsolvek_record_read_raw(
     reading.number
 }
 
+#[tactic(auto, unfolding(crate::specs::Reads::reading_of))]
 fn reading_of(read: Read, at: usize) -> Reading
     ensures { result ≡ reading_of at read }
 {
@@ -95,6 +96,7 @@ fn no_numbers() -> Numbers
 }
 
 // What the kind does not have is 0.
+#[tactic(auto, unfolding(crate::specs::Reads::numbers_of))]
 fn numbers_of(record: Record) -> Numbers
     ensures { result ≡ numbers_of «record» }
 {

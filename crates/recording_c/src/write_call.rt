@@ -41,6 +41,7 @@ pub extern "C" fn harsolvek_record_write_raw(
     wide(done.number())
 }
 
+#[tactic(auto, using(basis::specs::Pick::tests), unfolding(crate::specs::Writes::given_of))]
 fn given_of(kind: u32, reason: u16, connector: u8, length: u8, control: &[u8; 8]) -> Given
     ensures { result ≡ given_of kind reason connector length control.now }
 {
