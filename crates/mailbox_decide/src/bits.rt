@@ -26,6 +26,7 @@ const ERROR: u32 = 1 << 30;
 
 const COMPLETE: u32 = 1 << 31;
 
+#[tactic(auto, unfolding(mailbox_rules::specs::Cci::cci_bits_of))]
 pub fn cci(status: CommandStatus, shown: u8) -> u32
     ensures { result ≡ cci_bits_of status shown }
 {

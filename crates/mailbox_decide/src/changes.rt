@@ -7,6 +7,7 @@ use mailbox_state::state::Changes;
 const PLACES: usize = 8;
 
 // A change that is recorded is shown where none is, and else waits.
+#[tactic(auto, using(basis::specs::Pick::tests), unfolding(mailbox_rules::specs::Changes::noted_of))]
 pub(crate) fn noted(changes: Changes, connector: u8) -> Changes
     ensures { result ≡ noted_of changes connector }
 {
@@ -25,6 +26,7 @@ pub(crate) fn noted(changes: Changes, connector: u8) -> Changes
 }
 
 // Once the one shown is acknowledged, the lowest that waits is shown.
+#[tactic(auto, unfolding(mailbox_rules::specs::Changes::next_shown_of))]
 pub(crate) fn next(changes: Changes) -> Changes
     ensures { result ≡ next_shown_of changes }
 {

@@ -21,6 +21,7 @@ use mailbox_state::step::{MessageEffect, Step};
 // 002, Table A-1.
 const CONNECTOR_RESET: u8 = 0x03;
 
+#[tactic(auto, using(basis::specs::Pick::tests), unfolding(mailbox_rules::specs::Write::judged_step_of))]
 pub fn write(state: State, control: Control) -> Step
     ensures { result ≡ control_step_of state control }
 {
@@ -33,6 +34,7 @@ pub fn write(state: State, control: Control) -> Step
     taken(state, class, entry.connector, control)
 }
 
+#[tactic(auto, unfolding(mailbox_rules::specs::Write::taken_step_of))]
 fn taken(state: State, class: Class, needs: bool, control: Control) -> Step
     ensures { result ≡ taken_step_of state class needs control }
 {
@@ -109,6 +111,7 @@ fn acknowledge(state: State, change: bool) -> Step
 }
 
 // With bit 16 set the connector shown is cleared too.
+#[tactic(auto, using(basis::specs::Pick::tests))]
 fn after(changes: Changes, change: bool) -> Changes
     ensures { result ≡ pick change (next_shown_of changes) changes }
 {
@@ -134,6 +137,7 @@ fn enable(state: State, mask: u16) -> Step
     }
 }
 
+#[tactic(auto, using(basis::specs::Pick::tests), unfolding(mailbox_rules::specs::Write::starts_command))]
 fn start(state: State, needs: bool, control: Control) -> Step
     ensures { result ≡ starts_command state needs control }
 {

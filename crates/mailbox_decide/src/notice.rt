@@ -9,6 +9,7 @@ use mailbox_state::answer::Answer;
 use mailbox_state::state::{Notifications, State};
 use mailbox_state::step::{MessageEffect, Step};
 
+#[tactic(auto, using(basis::specs::Pick::tests), unfolding(mailbox_rules::specs::Change::change_step_of))]
 pub fn change(state: State, connector: u8, reason: u16) -> Step
     ensures { result ≡ change_step_of state connector reason }
 {
@@ -19,6 +20,7 @@ pub fn change(state: State, connector: u8, reason: u16) -> Step
 }
 
 // A change that is not heard is dropped with answer 0.
+#[tactic(auto, using(basis::specs::Pick::tests), unfolding(mailbox_rules::specs::Change::present_step_of))]
 fn present(state: State, connector: u8, reason: u16) -> Step
     ensures { result ≡ present_step_of state connector reason }
 {
@@ -33,6 +35,7 @@ fn present(state: State, connector: u8, reason: u16) -> Step
     note(state, connector)
 }
 
+#[tactic(auto, unfolding(mailbox_rules::specs::Change::heard_of))]
 fn heard(notifications: Notifications, reason: u16) -> bool
     ensures { result ≡ heard_of notifications reason }
 {

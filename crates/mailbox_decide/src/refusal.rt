@@ -10,6 +10,7 @@ use mailbox_state::answer::Answer;
 use mailbox_state::situation::Situation;
 use mailbox_state::state::State;
 
+#[tactic(auto, unfolding(basis::specs::Pick::differ))]
 pub(crate) fn situation(state: State, control: Control) -> Situation
     ensures { result ≡ situation_of state control }
 {
@@ -34,6 +35,7 @@ pub(crate) fn refusal(class: Class, situation: Situation) -> Answer
     outside(class, situation)
 }
 
+#[tactic(auto, using(mailbox_rules::proofs::Answers::reset_taken, mailbox_rules::proofs::Running::off_in_run, mailbox_rules::proofs::Answers::running_3, mailbox_rules::proofs::Judged::cancels))]
 fn in_run(class: Class, situation: Situation) -> Answer
     requires { situation.runs ≡ true }
     ensures { result ≡ refusal_of class situation }
@@ -65,6 +67,7 @@ fn runs_while_off(class: Class) -> Answer
     }
 }
 
+#[tactic(auto, using(mailbox_rules::proofs::Answers::reset_taken, mailbox_rules::proofs::Judged::enables))]
 fn outside(class: Class, situation: Situation) -> Answer
     requires { situation.runs ≡ false }
     ensures { result ≡ refusal_of class situation }

@@ -13,6 +13,7 @@ use mailbox_state::step::{MessageEffect, Step};
 // 000 Table A-2: MAX_DATA_LENGTH.
 const DATA_MOST: usize = 255;
 
+#[tactic(auto, using(basis::specs::Pick::tests), unfolding(mailbox_rules::specs::Report::success_step_of))]
 pub fn succeed(state: State, length: usize) -> Step
     ensures { result ≡ success_step_of state length }
 {
@@ -31,6 +32,7 @@ pub fn succeed(state: State, length: usize) -> Step
     )
 }
 
+#[tactic(auto, using(basis::specs::Pick::tests), unfolding(mailbox_rules::specs::Report::failure_step_of))]
 pub fn fail(state: State) -> Step
     ensures { result ≡ failure_step_of state }
 {

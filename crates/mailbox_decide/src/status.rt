@@ -6,6 +6,7 @@ ghost use Rattle.mailbox_state.specs.State.{off_of};
 use mailbox_state::state::Notifications;
 use mailbox_state::status::CommandStatus;
 
+#[tactic(auto, unfolding(mailbox_state::specs::Status::runs_of))]
 pub(crate) fn runs(status: CommandStatus) -> bool
     ensures { result ≡ runs_of status }
 {
@@ -22,6 +23,7 @@ pub(crate) fn runs(status: CommandStatus) -> bool
 }
 
 // Every completion and cancel waits for ACK_CC_CI with bit 17 set.
+#[tactic(auto, unfolding(mailbox_state::specs::Status::due_of))]
 pub(crate) fn due(status: CommandStatus) -> bool
     ensures { result ≡ due_of status }
 {
@@ -37,6 +39,7 @@ pub(crate) fn due(status: CommandStatus) -> bool
     }
 }
 
+#[tactic(auto, unfolding(mailbox_state::specs::State::off_of))]
 pub(crate) fn off(notifications: Notifications) -> bool
     ensures { result ≡ off_of notifications }
 {
