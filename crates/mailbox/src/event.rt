@@ -43,6 +43,7 @@ pub fn change(mailbox: Mailbox, connector: u8, reason: u16) -> Outcome
 }
 
 // What a write decides without MESSAGE_IN: for a caller that has it elsewhere.
+#[tactic(auto, unfolding(mailbox_rules::specs::Events::parsed_step_of))]
 pub fn write_step(state: State, control: &[u8]) -> Step
     ensures { result ≡ write_step_of state control.now }
 {

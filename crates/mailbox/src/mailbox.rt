@@ -7,6 +7,7 @@ use mailbox_state::state::{Changes, Notifications, State};
 use mailbox_state::status::CommandStatus;
 
 // 29 for a count that no mailbox has (01, The mailbox); what is returned beside it has no connector.
+#[tactic(auto, using(basis::specs::Pick::tests), unfolding(mailbox_rules::specs::Mailbox::mailbox_fresh_of))]
 pub fn fresh(count: u8) -> Fresh
     ensures { result ≡ mailbox_fresh_of count }
 {
@@ -20,6 +21,7 @@ pub fn fresh(count: u8) -> Fresh
 }
 
 // CCI 0, notifications off, none shown, nothing running.
+#[tactic(auto, unfolding(mailbox_rules::specs::Mailbox::fresh_mailbox, mailbox_rules::specs::MessageIn::zero_message_in))]
 fn with_connectors(count: u8) -> Mailbox
     ensures { result ≡ fresh_mailbox count }
 {

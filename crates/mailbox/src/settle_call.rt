@@ -5,6 +5,7 @@ ghost use Rattle.mailbox_rules.specs.MessageIn.{filled_of, settled_of};
 use mailbox_state::step::MessageEffect;
 
 // `bytes` are those that the port reports.
+#[tactic(auto, unfolding(mailbox_rules::specs::MessageIn::settled_of, mailbox_rules::specs::MessageIn::zero_message_in))]
 pub fn settle(message: &mut [u8; 256], effect: MessageEffect, bytes: &[u8])
     ensures { message.new ≡ settled_of message.old effect bytes.now }
 {
@@ -18,6 +19,7 @@ pub fn settle(message: &mut [u8; 256], effect: MessageEffect, bytes: &[u8])
 }
 
 // The port's bytes, and zeros after.
+#[tactic(auto, using(basis::specs::Left::leaves), unfolding(mailbox_rules::specs::MessageIn::filled_of, mailbox_rules::specs::MessageIn::zero_message_in))]
 fn fill(message: &mut [u8; 256], bytes: &[u8])
     ensures { message.new ≡ filled_of bytes.now }
 {
