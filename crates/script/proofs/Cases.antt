@@ -5,8 +5,7 @@ use mathlib.Core.List.{List, [], ◌∷◌, map}
 use mathlib.Core.Path.{◌≡◌, refl}
 use lib.ListN.{take}
 use Rattle.basis.specs.Pick.{pick, differ}
-use Rattle.bytes.specs.Bytes.{index_of, index_after}
-use Rattle.script.specs.Words.{first_word_of, after_first_word_of, script_word_at}
+use Rattle.script.specs.Words.{index_of, first_word_of, after_first_word_of, script_word_at}
 use Rattle.script.specs.Digits.{digit_read_of, byte_read_of}
 use Rattle.script.specs.Decimal.{no_number, added_of, decimal_step_of, decimal_read_of}
 use Rattle.script.specs.declared.number.Number.{Number}
@@ -38,5 +37,5 @@ pub record Cases : Type 0 where
   pub no_byte_lem : (spell_of no_byte).known ≡ false
 
 pub cases : Cases
-unfolding pick differ index_of index_after first_word_of after_first_word_of script_word_at digit_read_of byte_read_of added_of decimal_step_of counted_run_of times_of byte_run_of spelled_zeros spelled_in spelled_grown spelled_turns
+unfolding pick differ index_of first_word_of after_first_word_of script_word_at digit_read_of byte_read_of added_of decimal_step_of counted_run_of times_of byte_run_of spelled_zeros spelled_in spelled_grown spelled_turns
 cases = record { first_word = refl; behind_it = refl; ten = refl; too_much = refl; nothing = refl; figures = refl; no_figure = refl; three = refl; they_are = refl; no_byte_lem = refl }

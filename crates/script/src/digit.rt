@@ -11,6 +11,7 @@ pub(crate) enum Byte {
     NoByte,
 }
 
+#[tactic(auto, using(basis::specs::Pick::tests), unfolding(crate::specs::Digits::digit_read_of))]
 pub(crate) fn digit(c: u8) -> u8
     ensures { result ≡ digit_read_of c }
 {
@@ -29,6 +30,7 @@ pub(crate) fn digit(c: u8) -> u8
     NO_DIGIT
 }
 
+#[tactic(auto, using(basis::specs::Pick::tests), unfolding(crate::specs::Digits::byte_read_of))]
 pub(crate) fn byte_of(high: u8, low: u8) -> Byte
     ensures { result ≡ byte_read_of high low }
 {

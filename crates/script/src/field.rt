@@ -26,6 +26,7 @@ impl Field {
         }
     }
 
+    #[tactic(auto, using(basis::specs::Pick::tests), unfolding(crate::specs::Fields::next_field_of))]
     pub fn next(self, words: &[u8], most: usize) -> Field
         ensures { result ≡ next_field_of self words.now most }
     {
@@ -62,6 +63,7 @@ impl Field {
     }
 
     // Whether this is the line's last word, and all its words are numbers.
+    #[tactic(auto, using(basis::specs::Pick::tests), unfolding(crate::specs::Fields::is_last_field))]
     pub fn is_last(self, words: &[u8]) -> bool
         ensures { result ≡ is_last_field self words.now }
     {
@@ -69,6 +71,7 @@ impl Field {
     }
 }
 
+#[tactic(auto, using(basis::specs::Pick::tests))]
 fn both(a: bool, b: bool) -> bool
     ensures { result ≡ pick a b false }
 {

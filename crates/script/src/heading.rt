@@ -8,6 +8,7 @@ pub fn asks(line: &[u8]) -> bool
     !is_heading(line)
 }
 
+#[tactic(auto, using(basis::specs::Pick::tests), unfolding(crate::specs::Heading::heading_of))]
 fn is_heading(line: &[u8]) -> bool
     ensures { result ≡ heading_of line.now }
 {

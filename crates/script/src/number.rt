@@ -27,6 +27,7 @@ pub fn decimal(s: &[u8], most: usize) -> Number
     read
 }
 
+#[tactic(auto, using(basis::specs::Pick::tests), unfolding(crate::specs::Decimal::decimal_step_of))]
 fn step(read: Number, c: u8, most: usize) -> Number
     ensures { result ≡ decimal_step_of most read c }
 {
@@ -45,6 +46,7 @@ fn unknown() -> Number
     }
 }
 
+#[tactic(auto, using(basis::specs::Pick::tests), unfolding(crate::specs::Decimal::added_of))]
 fn added(n: usize, d: u8, most: usize) -> Number
     ensures { result ≡ added_of most n d }
 {

@@ -15,6 +15,7 @@ pub(crate) enum Run {
     Other,
 }
 
+#[tactic(auto, using(basis::specs::Pick::tests), unfolding(crate::specs::Runs::byte_run_of))]
 pub(crate) fn run_of(w: &[u8]) -> Run
     ensures { result ≡ byte_run_of w.now }
 {
@@ -28,6 +29,7 @@ pub(crate) fn run_of(w: &[u8]) -> Run
     times_of(byte, from(w, 2))
 }
 
+#[tactic(auto, using(basis::specs::Pick::tests), unfolding(crate::specs::Runs::times_of))]
 fn times_of(byte: u8, tail: &[u8]) -> Run
     ensures { result ≡ times_of byte tail.now }
 {
@@ -40,6 +42,7 @@ fn times_of(byte: u8, tail: &[u8]) -> Run
     counted(byte, from(tail, 1))
 }
 
+#[tactic(auto, using(basis::specs::Pick::tests), unfolding(crate::specs::Runs::counted_run_of))]
 fn counted(byte: u8, digits: &[u8]) -> Run
     ensures { result ≡ counted_run_of byte digits.now }
 {

@@ -42,6 +42,7 @@ pub fn spell(words: &[u8]) -> Spelled
     }
 }
 
+#[tactic(auto, using(basis::specs::Pick::tests), unfolding(crate::specs::Spelling::spelled_zeros))]
 fn blank() -> [u8; ROOM]
     ensures { result ≡ spelled_zeros }
 {

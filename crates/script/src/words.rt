@@ -9,7 +9,7 @@ fn end_of(s: &[u8]) -> usize
     ensures upper_bound { result ≤ length s.now }
     ensures value { result ≡ length (first_word_of s.now) }
 {
-    bytes::scan::find(s, 0, s.len(), b' ')
+    s.iter().position(|c| *c == b' ').unwrap_or(s.len())
 }
 
 pub fn first(s: &[u8]) -> &[u8]
