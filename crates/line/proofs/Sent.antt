@@ -11,6 +11,7 @@ use Rattle.basis.specs.Pick.{pick, pick_all}
 use Rattle.lent.specs.Sent.{with_sent}
 
 pub none_sent : (m : List ℕ) (sent : List (List ℕ)) → sent ≡ [] → Memᴰ m sent → ⊥
+none_sent m [] e h = elim h [ ]
 none_sent m (x ∷ sent) e h = let some = ap length e in omega arith
 
 first_or_other : (x m : List ℕ) (sent : List (List ℕ)) → Memᴰ m (x ∷ sent) → (m ≡ x) ⊎ Memᴰ m sent
@@ -37,6 +38,8 @@ appended_or (x ∷ l) more m (Memᴰ.tail h) = later_or (appended_or l more m h)
 new_sent : (t : Bool) (x m : List ℕ) (sent : List (List ℕ)) → Memᴰ m (pick t [] (x ∷ [])) → Memᴰ m (pick t sent (x ∷ sent))
 unfolding pick
 new_sent false x m sent (Memᴰ.head e) = Memᴰ.head e
+new_sent false x m sent (Memᴰ.tail h) = elim h [ ]
+new_sent true x m sent h = elim h [ ]
 
 -- A message stays among those sent.
 still_sent : (written : ℕ) (out : List ℕ) (sent : List (List ℕ)) (m : List ℕ) → Memᴰ m sent → Memᴰ m (with_sent written out sent)
