@@ -1,6 +1,6 @@
 -- What one delivery does to a clean line that has one message on its way, and that a call with 0 ms elapsed does nothing.
 use Prim.Native.Nat.{ℕ, ◌+◌, ◌≤◌}
-use mathlib.Core.Path.{◌≡◌, refl, sym, ◌∙◌, ap}
+use mathlib.Core.Path.{◌≡◌, sym, ◌∙◌, ap}
 use mathlib.Core.List.{List, [], ◌∷◌, ◌++◌, append-nil}
 use native.Mathlib.Omega.{arith}
 use lib.Dec.{eqb}
@@ -21,7 +21,6 @@ use Rattle.wire.specs.declared.response.Identity.{Identity}
 use Rattle.receiver_state.specs.Answer.{reply_of}
 use Rattle.receiver_state.specs.declared.answer.Answer.{Answer}
 use Rattle.receiver_state.specs.declared.phase.Phase as receiver
-use Rattle.receiver_state.specs.declared.phase.Phase.TheVariants.{Good}
 use Rattle.receiver_rules.specs.Range.{Timely}
 use Rattle.receiver_rules.specs.Decide.{receiver_decide_of}
 use Rattle.receiver_state.specs.declared.verdict.Verdict.{Verdict}
@@ -35,7 +34,7 @@ use Rattle.receiver_rules.proofs.RangeLaws.{in_range_lem}
 use Rattle.receiver_rules.proofs.Answers.{answers_step}
 use Rattle.receiver_rules.proofs.TimeLaws as receiverTime
 use Rattle.receiver_rules.proofs.Reached as receiverReached
-use Rattle.indoor_state.specs.Phase.{indoor_state, indoor_progress as sent}
+use Rattle.indoor_state.specs.Phase.{indoor_state}
 use Rattle.indoor_state.specs.Answer.{sends_of}
 use Rattle.indoor_state.specs.Step.{indoor_step}
 use Rattle.indoor_state.specs.declared.plan.Release.{Release}
@@ -53,7 +52,7 @@ use Rattle.indoor_rules.proofs.Answers.{response_step}
 use Rattle.indoor_rules.proofs.Laws as indoorLaws
 use Rattle.indoor_rules.proofs.Reached.{reach_holds}
 use Rattle.indoor_rules.proofs.Reached as indoorReached
-use Rattle.line.specs.Line.{Line, Wide, up, down, carried_up, carried_down, passed_at_receiver, passed_at_indoor}
+use Rattle.line.specs.Line.{Line, Wide, carried_up, carried_down, passed_at_receiver, passed_at_indoor}
 use Rattle.line.proofs.Sent.{sent_length}
 use Rattle.line.proofs.AnyLine.{Safe}
 
