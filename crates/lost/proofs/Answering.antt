@@ -30,7 +30,7 @@ use Rattle.indoor_rules.proofs.Accepted.{emptied_last}
 use Rattle.indoor_rules.proofs.Compared.{Newer, newer_only}
 use Rattle.indoor_rules.proofs.Orders as responses
 use Rattle.lost.specs.Lost.{Going, going, Timed, arrived_down}
-use Rattle.lost.proofs.Carried.{with, Given, plan, roof, indoors, says, asks, At, heard, answered}
+use Rattle.lost.proofs.Carried.{with, Given, plan, roof, indoors, says, asks, At, answered}
 use Rattle.lost.proofs.Times.{times, times_none, times_next, times_most}
 use Rattle.lost.proofs.Messages as messages
 use Rattle.lost.proofs.Messages.{Late}

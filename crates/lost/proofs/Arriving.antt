@@ -19,7 +19,7 @@ use Rattle.receiver_state.specs.Phase.{accepted_counts}
 use Rattle.receiver_state.specs.declared.answer.Answer.TheVariants.{Offered, Asking, Closed}
 use Rattle.receiver_state.specs.declared.phase.Progress.{Progress}
 use Rattle.receiver_state.specs.declared.phase.Phase as receiver
-use Rattle.receiver_state.specs.declared.phase.Phase.TheVariants.{Idle, Transfer, Await, Good}
+use Rattle.receiver_state.specs.declared.phase.Phase.TheVariants.{Idle, Transfer, Await}
 use Rattle.receiver_state.specs.declared.verdict.Verdict.TheVariants as Ver
 use Rattle.receiver_state.specs.declared.step.Step.{Step}
 use Rattle.receiver_rules.specs.Decide.{goes_to, receiver_progress, receiver_decide_of}

@@ -9,7 +9,6 @@ use lib.ListN.{length, take}
 use Rattle.basis.specs.Pick.{pick_all}
 use Rattle.basis.specs.Left.{Left, left}
 use Rattle.silence.specs.Settings.{limit_least, limit_most, resends_most, settings_of}
-use Rattle.silence.specs.declared.Settings.{Settings}
 use Rattle.silence.specs.declared.Checked.{Checked}
 use Rattle.silence.specs.declared.Checked.TheVariants as Che
 use Rattle.image.specs.Blocks.{blocks_of}

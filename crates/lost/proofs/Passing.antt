@@ -30,7 +30,7 @@ use Rattle.lost.proofs.Times.{times_whole, has_resend, below, older_last, last_y
 use Rattle.lost.proofs.Messages as messages
 use Rattle.lost.proofs.Messages.{Late, late_older}
 use Rattle.lost.proofs.Ticks.{was_lost, nothing_said, nothing_asked, opens_on, answers_on, owes_quiet, owes_again, owes_said}
-use Rattle.lost.proofs.Stations.{n, trips, begun, Cost, Opens, idle, Owes, Answers, Station, identifying, identified, unidentified, initiating, offered, unoffered, block, receipt, unreceived, validating, succeeded, unvalidated, finished}
+use Rattle.lost.proofs.Stations.{n, trips, begun, Cost, Opens, Owes, Answers, Station, identifying, identified, unidentified, initiating, offered, unoffered, block, receipt, unreceived, validating, succeeded, unvalidated, finished}
 
 module _ (x : Given) (bounds : Bounds x.outdoor.limit x.outdoor.resends x.indoor.limit x.indoor.resends x.up x.down) (few : n x ≤ 4096)
     (ms : ℕ) (l : Timed) (rising : Younger x.up l.up) (falling : Younger x.down l.down) (out out' : List ℕ) (room : longest ≤ length out) (room' : longest ≤ length out') where
