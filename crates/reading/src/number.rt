@@ -18,7 +18,6 @@ pub(crate) fn word_at(msg: &[u8], at: usize) -> u16
     word(msg[at], msg[at + 1])
 }
 
-#[tactic(auto, using(basis::specs::Pick::tests))]
 pub(crate) fn versions_at(msg: &[u8], at: usize) -> Versions
     requires { at + 8 ≤ length msg.now }
     ensures { result ≡ versions_at msg.now at }

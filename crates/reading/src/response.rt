@@ -58,7 +58,6 @@ fn identified(msg: &[u8]) -> Parsed
 }
 
 // 001 T5-18.
-#[tactic(auto, using(basis::specs::Pick::tests))]
 fn identity_in(msg: &[u8]) -> Identity
     requires { length msg.now ≡ get_fw_id_response_length }
     ensures { result ≡ identity_in msg.now }

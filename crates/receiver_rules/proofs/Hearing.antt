@@ -10,7 +10,6 @@ use Rattle.basis.specs.Left.{Left, left}
 use Rattle.basis.specs.Pick.{pick, pick_all, pick_no, differ}
 use Rattle.lent.specs.Written.{written_into, returns_written}
 use Rattle.wire.specs.Codes.{longest}
-use Rattle.wire.specs.Request as message
 use Rattle.wire.specs.declared.request.Parsed.{Parsed}
 use Rattle.wire.specs.declared.request.Parsed.TheVariants as Par
 use Rattle.wire.specs.declared.response.Identity.{Identity}
@@ -20,7 +19,6 @@ use Rattle.receiver_state.specs.declared.answer.Answer.TheVariants.{Identified, 
 use Rattle.receiver_state.specs.declared.phase.Phase.{Phase}
 use Rattle.receiver_state.specs.declared.verdict.Verdict.{Verdict}
 use Rattle.receiver_state.specs.declared.session.Receiver.{Receiver}
-use Rattle.receiver_rules.specs.Range.{out_of_range}
 use Rattle.receiver_rules.specs.Request.{Effect, effect, request_kept, request_read_of, receiver_request_of}
 use Rattle.receiver_rules.specs.Respond.{reply_bytes, receiver_bytes_of}
 use Rattle.receiver_rules.specs.Session.{receiver_returns, receiver_moved}

@@ -2,7 +2,7 @@
 -- resends to zero, and nothing else changes (01, The parts of the cable job; 01, The receiver's phases).
 use Prim.Native.Nat.{ℕ, ◌≤◌}
 use mathlib.Core.Bool.{false}
-use mathlib.Core.Path.{◌≡◌, ◌∙◌}
+use mathlib.Core.Path.{◌≡◌}
 use mathlib.Core.List.{List, ◌∷◌, Memᴰ}
 use lib.ListN.{length}
 use Rattle.wire.specs.Codes.{requests_not_built}
