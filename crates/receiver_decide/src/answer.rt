@@ -37,6 +37,7 @@ pub fn answer_number(answer: Answer) -> u8
 }
 
 // Status, wait and later fields of the response, for every case.
+#[tactic(auto, using(basis::specs::Pick::tests), unfolding(receiver_state::specs::Answer::reply_of))]
 pub fn reply(answer: Answer, identity: Identity, capacity: u32) -> Reply
     ensures { result ≡ reply_of identity capacity answer }
 {
@@ -68,6 +69,7 @@ pub fn reply(answer: Answer, identity: Identity, capacity: u32) -> Reply
     }
 }
 
+#[tactic(auto, using(basis::specs::Pick::tests), unfolding(receiver_state::specs::Answer::get_fw_id_reply))]
 fn get_fw_id_reply(identity: Identity) -> Reply
     ensures { result ≡ get_fw_id_reply identity }
 {
@@ -75,6 +77,7 @@ fn get_fw_id_reply(identity: Identity) -> Reply
     Reply::Sends(Response::GetFwId { status, identity })
 }
 
+#[tactic(auto, using(basis::specs::Pick::tests), unfolding(receiver_state::specs::Answer::initiate_reply))]
 fn initiate_reply(status: Status, wait: u8, size: u32) -> Reply
     ensures { result ≡ initiate_reply status wait size }
 {
@@ -82,6 +85,7 @@ fn initiate_reply(status: Status, wait: u8, size: u32) -> Reply
     Reply::Sends(Response::Initiate { status, wait, size })
 }
 
+#[tactic(auto, using(basis::specs::Pick::tests), unfolding(receiver_state::specs::Answer::data_reply))]
 fn data_reply(status: Status, wait: u8, number: u16) -> Reply
     ensures { result ≡ data_reply status wait number }
 {
@@ -93,6 +97,7 @@ fn data_reply(status: Status, wait: u8, number: u16) -> Reply
     })
 }
 
+#[tactic(auto, using(basis::specs::Pick::tests), unfolding(receiver_state::specs::Answer::validate_reply))]
 fn validate_reply(status: Status, wait: u8, success: bool) -> Reply
     ensures { result ≡ validate_reply status wait success }
 {

@@ -6,6 +6,7 @@ use receiver_state::verdict::Verdict;
 
 const WAIT_MOST: u8 = 254;
 
+#[tactic(auto, using(basis::specs::Pick::tests), unfolding(receiver_rules::specs::Range::later_outside))]
 fn later_outside(wait: u8) -> bool
     ensures { result ≡ later_outside wait }
 {
@@ -15,6 +16,7 @@ fn later_outside(wait: u8) -> bool
     WAIT_MOST < wait
 }
 
+#[tactic(auto, using(basis::specs::Pick::tests), unfolding(receiver_rules::specs::Range::verdict_outside))]
 fn verdict_outside(verdict: Verdict) -> bool
     ensures { result ≡ verdict_outside verdict }
 {
@@ -25,6 +27,7 @@ fn verdict_outside(verdict: Verdict) -> bool
     }
 }
 
+#[tactic(auto, using(basis::specs::Pick::tests), unfolding(receiver_rules::specs::Range::out_of_range))]
 pub fn out_of_range(readiness: u8, verdict: Verdict) -> bool
     ensures { result ≡ out_of_range readiness verdict }
 {

@@ -12,6 +12,7 @@ use wire::request::Request;
 // An image of 1,048,575 bytes has no block above this number (01, Sizes and numbers).
 const LAST_NUMBER: u16 = 4095;
 
+#[tactic(auto, using(basis::specs::Pick::tests), unfolding(receiver_rules::specs::Decide::receiver_decide_of))]
 pub fn decide(
     phase: Phase,
     request: Request,
@@ -41,6 +42,7 @@ fn to(phase: Phase, answer: Answer) -> Step
     }
 }
 
+#[tactic(auto, using(basis::specs::Pick::tests), unfolding(receiver_rules::specs::Decide::receiver_initiate_of))]
 fn initiate(phase: Phase, readiness: u8) -> Step
     ensures { result ≡ receiver_initiate_of phase readiness }
 {
@@ -52,6 +54,7 @@ fn initiate(phase: Phase, readiness: u8) -> Step
     }
 }
 
+#[tactic(auto, using(basis::specs::Pick::tests), unfolding(receiver_rules::specs::Decide::initiate_in_transfer_of))]
 fn initiate_in_transfer(p: Progress, readiness: u8) -> Step
     ensures { result ≡ initiate_in_transfer_of p readiness }
 {
@@ -61,6 +64,7 @@ fn initiate_in_transfer(p: Progress, readiness: u8) -> Step
     offer(Phase::Transfer(p), readiness)
 }
 
+#[tactic(auto, using(basis::specs::Pick::tests), unfolding(receiver_rules::specs::Decide::receiver_offer_of))]
 fn offer(phase: Phase, readiness: u8) -> Step
     ensures { result ≡ receiver_offer_of phase readiness }
 {
@@ -74,6 +78,7 @@ fn offer(phase: Phase, readiness: u8) -> Step
     to(phase, Answer::Offered { wait: readiness })
 }
 
+#[tactic(auto, using(basis::specs::Pick::tests), unfolding(receiver_rules::specs::Decide::receiver_data_of))]
 fn data(phase: Phase, number: u16, size: usize, capacity: u32, readiness: u8) -> Step
     ensures { result ≡ receiver_data_of phase number size capacity readiness }
 {
@@ -86,6 +91,7 @@ fn data(phase: Phase, number: u16, size: usize, capacity: u32, readiness: u8) ->
 }
 
 // 22, 24, 23, in this order.
+#[tactic(auto, using(basis::specs::Pick::tests), unfolding(receiver_rules::specs::Decide::receiver_transfer_of))]
 fn transfer(p: Progress, number: u16, size: usize, capacity: u32, readiness: u8) -> Step
     ensures { result ≡ receiver_transfer_of p number size capacity readiness }
 {
@@ -105,6 +111,7 @@ fn transfer(p: Progress, number: u16, size: usize, capacity: u32, readiness: u8)
     take(number, size, readiness)
 }
 
+#[tactic(auto, using(basis::specs::Pick::tests), unfolding(receiver_rules::specs::Decide::close_transfer_of))]
 fn close(accepted: Accepted) -> Step
     ensures { result ≡ close_transfer_of accepted }
 {
@@ -116,6 +123,7 @@ fn close(accepted: Accepted) -> Step
 }
 
 // A number above the last one passes every capacity, also one that no session has: so what `take` adds up cannot wrap.
+#[tactic(auto, using(basis::specs::Pick::tests), unfolding(receiver_rules::specs::Decide::passes_capacity))]
 fn passes_capacity(number: u16, size: usize, capacity: u32) -> bool
     ensures { result ≡ passes_capacity number size capacity }
 {
@@ -125,6 +133,7 @@ fn passes_capacity(number: u16, size: usize, capacity: u32) -> bool
     image::passes(number, size, capacity as usize)
 }
 
+#[tactic(auto, using(basis::specs::Pick::tests), unfolding(receiver_rules::specs::Decide::take_block_of))]
 fn take(number: u16, size: usize, readiness: u8) -> Step
     requires number_le_last_number { number ≤ last_number }
     requires size_bound { 256 * number + size < 4294967296 }
@@ -150,6 +159,7 @@ fn take(number: u16, size: usize, readiness: u8) -> Step
     }
 }
 
+#[tactic(auto, using(basis::specs::Pick::tests), unfolding(receiver_rules::specs::Decide::receiver_validate_of))]
 fn validate(phase: Phase, verdict: Verdict) -> Step
     ensures { result ≡ receiver_validate_of phase verdict }
 {
@@ -161,6 +171,7 @@ fn validate(phase: Phase, verdict: Verdict) -> Step
     }
 }
 
+#[tactic(auto, using(basis::specs::Pick::tests), unfolding(receiver_rules::specs::Decide::receiver_verdict_of))]
 fn judge(accepted: Accepted, verdict: Verdict) -> Step
     ensures { result ≡ receiver_verdict_of accepted verdict }
 {
@@ -171,6 +182,7 @@ fn judge(accepted: Accepted, verdict: Verdict) -> Step
     }
 }
 
+#[tactic(auto, using(basis::specs::Pick::tests), unfolding(receiver_rules::specs::Decide::receiver_abort_of))]
 fn abort(phase: Phase) -> Step
     ensures { result ≡ receiver_abort_of phase }
 {

@@ -9,6 +9,7 @@ use receiver_state::step::Tick;
 use silence::{Event, Grown, Settings};
 
 // Transfer asks for the next number with wait 0, Await repeats the closing answer.
+#[tactic(auto, using(basis::specs::Pick::tests), unfolding(receiver_rules::specs::Tick::receiver_tick_of))]
 pub fn pass(phase: Phase, silence: u16, elapsed: u16, resends: u8, settings: Settings) -> Tick
     ensures { result ≡ receiver_tick_of phase silence elapsed resends settings }
 {
@@ -52,6 +53,7 @@ fn after(phase: Phase, silence: u16, resends: u8, answer: Answer) -> Tick
     }
 }
 
+#[tactic(auto, using(basis::specs::Pick::tests), unfolding(receiver_rules::specs::Tick::receiver_silence_of))]
 fn grow_silence(
     phase: Phase,
     again: Answer,
@@ -67,6 +69,7 @@ fn grow_silence(
     on_event(phase, again, grown, event)
 }
 
+#[tactic(auto, using(basis::specs::Pick::tests), unfolding(receiver_rules::specs::Tick::receiver_on_event))]
 fn on_event(phase: Phase, again: Answer, grown: Grown, event: Event) -> Tick
     ensures { result ≡ receiver_on_event phase again grown event }
 {
