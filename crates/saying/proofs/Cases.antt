@@ -1,12 +1,10 @@
 -- What is printed for a few pieces, by computation, in a text of 32 bytes.
-use Prim.Native.Nat.{ℕ}
-use mathlib.Core.List.{List, [], ◌∷◌}
+use mathlib.Core.List.{[], ◌∷◌}
 use mathlib.Core.Path.{◌≡◌, refl}
 use lib.ListN.{replicate}
 use Rattle.basis.specs.Pick.{pick}
 use Rattle.printing.specs.Digits.{digit_of}
-use Rattle.bytes.specs.Bytes.{index_of, index_after}
-use Rattle.script.specs.Words.{first_word_of, script_word_at}
+use Rattle.script.specs.Words.{index_of, first_word_of, script_word_at}
 use Rattle.script.specs.Digits.{digit_read_of as digit_in}
 use Rattle.script.specs.Decimal.{added_of, decimal_step_of}
 use Rattle.script.specs.Fields.{next_field_of, is_last_field}
@@ -35,5 +33,5 @@ pub record Cases : Type 0 where
   pub no_lines : said_text_of (said_lines_of blank []) ≡ 0x20 ∷ 0x2D ∷ []
 
 pub cases : Cases
-unfolding pick empty_text appended_of character_of said_lines_of hex_shown_of front_of range_of digit_of index_of index_after first_word_of script_word_at digit_in added_of decimal_step_of next_field_of is_last_field look_of
+unfolding pick empty_text appended_of character_of said_lines_of hex_shown_of front_of range_of digit_of index_of first_word_of script_word_at digit_in added_of decimal_step_of next_field_of is_last_field look_of
 cases = record { byte = refl; wide = refl; bytes = refl; no_bytes = refl; number = refl; one = refl; two = refl; lines = refl; looked = refl; too_far = refl; no_lines = refl }

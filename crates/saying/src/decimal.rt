@@ -16,6 +16,7 @@ impl Said {
     }
 
     // One number where both are the same.
+    #[tactic(auto, using(basis::specs::Pick::tests), unfolding(crate::specs::Decimal::range_of))]
     pub fn range(self, first: u64, last: u64) -> Said
         ensures { result ≡ range_of self first last }
     {

@@ -33,6 +33,7 @@ impl Said {
     }
 
     // A hyphen for no bytes.
+    #[tactic(auto, using(basis::specs::Pick::tests), unfolding(crate::specs::Hex::hex_shown_of))]
     pub fn shown(self, s: &[u8]) -> Said
         ensures { result ≡ hex_shown_of self s.now }
     {

@@ -6,6 +6,7 @@ use crate::said::Said;
 use script::Field;
 
 // The line's two numbers are a place and a count. Bytes past the memory's end, and more than a line can spell, are not understood.
+#[tactic(auto, using(basis::specs::Pick::tests), unfolding(crate::specs::Look::look_of))]
 pub fn look(words: &[u8], memory: &[u8]) -> Said
     ensures { result ≡ look_of words.now memory.now }
 {

@@ -15,6 +15,7 @@ pub struct Said {
 }
 
 impl Said {
+    #[tactic(auto, using(basis::specs::Pick::tests), unfolding(crate::specs::Said::empty_text))]
     pub fn nothing() -> Said
         ensures { result ≡ empty_text }
     {
@@ -48,6 +49,7 @@ impl Said {
     }
 
     // Lines of text within the answer: `/` for each newline, and `-` for no text.
+    #[tactic(auto, using(basis::specs::Pick::tests), unfolding(crate::specs::Said::said_lines_of))]
     pub fn lines(self, s: &[u8]) -> Said
         ensures { result ≡ said_lines_of self s.now }
     {
@@ -63,6 +65,7 @@ impl Said {
         said
     }
 
+    #[tactic(auto, using(basis::specs::Pick::tests), unfolding(crate::specs::Said::character_of))]
     fn character(self, c: u8) -> Said
         ensures { result ≡ character_of self c }
     {
