@@ -16,6 +16,7 @@ use receiver_state::verdict::Verdict;
 use wire::codes;
 use wire::request::{Parsed, Request};
 
+#[tactic(auto, using(basis::specs::Pick::tests), unfolding(receiver_rules::specs::Hearing::heard_of))]
 pub fn hear(
     phase: Phase,
     capacity: u32,
@@ -49,6 +50,7 @@ fn kept(phase: Phase, answer: Answer) -> Heard
     }
 }
 
+#[tactic(auto, using(basis::specs::Pick::tests), unfolding(receiver_rules::specs::Hearing::heard_read_of))]
 fn read(
     phase: Phase,
     capacity: u32,

@@ -56,6 +56,7 @@ pub fn has_identity(answer: Answer) -> bool
 }
 
 // The response with the identity, to GET_FW_ID. A buffer that is too short is not written.
+#[tactic(auto, using(basis::specs::Pick::tests), unfolding(receiver_state::specs::Answer::get_fw_id_reply, receiver_rules::specs::Hearing::identity_sent_of, receiver_rules::specs::Respond::reply_bytes))]
 pub fn send_identity(out: &mut [u8], identity: Identity) -> usize
     ensures { left result out.new ≡ identity_sent_of identity out.old }
 {
@@ -67,6 +68,7 @@ pub fn send_identity(out: &mut [u8], identity: Identity) -> usize
 }
 
 // The response of every other answer: none of them has the identity.
+#[tactic(auto, using(basis::specs::Pick::tests), unfolding(receiver_rules::specs::Hearing::answer_sent_of))]
 pub fn send_answer(out: &mut [u8], capacity: u32, answer: Answer) -> usize
     ensures { left result out.new ≡ answer_sent_of capacity answer out.old }
 {
@@ -101,6 +103,7 @@ fn no_identity() -> Identity
     }
 }
 
+#[tactic(auto, using(basis::specs::Pick::tests), unfolding(receiver_rules::specs::Respond::reply_bytes))]
 fn deliver(out: &mut [u8], reply: Reply) -> usize
     requires { longest ≤ length out.old }
     ensures { left result out.new ≡ returns_written (reply_bytes reply) out.old }

@@ -10,6 +10,7 @@ use wire::codes;
 use wire::response::Identity;
 
 // From plain numbers, so that a session that is made here has settings that were tested.
+#[tactic(auto, using(basis::specs::Pick::tests), unfolding(receiver_rules::specs::Session::receiver_start_of))]
 pub fn start(limit: u16, resends: u8, identity: Identity, capacity: usize) -> Started
     ensures { result ≡ receiver_start_of limit resends identity capacity }
 {
@@ -20,6 +21,7 @@ pub fn start(limit: u16, resends: u8, identity: Identity, capacity: usize) -> St
     fresh(checked, identity, capacity as u32)
 }
 
+#[tactic(auto, using(basis::specs::Pick::tests), unfolding(receiver_rules::specs::Session::receiver_fresh_of))]
 fn fresh(checked: Checked, identity: Identity, capacity: u32) -> Started
     ensures { result ≡ receiver_fresh_of checked identity capacity }
 {

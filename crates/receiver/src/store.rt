@@ -6,6 +6,7 @@ ghost use Rattle.receiver_rules.specs.Request.{HasBlock, image_after};
 
 use receiver_state::step::Store;
 
+#[tactic(auto, using(basis::specs::Pick::tests), unfolding(receiver_rules::specs::Request::image_after))]
 pub(crate) fn apply(image: &mut [u8], request: &[u8], store: Store)
     requires { HasBlock store request.now }
     ensures { image.new ≡ image_after store image.old request.now }

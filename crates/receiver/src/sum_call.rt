@@ -7,6 +7,7 @@ use receiver_decide::accepted;
 use receiver_state::session::Receiver;
 use receiver_state::sum::Summed;
 
+#[tactic(auto, using(basis::specs::Pick::tests), unfolding(receiver_rules::specs::Sum::receiver_sum_of))]
 pub fn sum(session: Receiver, image: &[u8]) -> Summed
     ensures { result ≡ receiver_sum_of session image.now }
 {

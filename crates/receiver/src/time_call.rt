@@ -15,6 +15,7 @@ use receiver_state::session::{Outcome, Receiver};
 use wire::codes;
 use wire::response::Identity;
 
+#[tactic(auto, using(basis::specs::Pick::tests), unfolding(receiver_rules::specs::Time::receiver_time_of))]
 pub fn time(session: Receiver, elapsed: u16, out: &mut [u8]) -> Outcome
     ensures { left result out.new ≡ receiver_time_of session elapsed out.old }
 {
@@ -24,6 +25,7 @@ pub fn time(session: Receiver, elapsed: u16, out: &mut [u8]) -> Outcome
     elapse(session, elapsed, out)
 }
 
+#[tactic(auto, using(basis::specs::Pick::tests), unfolding(receiver_rules::specs::Time::receiver_elapsed_of))]
 fn elapse(session: Receiver, elapsed: u16, out: &mut [u8]) -> Outcome
     requires { longest ≤ length out.old }
     ensures { left result out.new ≡ receiver_elapsed_of session elapsed out.old }
@@ -44,6 +46,7 @@ fn elapse(session: Receiver, elapsed: u16, out: &mut [u8]) -> Outcome
 }
 
 // Most time calls only count silence: nothing is sent then, and the identity is not read.
+#[tactic(auto, using(basis::specs::Pick::tests), unfolding(receiver_state::specs::Answer::reply_of, receiver_rules::specs::Respond::reply_bytes))]
 fn prompt(out: &mut [u8], identity: Identity, capacity: u32, answer: Answer) -> usize
     requires { longest ≤ length out.old }
     ensures { left result out.new ≡ returns_written (reply_bytes (reply_of identity capacity answer)) out.old }
