@@ -17,6 +17,7 @@ use indoor_state::session::{Indoor, Outcome};
 use wire::codes;
 use wire::response::Parsed;
 
+#[tactic(auto, using(basis::specs::Pick::tests), unfolding(indoor_rules::specs::Response::indoor_response_of))]
 pub fn response(session: Indoor, file: &[u8], response: &[u8], out: &mut [u8]) -> Outcome
     ensures { left result out.new ≡ indoor_response_of session file.now response.now out.old }
 {
@@ -29,6 +30,7 @@ pub fn response(session: Indoor, file: &[u8], response: &[u8], out: &mut [u8]) -
     read(session, file, response, out)
 }
 
+#[tactic(auto, unfolding(indoor_rules::specs::Response::response_read_of))]
 fn read(session: Indoor, file: &[u8], response: &[u8], out: &mut [u8]) -> Outcome
     requires { longest ≤ length out.old }
     ensures { left result out.new ≡ response_read_of session (message_of response.now) file.now out.old }
@@ -46,6 +48,7 @@ fn read(session: Indoor, file: &[u8], response: &[u8], out: &mut [u8]) -> Outcom
 }
 
 // Most responses ask for a block, which is written without a look at the other requests.
+#[tactic(auto, unfolding(indoor_rules::specs::Send::sends_bytes))]
 fn reply(out: &mut [u8], file: &[u8], plan: Plan, answer: Answer) -> usize
     requires { longest ≤ length out.old }
     ensures { left result out.new ≡ returns_written (indoor_bytes_of plan file.now answer) out.old }

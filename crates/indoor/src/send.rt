@@ -20,6 +20,7 @@ pub(crate) fn send(out: &mut [u8], file: &[u8], versions: Versions, answer: Answ
     deliver(out, file, versions, sends)
 }
 
+#[tactic(auto, unfolding(indoor_rules::specs::Send::sends_bytes))]
 fn deliver(out: &mut [u8], file: &[u8], versions: Versions, sends: Sends) -> usize
     requires { longest ≤ length out.old }
     ensures { left result out.new ≡ returns_written (sends_bytes versions file.now sends) out.old }
@@ -46,6 +47,7 @@ pub(crate) fn message(out: &mut [u8], request: Request) -> usize
 }
 
 // DATA: its head, and then the block as a part of the lent file.
+#[tactic(auto, unfolding(indoor_rules::specs::Send::block_bytes))]
 pub(crate) fn block(out: &mut [u8], file: &[u8], number: u16) -> usize
     requires { longest ≤ length out.old }
     ensures { left result out.new ≡ returns_written (block_bytes file.now number) out.old }

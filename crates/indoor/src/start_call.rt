@@ -14,6 +14,7 @@ use wire::codes;
 use wire::request::Request;
 
 // From plain numbers, so that a session that is made here has settings that were tested. It writes GET_FW_ID.
+#[tactic(auto, unfolding(indoor_rules::specs::Start::indoor_started_of))]
 pub fn start(limit: u16, resends: u8, release: Release, file: &[u8], out: &mut [u8]) -> Started
     ensures { left result out.new ≡ indoor_start_of limit resends release file.now out.old }
 {
@@ -24,6 +25,7 @@ pub fn start(limit: u16, resends: u8, release: Release, file: &[u8], out: &mut [
     begin(settings, release, file, out)
 }
 
+#[tactic(auto, using(basis::specs::Pick::tests), unfolding(indoor_rules::specs::Start::indoor_begin_of))]
 fn begin(settings: Settings, release: Release, file: &[u8], out: &mut [u8]) -> Started
     ensures { left result out.new ≡ indoor_begin_of settings release file.now out.old }
 {

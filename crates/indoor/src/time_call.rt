@@ -16,6 +16,7 @@ use indoor_state::plan::Plan;
 use indoor_state::session::{Indoor, Outcome};
 use wire::codes;
 
+#[tactic(auto, using(basis::specs::Pick::tests), unfolding(indoor_rules::specs::Time::indoor_time_of))]
 pub fn time(session: Indoor, file: &[u8], elapsed: u16, out: &mut [u8]) -> Outcome
     ensures { left result out.new ≡ indoor_time_of session file.now elapsed out.old }
 {
@@ -41,6 +42,7 @@ fn elapse(session: Indoor, file: &[u8], elapsed: u16, out: &mut [u8]) -> Outcome
 }
 
 // Most time calls only count silence: nothing is sent then, and the file is not read.
+#[tactic(auto, unfolding(indoor_rules::specs::Send::sends_bytes))]
 fn prompt(out: &mut [u8], file: &[u8], plan: Plan, answer: Answer) -> usize
     requires { longest ≤ length out.old }
     ensures { left result out.new ≡ returns_written (indoor_bytes_of plan file.now answer) out.old }
