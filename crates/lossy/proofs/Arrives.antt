@@ -24,7 +24,7 @@ use Rattle.luck.specs.declared.went.Missed.{Missed}
 use Rattle.lossy_ends.specs.declared.ends.Ends.{Ends}
 use Rattle.lossy.specs.declared.carry_call.Carried.{Carried}
 use Rattle.lossy_ends.specs.Both.{Both, both}
-use Rattle.luck.specs.Way.{way, no_message, message_on_way, rises_of, next_way, after_arrival_of}
+use Rattle.luck.specs.Way.{no_message, message_on_way, rises_of, next_way, after_arrival_of}
 use Rattle.luck.specs.Luck.{fate_of, goes_of}
 use Rattle.luck.specs.Went.{missed_of}
 use Rattle.lossy.specs.Arrive.{request_arrives, response_arrives}

@@ -10,6 +10,7 @@ use receiver_state::session::Receiver;
 use receiver_state::verdict::Verdict;
 
 // The request in `up`. The verdict comes with the request (01, The receiver's phases), and on this line it is always good.
+#[tactic(auto, unfolding(crate::specs::Arrive::request_arrives))]
 pub(crate) fn request(
     receiver: Receiver,
     way: Way,
@@ -25,6 +26,7 @@ pub(crate) fn request(
 }
 
 // The response in `down`.
+#[tactic(auto, unfolding(crate::specs::Arrive::response_arrives))]
 pub(crate) fn response(
     indoor: Indoor,
     way: Way,

@@ -22,6 +22,7 @@ pub struct Carried {
 }
 
 // Each call draws two words from the generator, also where nothing is on its way. The message that went is still in its buffer.
+#[tactic(auto, using(basis::specs::Pick::tests), unfolding(crate::specs::Carry::carry_of, crate::specs::Carry::go_of))]
 pub fn carry(
     ends: Ends,
     luck: Luck,
@@ -43,6 +44,7 @@ pub fn carry(
     carry_response(ends, going, stays, file, up, down)
 }
 
+#[tactic(auto, unfolding(crate::specs::Carry::miss_of))]
 fn miss(ends: Ends, going: Going) -> Carried
     ensures { result ≡ miss_of ends going }
 {
