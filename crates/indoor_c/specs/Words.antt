@@ -1,5 +1,5 @@
 -- A session of the indoor end as the thirteen words of include/harsolvek.h, and back.
-use Rattle.std.specs.Prelude.{ℕ, ◌+◌, ◌*◌, ◌/◌, ◌%◌, Bool, false, List, [], ◌∷◌, eqb, ltb, set, replicate}
+use Rattle.std.specs.Prelude.{ℕ, ◌%◌, Bool, false, List, [], ◌∷◌, eqb, ltb, set, replicate}
 use Rattle.basis.specs.Pick.{pick}
 use Rattle.width.specs.Words.{word_at}
 use Rattle.width.specs.Halves.{halves_of, low_half, high_half}

@@ -44,6 +44,7 @@ impl PhaseWords {
         }
     }
 
+    #[tactic(auto, unfolding(crate::specs::PhaseWords::phase_words_of))]
     pub(crate) fn of(phase: Phase) -> PhaseWords
         ensures { result ≡ phase_words_of phase }
     {

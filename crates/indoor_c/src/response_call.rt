@@ -6,6 +6,7 @@ use crate::is_session::{NO_SESSION, is_session};
 use crate::store::leave;
 use crate::unpack::session_at;
 
+#[tactic(auto, unfolding(crate::specs::Calls::harsolvek_indoor_response, basis::specs::Pick::pick))]
 #[unsafe(no_mangle)]
 pub extern "C" fn harsolvek_indoor_response_raw(
     words: &mut [u32; 13],

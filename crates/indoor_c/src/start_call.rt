@@ -47,6 +47,7 @@ fn release_of(numbers: &[u16; 6]) -> Release
 }
 
 // The session's words, or zeros, and how many bytes were written.
+#[tactic(auto, unfolding(crate::specs::Calls::began_of))]
 fn began(words: &mut [u32; 13], started: Started) -> usize
     ensures { left result words.new ≡ began_of started }
 {

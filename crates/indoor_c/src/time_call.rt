@@ -38,6 +38,7 @@ pub extern "C" fn harsolvek_indoor_time_raw(
 }
 
 // Most time calls only count silence, and change one word: no session has to be unpacked for them.
+#[tactic(auto, using(basis::specs::Pick::tests), unfolding(crate::specs::Counting::only_counts))]
 fn only_counts(words: &[u32; 13], length: usize, elapsed: u32, room: usize) -> bool
     ensures { result ≡ only_counts words.now length elapsed room }
 {
