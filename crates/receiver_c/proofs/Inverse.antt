@@ -1,17 +1,15 @@
 -- The words of a session are what packing it gives, and unpacking them gives it again: on every session the two are each other's inverse.
-use Prim.Native.Nat.{ℕ, zero, suc, ◌≤◌, ◌<◌, ◌+◌, ◌*◌, ◌/◌, ◌%◌}
+use Prim.Native.Nat.{ℕ, zero, suc, ◌<◌, ◌+◌, ◌*◌, ◌/◌, ◌%◌}
 use mathlib.Core.Bool.{true}
 use mathlib.Core.Path.{◌≡◌, refl, sym, ◌∙◌, ap}
-use mathlib.Core.List.{List, [], ◌∷◌}
+use mathlib.Core.List.{List, []}
 use native.Mathlib.Omega.{arith}
 use lib.ListN.{length, set}
 use lib.Seq.{set-get_or}
-use Rattle.basis.specs.Flag.{byte_flag, flag_byte, byte_small}
+use Rattle.basis.specs.Flag.{byte_flag, flag_byte}
 use Rattle.basis.specs.Lists.{spell, spelled_all}
 use Rattle.basis.specs.Pick.{pick}
-use Rattle.wire.specs.declared.response.Identity.{Identity}
 use Rattle.receiver_state.specs.Phase.{accepted_counts, accepted_of}
-use Rattle.receiver_state.specs.declared.phase.Accepted.{Accepted}
 use Rattle.receiver_state.specs.declared.phase.Phase.{Phase}
 use Rattle.receiver_state.specs.declared.phase.Phase.TheVariants.{Idle, Transfer, Await, Good}
 use Rattle.receiver_state.specs.declared.session.Receiver.{Receiver}

@@ -5,7 +5,7 @@ use mathlib.Core.Path.{◌≡◌, refl, sym}
 use mathlib.Core.List.{List}
 use native.Mathlib.Omega.{arith}
 use borrow.Author.Tests.{ltb-false, leb-true, eqb-true, eqb-false}
-use lib.Dec.{eqb, leb, ltb}
+use lib.Dec.{eqb, ltb}
 use Rattle.basis.specs.Pick.{pick, pick_all, pick_both, tests}
 use Rattle.silence.specs.Settings.{limit_least, limit_most, resends_most}
 use Rattle.silence.specs.Within.{Within}

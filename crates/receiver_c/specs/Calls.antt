@@ -1,5 +1,5 @@
 -- What the receiver's calls for C return and leave: what the rules say of the session that the words are, and 29 where they are none.
-use Rattle.std.specs.Prelude.{ℕ, Bool, true, false, not, List, ltb, leb, eqb, length}
+use Rattle.std.specs.Prelude.{ℕ, Bool, true, false, not, List, ltb, leb, eqb}
 use Rattle.basis.specs.Pick.{pick}
 use Rattle.basis.specs.Left.{Left, left}
 use Rattle.wire.specs.Codes.{longest}

@@ -4,7 +4,6 @@ use Rattle.basis.specs.Flag.{byte_of}
 use Rattle.basis.specs.Pick.{pick}
 use Rattle.width.specs.Words.{word_at}
 use Rattle.silence.specs.Settings.{limit_least, limit_most, resends_most}
-use Rattle.silence.specs.declared.Settings.{Settings}
 use Rattle.wire.specs.Codes.{image_size_most}
 use Rattle.wire.specs.declared.response.Identity.{Identity}
 use Rattle.receiver_state.specs.Phase.{accepted_counts, accepted_of}

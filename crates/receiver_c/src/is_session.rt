@@ -15,6 +15,7 @@ pub extern "C" fn harsolvek_receiver_is_session_raw(words: &[u32; 14]) -> u64
     is_session(words) as u64
 }
 
+#[tactic(auto, using(basis::specs::Pick::tests), unfolding(crate::specs::Words::is_receiver_session))]
 pub(crate) fn is_session(words: &[u32; 14]) -> bool
     ensures { result ≡ is_receiver_session words.now }
 {
@@ -41,6 +42,7 @@ pub(crate) fn is_session(words: &[u32; 14]) -> bool
     )
 }
 
+#[tactic(auto, using(basis::specs::Pick::tests), unfolding(crate::specs::Words::are_settings))]
 fn are_settings(limit: u32, resends: u32, capacity: u32) -> bool
     ensures { result ≡ are_settings limit resends capacity }
 {
@@ -56,6 +58,7 @@ fn are_settings(limit: u32, resends: u32, capacity: u32) -> bool
     resends <= Settings::RESENDS_MOST as u32
 }
 
+#[tactic(auto, using(basis::specs::Pick::tests), unfolding(crate::specs::Words::fit_fields))]
 fn fit_fields(blocks: u32, silence: u32, resends: u32, flags: u32) -> bool
     ensures { result ≡ fit_fields blocks silence resends flags }
 {
@@ -72,6 +75,7 @@ fn fit_fields(blocks: u32, silence: u32, resends: u32, flags: u32) -> bool
 }
 
 // The short flag is 0 or 1 in Transfer and 0 elsewhere, and in Idle nothing is accepted.
+#[tactic(auto, using(basis::specs::Pick::tests), unfolding(crate::specs::Words::is_receiver_phase))]
 fn is_phase(code: u32, blocks: u32, bytes: u32, short: u32) -> bool
     ensures { result ≡ is_receiver_phase code blocks bytes short }
 {

@@ -6,6 +6,7 @@ use crate::store::store;
 use receiver_state::session::Receiver;
 use width::halves;
 
+#[tactic(auto, using(basis::specs::Pick::tests), unfolding(crate::specs::Words::laid_phase, crate::specs::Words::words_of))]
 pub(crate) fn pack(words: &mut [u32; 14], session: Receiver)
     ensures { words.new ≡ words_of session }
 {

@@ -17,6 +17,7 @@ use receiver_state::answer::Answer;
 use width::to_byte;
 
 #[unsafe(no_mangle)]
+#[tactic(auto, using(basis::specs::Pick::tests), unfolding(crate::specs::Calls::harsolvek_receiver_request))]
 pub extern "C" fn harsolvek_receiver_request_raw(
     words: &mut [u32; 14],
     image: &mut [u8],
@@ -56,6 +57,7 @@ pub extern "C" fn harsolvek_receiver_request_raw(
 }
 
 // The identity is unpacked only where it is sent.
+#[tactic(auto, using(basis::specs::Pick::tests), unfolding(crate::specs::Words::session_at))]
 fn respond(words: &[u32; 14], out: &mut [u8], answer: Answer) -> usize
     requires { longest ≤ length out.old }
     ensures { left result out.new ≡ returns_written (receiver_bytes_of (session_at words.now) answer) out.old }

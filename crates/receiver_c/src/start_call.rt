@@ -10,6 +10,7 @@ use wire::request::Versions;
 use wire::response::Identity;
 
 #[unsafe(no_mangle)]
+#[tactic(auto, using(basis::specs::Pick::tests), unfolding(crate::specs::Calls::harsolvek_receiver_start))]
 pub extern "C" fn harsolvek_receiver_start_raw(
     words: &mut [u32; 14],
     settings: &[u32; 2],
@@ -27,6 +28,7 @@ pub extern "C" fn harsolvek_receiver_start_raw(
     receiver::started_number(started) as u64
 }
 
+#[tactic(auto, using(basis::specs::Pick::tests), unfolding(crate::specs::Calls::identity_of))]
 fn identity_of(numbers: &[u16; 6], bytes: &[u8; 7]) -> Identity
     ensures { result ≡ identity_of numbers.now bytes.now }
 {
@@ -50,6 +52,7 @@ fn identity_of(numbers: &[u16; 6], bytes: &[u8; 7]) -> Identity
     }
 }
 
+#[tactic(auto, using(basis::specs::Pick::tests), unfolding(crate::specs::Calls::started_words))]
 fn leave(words: &mut [u32; 14], started: Started)
     ensures { words.new ≡ started_words started }
 {

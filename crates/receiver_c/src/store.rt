@@ -7,6 +7,7 @@ ghost use Rattle.receiver_c.specs.Words.{receiver_phase_code, receiver_short_of,
 use crate::words;
 use receiver_state::phase::Phase;
 
+#[tactic(auto, using(basis::specs::Pick::tests), unfolding(crate::specs::Words::laid_phase))]
 pub(crate) fn store(words: &mut [u32; 14], phase: Phase, silence: u16, resends: u8)
     ensures { words.new ≡ laid_phase words.old phase silence resends }
 {

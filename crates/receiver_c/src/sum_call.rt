@@ -8,6 +8,7 @@ use crate::words::NO_SESSION;
 use receiver_state::sum::Summed;
 
 #[unsafe(no_mangle)]
+#[tactic(auto, using(basis::specs::Pick::tests), unfolding(crate::specs::Calls::harsolvek_receiver_sum))]
 pub extern "C" fn harsolvek_receiver_sum_raw(words: &[u32; 14], image: &[u8], sum: &mut u16) -> u64
     ensures { receiver_summed result sum.new ≡ harsolvek_receiver_sum words.now image.now }
 {

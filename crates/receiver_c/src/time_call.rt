@@ -11,6 +11,7 @@ use width::to_half;
 use wire::codes;
 
 #[unsafe(no_mangle)]
+#[tactic(auto, using(basis::specs::Pick::tests), unfolding(crate::specs::Calls::harsolvek_receiver_time))]
 pub extern "C" fn harsolvek_receiver_time_raw(
     words: &mut [u32; 14],
     elapsed: u32,
@@ -38,6 +39,7 @@ fn grown(silence: u32, elapsed: u32) -> u64
     silence as u64 + elapsed as u64
 }
 
+#[tactic(auto, using(basis::specs::Pick::tests), unfolding(crate::specs::Calls::only_counts))]
 fn only_counts(phase: u32, silence: u64, limit: u32, room: usize) -> bool
     ensures { result ≡ only_counts phase silence limit room }
 {
@@ -53,6 +55,7 @@ fn only_counts(phase: u32, silence: u64, limit: u32, room: usize) -> bool
     phase == words::AWAIT
 }
 
+#[tactic(auto, using(basis::specs::Pick::tests), unfolding(crate::specs::Calls::timed_at))]
 fn pass(words: &mut [u32; 14], elapsed: u32, out: &mut [u8], written: &mut usize) -> u64
     ensures { receiver_timed result written.new words.new out.new ≡ timed_at words.old elapsed out.old }
 {

@@ -10,6 +10,7 @@ use silence::Settings;
 use wire::request::Versions;
 use wire::response::Identity;
 
+#[tactic(auto, using(basis::specs::Pick::tests), unfolding(crate::specs::Words::session_at))]
 pub(crate) fn unpack(words: &[u32; 14]) -> Receiver
     ensures { result ≡ session_at words.now }
 {
@@ -29,6 +30,7 @@ pub(crate) fn unpack(words: &[u32; 14]) -> Receiver
     }
 }
 
+#[tactic(auto, using(basis::specs::Pick::tests), unfolding(crate::specs::Words::identity_at))]
 pub(crate) fn unpack_identity(words: &[u32; 14]) -> Identity
     ensures { result ≡ identity_at words.now }
 {
@@ -57,6 +59,7 @@ pub(crate) fn unpack_identity(words: &[u32; 14]) -> Identity
     }
 }
 
+#[tactic(auto, using(basis::specs::Pick::tests), unfolding(crate::specs::Words::phase_at))]
 pub(crate) fn unpack_phase(words: &[u32; 14]) -> Phase
     ensures { result ≡ phase_at words.now }
 {
@@ -69,6 +72,7 @@ pub(crate) fn unpack_phase(words: &[u32; 14]) -> Phase
 }
 
 // A code that is no phase's is read as Idle; no session has one.
+#[tactic(auto, using(basis::specs::Pick::tests), unfolding(crate::specs::Words::receiver_phase_of))]
 fn phase_of(code: u32, blocks: u16, bytes: u32, short: u32) -> Phase
     ensures { result ≡ receiver_phase_of code (accepted_counts blocks bytes) short }
 {

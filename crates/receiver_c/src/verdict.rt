@@ -5,6 +5,7 @@ ghost use Rattle.receiver_c.specs.Verdict.{verdict_of};
 
 use receiver_state::verdict::Verdict;
 
+#[tactic(auto, using(basis::specs::Pick::tests), unfolding(crate::specs::Verdict::verdict_of))]
 pub(crate) fn verdict_of(code: u32, later: u8) -> Verdict
     ensures { result ≡ verdict_of code later }
 {

@@ -1,0 +1,10 @@
+use Rattle.std.proofs.Common.{ap}
+use Rattle.receiver_c.proofs.Narrowing.{session_narrow}
+use Rattle.receiver_c.specs.Calls.{receiver_passed, timed_at}
+use Rattle.receiver_c.proofs.time_call.pass.Goals as goal
+
+pub returns : goal.returns
+unfolding timed_at
+returns c =
+    rw (c.answer_number.ensures, c.store.ensures, ← (session_narrow _ _ _), ← c.unpack-session.ensures, ← c.to_half-narrow.ensures)
+    (ap (receiver_passed _) c.time-outcome.ensures)
