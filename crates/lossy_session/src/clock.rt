@@ -8,6 +8,7 @@ use lossy_ends::{Indoors, Roof};
 use luck::Way;
 use receiver_state::session::Receiver;
 
+#[tactic(auto, unfolding(crate::specs::Clock::roof_passes))]
 pub(crate) fn roof_time(receiver: Receiver, elapsed: u16, falling: Way, down: &mut [u8]) -> Roof
     ensures { left result down.new ≡ roof_passes receiver elapsed falling down.old }
 {
@@ -15,6 +16,7 @@ pub(crate) fn roof_time(receiver: Receiver, elapsed: u16, falling: Way, down: &m
     lossy_ends::roof_called(heard, falling)
 }
 
+#[tactic(auto, unfolding(crate::specs::Clock::indoor_passes))]
 pub(crate) fn indoor_time(
     indoor: Indoor,
     elapsed: u16,

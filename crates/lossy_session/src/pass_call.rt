@@ -14,6 +14,7 @@ pub struct Passed {
     pub below: Answered,
 }
 
+#[tactic(auto, unfolding(crate::specs::Pass::both_pass_of))]
 pub fn pass(ends: Ends, elapsed: u16, file: &[u8], up: &mut [u8], down: &mut [u8]) -> Passed
     ensures { both result up.new down.new ≡ both_pass_of ends elapsed file.now up.old down.old }
 {

@@ -25,6 +25,7 @@ pub enum Started {
 }
 
 // `capacity` is the length of the image memory.
+#[tactic(auto, unfolding(crate::specs::Start::both_made_of))]
 pub fn start(
     roof: Limits,
     indoors: Limits,
@@ -57,6 +58,7 @@ fn begin(
     joined(receiver, begun)
 }
 
+#[tactic(auto, unfolding(crate::specs::Start::joined_of))]
 fn joined(receiver: Receiver, begun: Begun) -> Started
     ensures { result ≡ joined_of receiver begun }
 {
