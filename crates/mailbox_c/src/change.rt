@@ -8,6 +8,7 @@ use crate::test::is_mailbox;
 use crate::words::state_at;
 use width::to_byte;
 
+#[tactic(auto, unfolding(basis::specs::Pick::pick))]
 #[unsafe(no_mangle)]
 pub extern "C" fn harsolvek_mailbox_change_raw(
     words: &mut [u32; 10],

@@ -8,6 +8,7 @@ use crate::NO_MAILBOX;
 use crate::test::is_mailbox;
 use crate::words::state_at;
 
+#[tactic(auto, unfolding(basis::specs::Pick::pick))]
 #[unsafe(no_mangle)]
 pub extern "C" fn harsolvek_mailbox_cci_raw(words: &[u32; 10], cci: &mut u32) -> u64
     ensures { cci_read result cci.new ≡ harsolvek_mailbox_cci words.now }

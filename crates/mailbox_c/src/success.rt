@@ -7,6 +7,7 @@ use crate::carry::carry_out;
 use crate::test::is_mailbox;
 use crate::words::state_at;
 
+#[tactic(auto, unfolding(basis::specs::Pick::pick))]
 #[unsafe(no_mangle)]
 pub extern "C" fn harsolvek_mailbox_success_raw(
     words: &mut [u32; 10],

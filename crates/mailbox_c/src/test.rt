@@ -20,6 +20,7 @@ const GET_CONNECTOR_CAPABILITY: u32 = 0x07;
 
 const GET_CONNECTOR_STATUS: u32 = 0x12;
 
+#[tactic(auto, using(basis::specs::Pick::tests), unfolding(crate::specs::Words::is_mailbox))]
 pub(crate) fn is_mailbox(words: &[u32; 10]) -> bool
     ensures { result ≡ is_mailbox words.now }
 {
@@ -54,6 +55,7 @@ fn within(shown: u32, waiting: u32, count: u32) -> bool
 }
 
 // A command in Busy alone, one that runs, and a length in Completed alone.
+#[tactic(auto, using(basis::specs::Pick::tests), unfolding(crate::specs::Words::is_status))]
 fn is_status(words: &[u32; 10]) -> bool
     ensures { result ≡ is_status words.now }
 {
@@ -66,6 +68,7 @@ fn is_status(words: &[u32; 10]) -> bool
     is_rest(words[place::STATUS], words[place::LENGTH])
 }
 
+#[tactic(auto, using(basis::specs::Pick::tests), unfolding(crate::specs::Words::is_busy))]
 fn is_busy(words: &[u32; 10]) -> bool
     ensures { result ≡ is_busy words.now }
 {
@@ -86,6 +89,7 @@ fn is_busy(words: &[u32; 10]) -> bool
 }
 
 // A code that runs, and its connector, or 0 for none, among so many.
+#[tactic(auto, using(basis::specs::Pick::tests), unfolding(crate::specs::Running::may_run_of))]
 fn may_run(code: u32, connector: u32, count: u32) -> bool
     ensures { result ≡ may_run_of code connector count }
 {

@@ -10,6 +10,7 @@ use mailbox_state::state::{Changes, State};
 use mailbox_state::status::Command;
 
 // A word that is too wide for its field is cut; `is_mailbox` says whether one is.
+#[tactic(auto, unfolding(crate::specs::Words::state_at))]
 pub(crate) fn state_at(words: &[u32; 10]) -> State
     ensures { result ≡ state_at words.now }
 {
@@ -46,6 +47,7 @@ fn command_at(words: &[u32; 10]) -> Command
 }
 
 // The connectors are fixed at the start, so their word stays.
+#[tactic(auto, unfolding(crate::specs::Words::laid))]
 pub(crate) fn store(words: &mut [u32; 10], state: State)
     ensures { words.new ≡ laid words.old state }
 {
