@@ -19,12 +19,11 @@ pub(crate) struct Lent {
     pub buffer: usize,
 }
 
-// `written`: the last line could be written.
+// Both ends' parts.
 #[derive(Clone, Copy)]
 pub(crate) struct Bench {
     pub outdoors: Outdoors,
     pub indoors: Indoors,
-    pub written: bool,
 }
 
 // The receiver's part. `session` is `Refused` before the first start too: there is no session.
@@ -65,13 +64,7 @@ impl Bench {
                 lent,
                 said: Said::nothing(),
             },
-            written: true,
         }
-    }
-
-    pub(crate) fn wrote(mut self, written: bool) -> Bench {
-        self.written = written;
-        self
     }
 }
 

@@ -11,48 +11,80 @@ mod played;
 mod record;
 mod recording_line;
 
+ghost use Rattle.std.specs.Prelude.{◌≤◌, length, IfOk};
+
 use mailbox_held::Held;
 use saying::Said;
+use std::io::{Error, Read};
+use std::process::ExitCode;
 
-fn main() {
+// A script that cannot be read, or a line that cannot be written, ends the run.
+#[derive(Clone, Copy)]
+enum Failed {
+    Read(Error),
+    Write(Error),
+}
+
+fn main(rt: HostRuntime) -> ExitCode {
     let mut text = [0u8; script::TEXT_ROOM];
-    read(&mut text);
-}
-
-fn read(text: &mut [u8]) {
-    let n = io::read_full(libc::STDIN_FILENO, text);
-    if goes_on(n) {
-        os::fail(b"read");
-        return;
-    }
-    if script::TEXT_MOST < n {
-        complain(b"no line is run: the script is above 131,071 bytes", b"");
-        return;
-    }
-    lines(&text[..n]);
-}
-
-// The reading stops at a failure as it does at the end. Where there was room for more, only the end brings nothing again.
-fn goes_on(n: usize) -> bool {
-    if n == script::TEXT_ROOM {
-        return false;
-    }
-    let mut more = [0u8; 1];
-    libc::read(libc::STDIN_FILENO, &mut more) != 0
-}
-
-// The first line that cannot be written ends the run.
-fn lines(s: &[u8]) {
-    let mut held = Held::nothing();
-    let mut at = 0;
-    while at < s.len() {
-        let end = bytes::scan::find(s, at, s.len(), b'\n');
-        held = line(&s[at..end], held);
-        if !told(&s[at..end], held) {
-            return;
+    match read(&mut rt.stdin(), &rt.stdout(), &rt.stderr(), &mut text) {
+        Ok(()) => ExitCode::SUCCESS,
+        Err(failed) => {
+            fail(&rt, failed);
+            ExitCode::FAILURE
         }
-        at = end + 1;
     }
+}
+
+// What standard error does not take is lost: there is nowhere else to tell it.
+fn fail(rt: &impl Eprint, failed: Failed) {
+    let _ = match failed {
+        Failed::Read(error) => eprintln!(rt; "read: {error}"),
+        Failed::Write(error) => eprintln!(rt; "write: {error}"),
+    };
+}
+
+fn read(
+    from: &mut impl Read,
+    out: &impl Print,
+    err: &impl Print,
+    text: &mut [u8],
+) -> Result<(), Failed> {
+    let n = fill(from, text).map_err(Failed::Read)?;
+    if script::TEXT_MOST < n {
+        complain(
+            err,
+            b"no line is run: the script is above 131,071 bytes",
+            b"",
+        );
+        return Ok(());
+    }
+    lines(out, err, &text[..n])
+}
+
+// Reads until there is no room or the input ends, and returns how many bytes there are.
+fn fill(from: &mut impl Read, text: &mut [u8]) -> Result<usize, Error>
+    ensures { IfOk result (λ n. n ≤ length text.new) }
+{
+    let mut n = 0;
+    for _ in 0..u64::MAX {
+        let more = from.read(&mut text[n..])?;
+        if more == 0 {
+            break;
+        }
+        n += more;
+    }
+    Ok(n)
+}
+
+fn lines(out: &impl Print, err: &impl Print, s: &[u8]) -> Result<(), Failed> {
+    let mut held = Held::nothing();
+    for ended in s.split_inclusive(|c| *c == b'\n') {
+        let s = ended.strip_suffix(b"\n").unwrap_or(ended);
+        held = line(s, held);
+        told(out, err, s, held)?;
+    }
+    Ok(())
 }
 
 // What is held behind a line.
@@ -63,11 +95,12 @@ fn line(s: &[u8], held: Held) -> Held {
     held
 }
 
-fn told(s: &[u8], held: Held) -> bool {
+fn told(out: &impl Print, err: &impl Print, s: &[u8], held: Held) -> Result<(), Failed> {
     if script::asks(s) {
-        return tell(s, held.said);
+        return tell(out, err, s, held.said);
     }
-    print(s) && print(b"\n")
+    print(out, s)?;
+    print(out, b"\n")
 }
 
 // What a word at the start of a line asks for: only a line of the mailbox changes what is held.
@@ -88,26 +121,24 @@ fn answer(line: &[u8], held: Held) -> Held {
 
 // The line with its answer behind it. One that is not understood is told on standard error too, since the status is made of what stands
 // there (tools/run).
-fn tell(line: &[u8], said: Said) -> bool {
+fn tell(out: &impl Print, err: &impl Print, line: &[u8], said: Said) -> Result<(), Failed> {
     let bytes = said.bytes;
     let text = script::upto(&bytes, said.len);
     if check::same(text, b" not understood") {
-        complain(b"not understood: ", line);
+        complain(err, b"not understood: ", line);
     }
-    print(line) && print(b" :") && print(text) && print(b"\n")
+    print(out, line)?;
+    print(out, b" :")?;
+    print(out, text)?;
+    print(out, b"\n")
 }
 
-// Returns whether it could be written; where not, standard error says why.
-fn print(s: &[u8]) -> bool {
-    if io::write_all(libc::STDOUT_FILENO, s) {
-        return true;
-    }
-    os::fail(b"write");
-    false
+fn print(out: &impl Print, s: &[u8]) -> Result<(), Failed> {
+    out.write_all(s).map_err(Failed::Write)
 }
 
-fn complain(words: &[u8], line: &[u8]) {
-    io::write_all(libc::STDERR_FILENO, words);
-    io::write_all(libc::STDERR_FILENO, line);
-    io::write_all(libc::STDERR_FILENO, b"\n");
+fn complain(err: &impl Print, words: &[u8], line: &[u8]) {
+    let _ = err.write_all(words);
+    let _ = err.write_all(line);
+    let _ = err.write_all(b"\n");
 }

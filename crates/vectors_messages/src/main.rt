@@ -43,19 +43,19 @@ fn fail(rt: &impl Eprint, failed: Failed) {
 fn read(
     from: &mut impl Read,
     out: &impl Print,
-    told: &impl Print,
+    err: &impl Print,
     text: &mut [u8],
 ) -> Result<(), Failed> {
     let n = fill(from, text).map_err(Failed::Read)?;
     if script::TEXT_MOST < n {
         complain(
-            told,
+            err,
             b"no line is run: the script is above 131,071 bytes",
             b"",
         );
         return Ok(());
     }
-    lines(out, told, &text[..n])
+    lines(out, err, &text[..n])
 }
 
 // Reads until there is no room or the input ends, and returns how many bytes there are.
@@ -73,16 +73,16 @@ fn fill(from: &mut impl Read, text: &mut [u8]) -> Result<usize, Error>
     Ok(n)
 }
 
-fn lines(out: &impl Print, told: &impl Print, s: &[u8]) -> Result<(), Failed> {
+fn lines(out: &impl Print, err: &impl Print, s: &[u8]) -> Result<(), Failed> {
     for ended in s.split_inclusive(|c| *c == b'\n') {
-        line(out, told, ended.strip_suffix(b"\n").unwrap_or(ended))?;
+        line(out, err, ended.strip_suffix(b"\n").unwrap_or(ended))?;
     }
     Ok(())
 }
 
-fn line(out: &impl Print, told: &impl Print, s: &[u8]) -> Result<(), Failed> {
+fn line(out: &impl Print, err: &impl Print, s: &[u8]) -> Result<(), Failed> {
     if script::asks(s) {
-        return tell(out, told, s, message::answer(s));
+        return tell(out, err, s, message::answer(s));
     }
     print(out, s)?;
     print(out, b"\n")
@@ -90,11 +90,11 @@ fn line(out: &impl Print, told: &impl Print, s: &[u8]) -> Result<(), Failed> {
 
 // The line with its answer behind it. One that is not understood is told on standard error too, since the status is made of what stands
 // there (tools/run).
-fn tell(out: &impl Print, told: &impl Print, line: &[u8], said: Said) -> Result<(), Failed> {
+fn tell(out: &impl Print, err: &impl Print, line: &[u8], said: Said) -> Result<(), Failed> {
     let bytes = said.bytes;
     let text = script::upto(&bytes, said.len);
     if check::same(text, b" not understood") {
-        complain(told, b"not understood: ", line);
+        complain(err, b"not understood: ", line);
     }
     print(out, line)?;
     print(out, b" :")?;
@@ -106,8 +106,8 @@ fn print(out: &impl Print, s: &[u8]) -> Result<(), Failed> {
     out.write_all(s).map_err(Failed::Write)
 }
 
-fn complain(told: &impl Print, words: &[u8], line: &[u8]) {
-    let _ = told.write_all(words);
-    let _ = told.write_all(line);
-    let _ = told.write_all(b"\n");
+fn complain(err: &impl Print, words: &[u8], line: &[u8]) {
+    let _ = err.write_all(words);
+    let _ = err.write_all(line);
+    let _ = err.write_all(b"\n");
 }
