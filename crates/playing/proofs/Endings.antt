@@ -18,7 +18,6 @@ use Rattle.playing.specs.Turn.{event_in}
 use Rattle.playing.specs.Replay.{lines_of, closing_text, replayed, replayed_of, replay_of}
 use Rattle.playing.specs.Part.{closing_of}
 use Rattle.playing.specs.declared.part.Stop.{Stop}
-use Rattle.playing.specs.declared.part.Stop.TheVariants as Stop
 
 -- A whole recording, a cut record, an unknown kind; and a part that waits for room has not ended, and has no closing line.
 pub record Closing : Type 0 where

@@ -26,7 +26,6 @@ use Rattle.playing.specs.Turn.{outcome_of, printed, turn_of}
 use Rattle.playing.specs.Part.{Plays, plays, after, plays_of, part_of, leads_of, play_of}
 use Rattle.playing.proofs.Lines.{printed_sized}
 use Rattle.playing.specs.declared.part.Stop.{Stop}
-use Rattle.playing.specs.declared.part.Stop.TheVariants as Stop
 use Rattle.playing.specs.declared.part.Played.{Played}
 use Rattle.playing.specs.declared.turn.Turn.{Turn}
 

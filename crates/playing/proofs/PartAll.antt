@@ -23,7 +23,6 @@ use Rattle.mailbox_state.specs.declared.mailbox.Mailbox.{Mailbox}
 use Rattle.playing.specs.Turn.{outcome_of, printed}
 use Rattle.playing.specs.Part.{Plays, plays, after, plays_of, part_of}
 use Rattle.playing.specs.declared.part.Stop.{Stop}
-use Rattle.playing.specs.declared.part.Stop.TheVariants as Stop
 
 module _ (P : Mailbox → ℕ → List ℕ → Plays → Type 0)
     (ended : (m : Mailbox) (room : ℕ) (part : List ℕ) (ending : Ending) → next_record_of part 0 ≡ Ended ending → P m room part (plays m 0 [] (Stop.Ended ending)))

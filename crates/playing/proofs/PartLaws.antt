@@ -25,7 +25,6 @@ use Rattle.playing.proofs.Lines.{printed_sized}
 use Rattle.playing.proofs.PartAll.{part_all}
 use Rattle.playing.specs.declared.part.Played.{Played}
 use Rattle.playing.specs.declared.part.Stop.{Stop}
-use Rattle.playing.specs.declared.part.Stop.TheVariants as Stop
 
 -- No more is taken than there is, and no more is written than there is room.
 pub part_within : (m : Mailbox) (room : ℕ) (part : List ℕ) → ((part_of m room (apart_of part)).taken ≤ length part) × (length (part_of m room (apart_of part)).text ≤ room)

@@ -22,7 +22,6 @@ use Rattle.playing.proofs.Endings.{replay_ended}
 use Rattle.playing.proofs.PartLaws.{part_within, NotFull, never_full, behind_lines, part_joins, Because, part_stops, Leaves, part_leaves}
 use Rattle.playing.proofs.Roomy.{part_ended, part_on}
 use Rattle.playing.specs.declared.part.Stop.{Stop}
-use Rattle.playing.specs.declared.part.Stop.TheVariants as Stop
 
 -- No record is found at the start of the bytes that wait, for the reason that is given.
 abbrev pub Waiting : List ℕ → Stop → Type 0

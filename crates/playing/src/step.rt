@@ -12,6 +12,7 @@ use mailbox_state::step::{MessageEffect, Step};
 use printing::{Line, line_of};
 use recording::{ControlBytes, Record};
 
+#[tactic(auto, unfolding(crate::specs::Turn::event_in))]
 pub(crate) fn step_of(state: State, record: Record) -> Step
     ensures { result ≡ event_step_of state (event_in «record») }
 {

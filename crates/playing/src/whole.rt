@@ -20,6 +20,7 @@ pub fn begin() -> Mailbox
 }
 
 // The line that closes a recording which ends here: none where it is whole.
+#[tactic(auto, unfolding(crate::specs::Part::closing_of))]
 pub fn closing(stop: Stop) -> Line
     ensures { result ≡ closing_of stop }
 {
