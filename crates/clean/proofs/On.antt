@@ -32,7 +32,7 @@ use Rattle.line.proofs.Rest.{most_requests, rests_done, rests_42, rests_43}
 use Rattle.line.proofs.Demand3.{demand3}
 use Rattle.clean.specs.Run.{transferred_of, clean_carried_of}
 use Rattle.clean.specs.Turn.{ends_underway, Answered, answered, answer_of, Turned, turned, delivered_of, clean_turn_of}
-use Rattle.clean.specs.On.{turns_most, clean_world, clean_line_of, On}
+use Rattle.clean.specs.On.{turns_most, clean_line_of, On}
 use Rattle.clean.specs.declared.ends.Ends.{Ends}
 use Rattle.clean.specs.declared.ran.Ran.{Ran}
 use Rattle.clean.specs.declared.ran.Ran.TheVariants.{Ended}

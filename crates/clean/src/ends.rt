@@ -16,6 +16,7 @@ pub struct Ends {
 
 impl Ends {
     // With no request on its way nothing changes: the receiver refuses an empty message and keeps its state (01, Numbers we answer).
+    #[tactic(auto, using(basis::specs::Pick::tests), unfolding(crate::specs::Turn::clean_turn_of))]
     pub fn turn(self, file: &[u8], image: &mut [u8], up: &mut [u8], down: &mut [u8]) -> Ends
         ensures { turned result image.new up.new down.new ≡ clean_turn_of self file.now image.old up.old down.old }
     {
@@ -25,6 +26,7 @@ impl Ends {
         self.deliver(file, image, up, down)
     }
 
+    #[tactic(auto, unfolding(crate::specs::Turn::delivered_of))]
     fn deliver(self, file: &[u8], image: &mut [u8], up: &mut [u8], down: &mut [u8]) -> Ends
         requires { self.underway ≤ length up.old }
         ensures { turned result image.new up.new down.new ≡ delivered_of self file.now image.old up.old down.old }
@@ -40,6 +42,7 @@ impl Ends {
 }
 
 // Where the receiver wrote no response, nothing is on its way any more.
+#[tactic(auto, using(basis::specs::Pick::tests), unfolding(crate::specs::Turn::answer_of))]
 fn answer(
     receiver: Receiver,
     indoor: Indoor,
