@@ -3,6 +3,8 @@
 // as and the four that the receiver reports, and `quiet` for the result alone.
 #![tactic(auto)]
 
+ghost use Rattle.std.specs.Prelude.{◌≤◌, length, IfOk};
+
 mod counts;
 mod given;
 mod page;
@@ -14,7 +16,9 @@ mod view;
 mod words;
 
 use indoor_state::plan::Release;
-use libc::STDIN_FILENO;
+use page::Streams;
+use std::io::{Error, Read};
+use std::process::ExitCode;
 use wire::codes;
 use wire::request::Versions;
 use wire::response::Identity;
@@ -24,45 +28,61 @@ const IMAGE: usize = codes::IMAGE_SIZE_MOST;
 
 const FILE: usize = codes::IMAGE_SIZE_MOST + 1;
 
-fn main() {
+fn main(rt: HostRuntime) -> ExitCode {
     let mut file = [0u8; FILE];
     let mut image = [0u8; IMAGE];
-    over(&mut file, &mut image);
+    if over(&rt, &mut file, &mut image) {
+        return ExitCode::FAILURE;
+    }
+    ExitCode::SUCCESS
 }
 
 // The arrays become slices here, where their types give their lengths, so that no proof has to count a million bytes.
-fn over(file: &mut [u8; FILE], image: &mut [u8; IMAGE]) {
-    read(file, image);
+fn over(rt: &HostRuntime, file: &mut [u8; FILE], image: &mut [u8; IMAGE]) -> bool {
+    read(rt, file, image)
 }
 
-fn read(file: &mut [u8], image: &mut [u8]) {
-    let given = given::arguments();
+// Returns whether the file could not be read, or a line not be written.
+fn read(rt: &HostRuntime, file: &mut [u8], image: &mut [u8]) -> bool {
+    let to = Streams {
+        out: rt.stdout(),
+        err: rt.stderr(),
+    };
+    let given = given::arguments(rt);
     if !given.known {
-        given::usage();
-        return;
-    }
-    let n = io::read_full(STDIN_FILENO, file);
-    if goes_on(n, file.len()) {
-        os::fail(b"read");
-        return;
-    }
-    session::start(
-        identity(given.reported),
-        release(given.offered),
-        given.luck,
-        given.quiet,
-        &file[..n],
-        image,
-    );
-}
-
-// The reading stops at a failure as it does at the file's end. Where there was room for more, only the end brings nothing again.
-fn goes_on(n: usize, room: usize) -> bool {
-    if n == room {
+        given::usage(to);
         return false;
     }
-    let mut more = [0u8; 1];
-    libc::read(STDIN_FILENO, &mut more) != 0
+    match fill(&mut rt.stdin(), file) {
+        Ok(n) => session::start(
+            to,
+            identity(given.reported),
+            release(given.offered),
+            given.luck,
+            given.quiet,
+            &file[..n],
+            image,
+        ),
+        Err(error) => {
+            to.fail("read", error);
+            true
+        }
+    }
+}
+
+// Reads until there is no room or the input ends, and returns how many bytes there are.
+fn fill(from: &mut impl Read, file: &mut [u8]) -> Result<usize, Error>
+    ensures { IfOk result (λ n. n ≤ length file.new) }
+{
+    let mut n = 0;
+    for _ in 0..u64::MAX {
+        let more = from.read(&mut file[n..])?;
+        if more == 0 {
+            break;
+        }
+        n += more;
+    }
+    Ok(n)
 }
 
 fn identity(versions: Versions) -> Identity {

@@ -1,11 +1,25 @@
 // A line of text that grows to the right, on a page of spaces. What does not fit is left out.
 ghost use Rattle.std.specs.Prelude.{◌≤◌, length};
 
-use libc::{STDERR_FILENO, STDOUT_FILENO};
+use std::io::{Error, Stderr, Stdout};
 
 const WIDTH: usize = 120;
 
 const DIGITS: usize = 20;
+
+// Where lines are printed, and where it is told what failed.
+#[derive(Clone, Copy)]
+pub(crate) struct Streams {
+    pub out: Stdout,
+    pub err: Stderr,
+}
+
+impl Streams {
+    // What failed, and why. What standard error does not take is lost: there is nowhere else to tell it.
+    pub(crate) fn fail(self, what: &str, error: Error) {
+        let _ = eprintln!(self.err; "{what}: {error}");
+    }
+}
 
 #[derive(Clone, Copy)]
 pub(crate) struct Page {
@@ -68,27 +82,26 @@ impl Page {
         self.word(b" ")
     }
 
-    // Returns whether the line could be written.
-    pub(crate) fn print(self) -> bool
+    pub(crate) fn print(self, to: Streams) -> Result<(), Error>
         requires { self.at ≤ 120 }
     {
-        self.write(STDOUT_FILENO)
+        self.write(&to.out)
     }
 
     // What stands on standard error makes the status of whoever runs the program (tools/run).
-    pub(crate) fn complain(self)
+    pub(crate) fn complain(self, to: Streams)
         requires { self.at ≤ 120 }
     {
-        self.write(STDERR_FILENO);
+        let _ = self.write(&to.err);
     }
 
-    fn write(self, descriptor: i32) -> bool
+    fn write(self, to: &impl Print) -> Result<(), Error>
         requires { self.at ≤ 120 }
     {
         let page = self.word(b"\n");
         let bytes = page.bytes;
         let at = page.at;
-        io::write_all(descriptor, &bytes[..at])
+        to.write_all(&bytes[..at])
     }
 }
 

@@ -5,7 +5,7 @@ ghost use Rattle.lossy_session.specs.Judge.{reports_done};
 ghost use Rattle.lossy_ends.specs.Over.{Same, Delivered};
 
 use crate::counts::Counts;
-use crate::page::Page;
+use crate::page::{Page, Streams};
 use crate::session::Ended;
 use crate::{phases, turn, words};
 use indoor_state::phase::{Phase, Reason};
@@ -15,37 +15,44 @@ use receiver_state::session::Receiver;
 use receiver_state::sum::Summed;
 
 // A start was refused with this number (01, Numbers we answer).
-pub(crate) fn refused(number: u8) {
+pub(crate) fn refused(to: Streams, number: u8) {
     let page = Page::blank().word(b"not started: ").number(number as u64);
     if number == 46 {
         page.word(b", the file is empty or above 1,048,575 bytes")
-            .complain();
+            .complain(to);
         return;
     }
-    page.complain();
+    page.complain(to);
 }
 
-// The first line that cannot be written ends the report.
-pub(crate) fn ended(ended: Ended, file: &[u8], image: &[u8])
+// The first line that cannot be written ends the report: returns whether there is one.
+pub(crate) fn ended(to: Streams, ended: Ended, file: &[u8], image: &[u8]) -> bool
     requires { ended.ends.indoor.state.phase ≡ Done → Delivered file.now ended.ends.receiver image.now }
 {
     let ends = ended.ends;
     let counts = ended.counts;
     let receiver = ends.receiver;
     let judged = judge(ends, file, image);
-    if offered(ends) {
-        return;
+    if offered(to, ends) {
+        return true;
     }
-    if outcome(receiver, phases::indoors(ends.indoor), judged, file, image) {
-        return;
+    if outcome(
+        to,
+        receiver,
+        phases::indoors(ends.indoor),
+        judged,
+        file,
+        image,
+    ) {
+        return true;
     }
-    if messages(counts, ended.turns) {
-        return;
+    if messages(to, counts, ended.turns) {
+        return true;
     }
-    if held(receiver, image) {
-        return;
+    if held(to, receiver, image) {
+        return true;
     }
-    equality(judged);
+    equality(to, judged)
 }
 
 // Done is reported only where the receiver has marked the file good and holds it (demand 3).
@@ -61,34 +68,47 @@ fn judge(ends: Ends, file: &[u8], image: &[u8]) -> Judged
 }
 
 // The two versions by which the indoor end judges whether the file is newer (02 a).
-fn offered(ends: Ends) -> bool {
+fn offered(to: Streams, ends: Ends) -> bool {
     let indoor = ends.indoor;
     let plan = indoor.plan;
     let release = plan.release;
     let receiver = ends.receiver;
     let identity = receiver.identity;
     let page = words::version(Page::blank().word(b"offered: "), release.versions);
-    say(words::version(page.word(b"; the receiver reports "), identity.versions))
+    say(
+        to,
+        words::version(page.word(b"; the receiver reports "), identity.versions),
+    )
 }
 
 // What is not done is told on standard error.
-fn outcome(receiver: Receiver, phase: Phase, judged: Judged, file: &[u8], image: &[u8]) -> bool
+fn outcome(
+    to: Streams,
+    receiver: Receiver,
+    phase: Phase,
+    judged: Judged,
+    file: &[u8],
+    image: &[u8],
+) -> bool
     requires { judged.done ≡ true → Delivered file.now receiver image.now }
 {
     if judged.done {
-        return done(receiver, file, image);
+        return done(to, receiver, file, image);
     }
     let begun = Page::blank().word(b"not done: ");
     let named = failure(phases::indoor(begun, phase), phase);
-    phases::receiver_name(named.word(b"; "), phases::roof(receiver)).complain();
+    phases::receiver_name(named.word(b"; "), phases::roof(receiver)).complain(to);
     false
 }
 
 // Only this function has the sentence, so that it is proved to be true wherever it is told.
-fn done(receiver: Receiver, file: &[u8], image: &[u8]) -> bool
+fn done(to: Streams, receiver: Receiver, file: &[u8], image: &[u8]) -> bool
     requires { Delivered file.now receiver image.now }
 {
-    say(Page::blank().word(b"done: the receiver has marked the image good"))
+    say(
+        to,
+        Page::blank().word(b"done: the receiver has marked the image good"),
+    )
 }
 
 fn failure(page: Page, phase: Phase) -> Page
@@ -120,7 +140,7 @@ fn named(page: Page, reason: Reason) -> Page
     }
 }
 
-fn messages(counts: Counts, turns: u32) -> bool {
+fn messages(to: Streams, counts: Counts, turns: u32) -> bool {
     let sent = Page::blank()
         .number(counts.requests as u64)
         .word(b" requests, ");
@@ -130,11 +150,11 @@ fn messages(counts: Counts, turns: u32) -> bool {
     let pushed = again
         .number(counts.pushed as u64)
         .word(b" replaced by a newer one; ");
-    say(pushed.number(turn::clock(turns)).word(b" ms"))
+    say(to, pushed.number(turn::clock(turns)).word(b" ms"))
 }
 
 // How many bytes the receiver has accepted, and their sum (01, Sizes and numbers).
-fn held(receiver: Receiver, image: &[u8]) -> bool {
+fn held(to: Streams, receiver: Receiver, image: &[u8]) -> bool {
     let phase = receiver.phase;
     let accepted = receiver_decide::accepted(phase);
     let counted = Page::blank()
@@ -143,25 +163,27 @@ fn held(receiver: Receiver, image: &[u8]) -> bool {
         .word(b" bytes, sum ");
     let summed = receiver::sum(receiver, image);
     match summed {
-        Summed::Sum(sum) => say(counted.number(sum as u64)),
-        Summed::ImageLength => say(counted.word(b"unknown")),
+        Summed::Sum(sum) => say(to, counted.number(sum as u64)),
+        Summed::ImageLength => say(to, counted.word(b"unknown")),
     }
 }
 
-fn equality(judged: Judged) -> bool {
+fn equality(to: Streams, judged: Judged) -> bool {
     if judged.same {
-        return say(Page::blank().word(b"the image equals the file"));
+        return say(to, Page::blank().word(b"the image equals the file"));
     }
-    say(Page::blank().word(b"the image differs from the file"))
+    say(to, Page::blank().word(b"the image differs from the file"))
 }
 
 // Returns whether the line could not be written, which is also said on standard error.
-fn say(page: Page) -> bool
+fn say(to: Streams, page: Page) -> bool
     requires { page.at ≤ 120 }
 {
-    if page.print() {
-        return false;
+    match page.print(to) {
+        Ok(()) => false,
+        Err(error) => {
+            to.fail("write", error);
+            true
+        }
     }
-    os::fail(b"write");
-    true
 }

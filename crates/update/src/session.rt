@@ -4,6 +4,7 @@ ghost use Rattle.indoor_state.specs.declared.phase.Phase.TheVariants.{Done};
 ghost use Rattle.lossy_ends.specs.Over.{Over, Delivered};
 
 use crate::counts::Counts;
+use crate::page::Streams;
 use crate::view::View;
 use crate::{phases, report, turn};
 use indoor_state::plan::Release;
@@ -80,15 +81,16 @@ fn rests(ends: Ends) -> bool {
     ended && rising.bytes == 0
 }
 
-// The file goes to a receiver with this identity, offered as this release.
+// The file goes to a receiver with this identity, offered as this release. Returns whether a line could not be written.
 pub(crate) fn start(
+    to: Streams,
     identity: Identity,
     release: Release,
     seed: Luck,
     quiet: bool,
     file: &[u8],
     image: &mut [u8],
-) {
+) -> bool {
     let mut up = [0u8; codes::LONGEST];
     let mut down = [0u8; codes::LONGEST];
     let roof = Limits {
@@ -109,12 +111,16 @@ pub(crate) fn start(
         &mut up,
     );
     match started {
-        Started::Made(ends) => begin(ends, seed, quiet, file, image, &mut up, &mut down),
-        Started::Refused(number) => report::refused(number),
+        Started::Made(ends) => begin(to, ends, seed, quiet, file, image, &mut up, &mut down),
+        Started::Refused(number) => {
+            report::refused(to, number);
+            false
+        }
     }
 }
 
 fn begin(
+    to: Streams,
     ends: Ends,
     seed: Luck,
     quiet: bool,
@@ -122,17 +128,18 @@ fn begin(
     image: &mut [u8],
     up: &mut [u8],
     down: &mut [u8],
-)
+) -> bool
     requires { Over file.now ends image.old up.old down.old }
 {
     let view = View {
+        to,
         quiet,
         clock: 0,
         blocks: image::blocks_in(file.len()) as u64,
     };
     let ended = carry(ends, seed, view, file, image, up, down);
     if ended.failed {
-        return;
+        return true;
     }
-    report::ended(ended, file, image);
+    report::ended(to, ended, file, image)
 }

@@ -1,7 +1,7 @@
 // The lines that are printed of each turn.
 ghost use Rattle.std.specs.Prelude.{◌≤◌};
 
-use crate::page::Page;
+use crate::page::{Page, Streams};
 
 // Where the columns of a line begin.
 const DIRECTION: usize = 13;
@@ -12,9 +12,10 @@ pub(crate) const ANSWER: usize = 48;
 
 pub(crate) const PHASE: usize = 56;
 
-// The milliseconds since the start, and the blocks of the file.
+// Where the lines are printed, the milliseconds since the start, and the blocks of the file.
 #[derive(Clone, Copy)]
 pub(crate) struct View {
+    pub to: Streams,
     pub quiet: bool,
     pub clock: u64,
     pub blocks: u64,
@@ -66,10 +67,12 @@ impl View {
         if self.quiet {
             return false;
         }
-        if page.print() {
-            return false;
+        match page.print(self.to) {
+            Ok(()) => false,
+            Err(error) => {
+                self.to.fail("write", error);
+                true
+            }
         }
-        os::fail(b"write");
-        true
     }
 }
