@@ -12,6 +12,7 @@ ghost use Rattle.replay.specs.Turns.{held_most, Ran};
 
 use course::{End, end_of, runs};
 use progress::Progress;
+use std::process::ExitCode;
 
 // As much as is read at once.
 const ROOM: usize = 65536;
@@ -19,21 +20,32 @@ const ROOM: usize = 65536;
 // Room for the longest line to every byte of the buffer, so that no record waits for room, also where each has one byte.
 const LINES: usize = 851968;
 
-fn main() {
+fn main(rt: HostRuntime) -> ExitCode {
     let mut buffer = [0u8; ROOM];
     let mut out = [0u8; LINES];
-    over(&mut buffer, &mut out);
+    over(&rt, &mut buffer, &mut out)
 }
 
 // Here the arrays become slices: their lengths are known from their types, and no proof counts their bytes.
-fn over(buffer: &mut [u8; ROOM], out: &mut [u8; LINES]) {
-    let end = replay(buffer, out);
-    say::tell(end);
+fn over(rt: &HostRuntime, buffer: &mut [u8; ROOM], out: &mut [u8; LINES]) -> ExitCode {
+    let end = replay(rt, buffer, out);
+    say::tell(rt, end);
+    status(end)
+}
+
+// The status of a run that has not come to its recording's end is a failure's.
+fn status(end: End) -> ExitCode {
+    match end {
+        End::Closed(_) => ExitCode::SUCCESS,
+        End::ReadFailed => ExitCode::FAILURE,
+        End::WriteFailed => ExitCode::FAILURE,
+        End::TooManyReads => ExitCode::FAILURE,
+    }
 }
 
 // A proved loop has to end, and nothing says that a recording does: the turns are counted down from a number that no run uses up, and a
 // run that did so would be told.
-fn replay(buffer: &mut [u8], out: &mut [u8]) -> End
+fn replay(rt: &HostRuntime, buffer: &mut [u8], out: &mut [u8]) -> End
     requires held_most_in_bounds { held_most < length buffer.old }
     requires buffer_in_bounds { line_longest * length buffer.old ≤ length out.old }
     ensures { Ran result }
@@ -45,7 +57,7 @@ fn replay(buffer: &mut [u8], out: &mut [u8]) -> End
         if !runs(course) {
             break;
         }
-        progress = progress.turn(buffer, out);
+        progress = progress.turn(rt, buffer, out);
         turns -= 1;
     }
     let course = progress.course;

@@ -8,10 +8,10 @@ ghost use Rattle.replay.specs.Turns.{begins, over_of, held_most, turn_from, Goes
 
 use crate::course::{Course, End};
 use crate::{buffer, say};
-use libc::STDIN_FILENO;
 use mailbox_state::mailbox::Mailbox;
 use playing::Stop;
 use recording::Ending;
+use std::io::Read;
 
 // The first `held` bytes of the buffer are not played yet, and `stop` says why.
 #[derive(Clone, Copy)]
@@ -36,7 +36,7 @@ impl Progress {
     }
 
     // One read. There is room for a byte at least, so that where nothing has come the recording is at its end.
-    pub(crate) fn turn(self, buffer: &mut [u8], out: &mut [u8]) -> Progress
+    pub(crate) fn turn(self, rt: &HostRuntime, buffer: &mut [u8], out: &mut [u8]) -> Progress
         requires held_le_held_most { self.held ≤ held_most }
         requires held_most_in_bounds { held_most < length buffer.old }
         requires buffer_in_bounds { line_longest * length buffer.old ≤ length out.old }
@@ -44,32 +44,31 @@ impl Progress {
         ensures turned { Turned (turn_from self buffer.old) out.old result buffer.new out.new }
     {
         let held = self.held;
-        let got = libc::read(STDIN_FILENO, &mut buffer[held..]);
-        self.came(got, buffer, out)
+        let got = read(rt, &mut buffer[held..]);
+        self.came(rt, got, buffer, out)
     }
 
     // The read has returned `got`.
-    fn came(self, got: isize, buffer: &mut [u8], out: &mut [u8]) -> Progress
+    fn came(self, rt: &HostRuntime, got: isize, buffer: &mut [u8], out: &mut [u8]) -> Progress
         requires held_in_bounds { self.held < length buffer.old }
         requires buffer_in_bounds { line_longest * length buffer.old ≤ length out.old }
         ensures held_le_held_most { result.course ≡ Runs → result.held ≤ held_most }
         ensures came { Came got self buffer.old out.old result buffer.new out.new }
     {
         if got < 0 {
-            os::fail(b"read");
             return self.over(End::ReadFailed);
         }
         if got == 0 {
-            return self.closed();
+            return self.closed(rt);
         }
         let held = self.held;
         let fresh = io::count(got, &buffer[held..]);
-        self.played(buffer, fresh, out)
+        self.played(rt, buffer, fresh, out)
     }
 
     // The bytes that waited and the `fresh` ones behind them are played, and their lines written at once. An unknown kind ends the replay,
     // whatever follows it.
-    fn played(self, buffer: &mut [u8], fresh: usize, out: &mut [u8]) -> Progress
+    fn played(self, rt: &HostRuntime, buffer: &mut [u8], fresh: usize, out: &mut [u8]) -> Progress
         requires fresh_nonzero { 0 < fresh }
         requires fresh_in_bounds { self.held + fresh ≤ length buffer.old }
         requires buffer_in_bounds { line_longest * length buffer.old ≤ length out.old }
@@ -82,7 +81,7 @@ impl Progress {
         let written = played.written;
         let taken = played.taken;
         let stop = played.stop;
-        if !say::lines(&out[..written], mailbox, &buffer[..filled]) {
+        if !say::lines(rt, &out[..written], mailbox, &buffer[..filled]) {
             return self.over(End::WriteFailed);
         }
         let mailbox = played.mailbox;
@@ -94,20 +93,20 @@ impl Progress {
             course: Course::Runs,
         };
         if is_unknown(stop) {
-            return next.closed();
+            return next.closed(rt);
         }
         next
     }
 
     // The last line, if there is one, and no further turn.
-    fn closed(self) -> Progress
+    fn closed(self, rt: &HostRuntime) -> Progress
         ensures { (result ≡ over_of self WriteFailed) ⊎ (result ≡ over_of self (Closed self.stop)) }
     {
         let stop = self.stop;
         let line = playing::closing(stop);
         let bytes = line.bytes;
         let len = line.len;
-        if !say::last(&bytes[..len], stop) {
+        if !say::last(rt, &bytes[..len], stop) {
             return self.over(End::WriteFailed);
         }
         self.over(End::Closed(stop))
@@ -123,6 +122,17 @@ impl Progress {
             held: self.held,
             stop,
             course: Course::Over(end),
+        }
+    }
+}
+
+// How many bytes a read of standard input has put at the start of `into`, or -1 where it failed, which is told.
+fn read(rt: &HostRuntime, into: &mut [u8]) -> isize {
+    match rt.stdin().read(into) {
+        Ok(n) => n as isize,
+        Err(error) => {
+            let _ = eprintln!(rt; "read: {error}");
+            -1
         }
     }
 }

@@ -5,42 +5,42 @@ ghost use Rattle.playing.specs.Part.{ending_text};
 ghost use Rattle.playing.specs.Parts.{roomy_of};
 
 use crate::course::End;
-use libc::{STDERR_FILENO, STDOUT_FILENO};
 use mailbox_state::mailbox::Mailbox;
 use playing::Stop;
 
 // `mailbox` and `part` are here for the contract alone: the text has to be what the part prints where it is played on the mailbox.
-pub(crate) fn lines(text: &[u8], mailbox: Mailbox, part: &[u8]) -> bool
+pub(crate) fn lines(rt: &HostRuntime, text: &[u8], mailbox: Mailbox, part: &[u8]) -> bool
     requires { text.now ≡ (roomy_of mailbox part.now).text }
 {
-    is_written(text)
+    is_written(rt, text)
 }
 
 // `stop` is here for the contract too: the text has to be what closes a recording that stops so.
-pub(crate) fn last(text: &[u8], stop: Stop) -> bool
+pub(crate) fn last(rt: &HostRuntime, text: &[u8], stop: Stop) -> bool
     requires { text.now ≡ ending_text stop }
 {
-    is_written(text)
+    is_written(rt, text)
 }
 
-fn is_written(text: &[u8]) -> bool {
-    let is_written = io::write_all(STDOUT_FILENO, text);
-    if !is_written {
-        os::fail(b"write");
+fn is_written(rt: &HostRuntime, text: &[u8]) -> bool {
+    match rt.write_all(text) {
+        Ok(()) => true,
+        Err(error) => {
+            let _ = eprintln!(rt; "write: {error}");
+            false
+        }
     }
-    is_written
 }
 
 // A read or a write that failed is told where it fails.
-pub(crate) fn tell(end: End) {
+pub(crate) fn tell(rt: &HostRuntime, end: End) {
     match end {
         End::Closed(_) => {}
         End::ReadFailed => {}
         End::WriteFailed => {}
         End::TooManyReads => {
-            io::write_all(
-                STDERR_FILENO,
-                b"replay: too many reads, the rest of the recording was not played\n",
+            let _ = eprintln!(rt;
+                "replay: too many reads, the rest of the recording was not played"
             );
         }
     }
