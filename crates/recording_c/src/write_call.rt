@@ -17,6 +17,7 @@ enum Given {
 }
 
 #[unsafe(no_mangle)]
+#[tactic(auto, using(basis::specs::Pick::tests), unfolding(crate::specs::Writes::harsolvek_record_write))]
 pub extern "C" fn harsolvek_record_write_raw(
     kind: u32,
     reason: u16,

@@ -6,9 +6,9 @@ mod course;
 mod progress;
 mod say;
 
-ghost use Rattle.std.specs.Prelude.{◌*◌, ◌<◌, ◌≤◌, length};
+ghost use Rattle.std.specs.Prelude.{◌≡◌, ◌*◌, ◌<◌, ◌≤◌, length};
 ghost use Rattle.printing.specs.Line.{line_longest};
-ghost use Rattle.replay.specs.Turns.{held_most, Ran};
+ghost use Rattle.replay.specs.Turns.{status_of, held_most, Ran};
 
 use course::{End, end_of, runs};
 use progress::Progress;
@@ -33,8 +33,10 @@ fn over(rt: &HostRuntime, buffer: &mut [u8; ROOM], out: &mut [u8; LINES]) -> Exi
     status(end)
 }
 
-// The status of a run that has not come to its recording's end is a failure's.
-fn status(end: End) -> ExitCode {
+// A run that has not come to its recording's end has a failure's status.
+fn status(end: End) -> ExitCode
+    ensures { result.status ≡ status_of end }
+{
     match end {
         End::Closed(_) => ExitCode::SUCCESS,
         End::ReadFailed => ExitCode::FAILURE,

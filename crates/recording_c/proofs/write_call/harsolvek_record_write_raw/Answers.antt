@@ -1,12 +1,6 @@
 use Rattle.std.proofs.Common.{rules, sym}
-use Rattle.basis.specs.Pick.{tests}
-use Rattle.recording_c.specs.Writes.{harsolvek_record_write}
 use Rattle.recording_c.proofs.Wrote.{wrote_known, wrote_no_kind}
 use Rattle.recording_c.proofs.write_call.harsolvek_record_write_raw.Goals as goal
-
-pub returns-then-out-lt-RECORD_MOST : goal.returns-then-out-lt-RECORD_MOST
-unfolding harsolvek_record_write
-returns-then-out-lt-RECORD_MOST c = search tests
 
 pub returns-in_default : goal.returns-in_default
 returns-in_default c =
