@@ -28,14 +28,14 @@ to_front-requires-clause-from_le_to c =
     let g = c.args in
     let p = c.play-played in
     let w = within g.self g.buffer.now g.out.now g.fresh c.requires.fresh_nonzero c.requires.fresh_in_bounds c.requires.buffer_in_bounds p.result _ p.ensures in
-    w.0
+    omega (arith, w)
 
 pub overflow_sub-next : goal.overflow_sub-next
 overflow_sub-next c =
     let g = c.args in
     let p = c.play-played in
     let w = within g.self g.buffer.now g.out.now g.fresh c.requires.fresh_nonzero c.requires.fresh_in_bounds c.requires.buffer_in_bounds p.result _ p.ensures in
-    w.0
+    omega (arith, w)
 
 pub returns-then-is_unknown-clause-goes : goal.returns-then-is_unknown-clause-goes
 returns-then-is_unknown-clause-goes c =
