@@ -6,14 +6,14 @@ use Rattle.lossy_session.proofs.judge_call.same.Goals as goal
 pub returns-then-accepted-n : goal.returns-then-accepted-n
 returns-then-accepted-n c =
     let a = c.args in
-    same_decided a.accepted a.image.now a.file.now false (λ e. absurd (true≢false (sym e))) (λ s. absurd (c.if-accepted-n.true s.0))
+    same_decided a.accepted a.image.now a.file.now false (λ e. absurd (true≢false (sym e))) (λ s. absurd (omega (arith, s.0)))
 
 pub returns-then-image-n : goal.returns-then-image-n
 returns-then-image-n c =
     let a = c.args in
     same_decided a.accepted a.image.now a.file.now false
     (λ e. absurd (true≢false (sym e)))
-    (λ s. let l = length-take (length a.file.now) a.image.now in let k = ap length s.1 in absurd (omega (arith, l, k, c.if-image-n.true)))
+    (λ s. let l = length-take (length a.file.now) a.image.now in let k = ap length s.1 in absurd (omega arith))
 
 pub returns : goal.returns
 returns c =
