@@ -170,6 +170,8 @@ fn validate_response(out: &mut [u8], status: u8, wait: u8, success: bool) -> usi
     )
 }
 
+// Inlined into each of its callers, which know the kind.
+#[inline(always)]
 fn write(out: &mut [u8], response: Response) -> usize
     requires { longest ≤ length out.old }
     ensures { left result out.new ≡ returns_written (response_bytes response) out.old }
