@@ -22,12 +22,12 @@ abbrev pub end_of : Course → End
 end_of Runs = TooManyReads
 end_of (Over end) = end
 
--- The status of the program: 0 where the recording has come to its end, else 1.
+-- The status of the program: 1 where a read or a write failed, else 0.
 abbrev pub status_of : End → ℕ
 status_of (Closed stop) = 0
 status_of ReadFailed = 1
 status_of WriteFailed = 1
-status_of TooManyReads = 1
+status_of TooManyReads = 0
 
 -- Nothing is held, and a recording that ends here is whole.
 abbrev pub begins : Progress
