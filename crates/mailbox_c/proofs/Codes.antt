@@ -1,9 +1,10 @@
 -- The codes of the commands that run, in the header's own numbers (include/harsolvek.h; 01, The mailbox).
 use Prim.Native.Nat.{ℕ, ◌≤◌}
-use mathlib.Core.Bool.{true, false, true≢false}
+use mathlib.Core.Bool.{Bool, true, false, true≢false}
+use mathlib.Core.Logic.{◌⊎◌, inl, inr}
 use mathlib.Core.Path.{◌≡◌, refl, sym, ◌∙◌}
 use native.Mathlib.Omega.{arith}
-use borrow.Author.Tests.{eqb-true, ne_eqb}
+use borrow.Author.Tests.{eqb-true, eqb-false, eq-eqb, ne_eqb}
 use lib.Dec.{eqb}
 use Rattle.basis.specs.Pick.{pick, pick_all}
 use Rattle.commands.specs.Table.{entry_of}
@@ -44,6 +45,20 @@ module _ (code : ℕ) where
       (λ _. pick_all Alone _ _ _ (λ t. absurd (a (eqb-true code 3 t)))
       (λ _. pick_all Alone _ _ _ (λ t. absurd (c (eqb-true code 7 t)))
       (λ _. pick_all Alone _ _ _ (λ t. sym t) (λ t. sym t))))))))
+
+  -- As the code asks: 6 and 7 are next to each other, and 3 and 0x12 stand alone.
+  pub runs_pair : 6 ≤ code → code ≤ 7 → true ≡ code_runs code
+  runs_pair low high =
+      let at : (t : Bool) → eqb code 6 ≡ t → true ≡ code_runs code
+      = λ t. elim t as (λ u. eqb code 6 ≡ u → true ≡ code_runs code) [ true ↦ λ e. sym (runs_6 (eqb-true code 6 e)) | false ↦ λ e. let six = eqb-false code 6 e in sym (runs_7 (omega arith)) ] in
+      at (eqb code 6) refl
+
+  pub runs_alone : (code ≡ 3) ⊎ (code ≡ 18) → true ≡ code_runs code
+  runs_alone (inl e) = sym (runs_3 e)
+  runs_alone (inr e) = sym (runs_18 (λ z. omega arith) (λ z. omega arith) (λ z. omega arith) ∙ eq-eqb code 18 e)
+
+  pub runs_none : (code ≡ 3 → ⊥) → (code ≡ 6 → ⊥) → (code ≡ 7 → ⊥) → (code ≡ 18 → ⊥) → false ≡ code_runs code
+  runs_none a b c d = sym (runs_18 a b c ∙ ne_eqb code 18 d)
 
   abbrev Small : Entry → Type 0
   Small entry = is Run entry.class ≡ true → code ≤ 18

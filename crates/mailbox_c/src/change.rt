@@ -2,13 +2,10 @@
 ghost use Rattle.std.specs.Prelude.{◌≡◌};
 ghost use Rattle.mailbox_c.specs.Calls.{mailbox_called, harsolvek_mailbox_change};
 
-use crate::NO_MAILBOX;
-use crate::carry::carry_out;
-use crate::test::is_mailbox;
-use crate::words::state_at;
+use crate::event::event;
 use width::to_byte;
 
-#[tactic(auto, unfolding(basis::specs::Pick::pick))]
+#[tactic(auto, using(crate::proofs::Narrowing::called_narrow), unfolding(basis::specs::Pick::pick))]
 #[unsafe(no_mangle)]
 pub extern "C" fn harsolvek_mailbox_change_raw(
     words: &mut [u32; 10],
@@ -18,10 +15,6 @@ pub extern "C" fn harsolvek_mailbox_change_raw(
 ) -> u64
     ensures { mailbox_called result words.new message_in.new ≡ harsolvek_mailbox_change words.old message_in.old connector reason }
 {
-    if !is_mailbox(words) {
-        return NO_MAILBOX;
-    }
-    let state = state_at(words);
-    let step = mailbox_decide::change(state, to_byte(connector), reason);
-    carry_out(words, message_in, step, b"")
+    let decide = |state| mailbox_decide::change(state, to_byte(connector), reason);
+    event(words, message_in, b"", decide)
 }

@@ -1,8 +1,8 @@
 // The mailbox for C: its calls on a state of ten words and on MESSAGE_IN, both where they lie (include/harsolvek.h).
 #![tactic(auto)]
 
-mod carry;
 mod change;
+mod event;
 mod failure;
 mod notifying;
 mod place;

@@ -22,6 +22,7 @@ pub(crate) fn mask_of(notifications: Notifications) -> u16
     }
 }
 
+#[tactic(auto, using(basis::specs::Pick::tests), unfolding(crate::specs::Notifying::notifications_of))]
 pub(crate) fn notifications_of(on: u32, mask: u16) -> Notifications
     ensures { result ≡ notifications_of on mask }
 {
@@ -32,14 +33,13 @@ pub(crate) fn notifications_of(on: u32, mask: u16) -> Notifications
 }
 
 // A flag is 0 or 1. A mask has 16 bits, and while notifications are off it is 0.
+#[tactic(auto, using(basis::specs::Pick::tests), unfolding(crate::specs::Notifying::notifies_of))]
 pub(crate) fn notifies(on: u32, mask: u32) -> bool
     ensures { result ≡ notifies_of on mask }
 {
-    if on == 1 {
-        return mask <= 65535;
+    match on {
+        0 => mask == 0,
+        1 => mask <= 65535,
+        _ => false,
     }
-    if on != 0 {
-        return false;
-    }
-    mask == 0
 }

@@ -27,5 +27,5 @@ pub extern "C" fn harsolvek_mailbox_cci_raw(words: &[u32; 10], cci: &mut u32) ->
 pub extern "C" fn harsolvek_mailbox_is_mailbox_raw(words: &[u32; 10]) -> u64
     ensures { result ≡ byte_of (is_mailbox words.now) }
 {
-    is_mailbox(words) as u64
+    u64::from(is_mailbox(words))
 }

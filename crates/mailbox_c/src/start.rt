@@ -27,7 +27,7 @@ pub extern "C" fn harsolvek_mailbox_fresh_raw(
     *message_in = [0; 256];
     let number = mailbox_decide::connectors_number(to_byte(connectors));
     if number != 0 {
-        return number as u64;
+        return u64::from(number);
     }
     words[place::CONNECTORS] = connectors;
     0

@@ -1,6 +1,6 @@
 // The status of the last command as numbers, and back.
 ghost use Rattle.std.specs.Prelude.{◌≡◌};
-ghost use Rattle.mailbox_c.specs.Status.{status_code_of, data_length_of, running_of, rest_of, status_of};
+ghost use Rattle.mailbox_c.specs.Status.{status_code_of, data_length_of, running_of, status_of};
 
 use mailbox_state::status::{Command, CommandStatus};
 
@@ -46,14 +46,8 @@ pub(crate) fn data_length(status: CommandStatus) -> u8
     ensures { result ≡ data_length_of status }
 {
     match status {
-        CommandStatus::Nothing => 0,
-        CommandStatus::ResetDone => 0,
-        CommandStatus::Busy(_) => 0,
         CommandStatus::Completed { length } => length,
-        CommandStatus::Failed => 0,
-        CommandStatus::NotSupported => 0,
-        CommandStatus::Cancelled => 0,
-        CommandStatus::Acknowledged => 0,
+        _ => 0,
     }
 }
 
@@ -62,48 +56,24 @@ pub(crate) fn running(status: CommandStatus) -> Command
     ensures { result ≡ running_of status }
 {
     match status {
-        CommandStatus::Nothing => NO_COMMAND,
-        CommandStatus::ResetDone => NO_COMMAND,
         CommandStatus::Busy(command) => command,
-        CommandStatus::Completed { length: _ } => NO_COMMAND,
-        CommandStatus::Failed => NO_COMMAND,
-        CommandStatus::NotSupported => NO_COMMAND,
-        CommandStatus::Cancelled => NO_COMMAND,
-        CommandStatus::Acknowledged => NO_COMMAND,
+        _ => NO_COMMAND,
     }
 }
 
 // A code that no status has is read as Nothing; `is_status` says whether there is one.
+#[tactic(auto, using(basis::specs::Pick::tests), unfolding(crate::specs::Status::status_of, crate::specs::Status::rest_of))]
 pub(crate) fn status_of(code: u32, length: u8, command: Command) -> CommandStatus
     ensures { result ≡ status_of code length command }
 {
-    if code == BUSY {
-        return CommandStatus::Busy(command);
+    match code {
+        BUSY => CommandStatus::Busy(command),
+        COMPLETED => CommandStatus::Completed { length },
+        RESET_DONE => CommandStatus::ResetDone,
+        FAILED => CommandStatus::Failed,
+        NOT_SUPPORTED => CommandStatus::NotSupported,
+        CANCELLED => CommandStatus::Cancelled,
+        ACKNOWLEDGED => CommandStatus::Acknowledged,
+        _ => CommandStatus::Nothing,
     }
-    if code == COMPLETED {
-        return CommandStatus::Completed { length };
-    }
-    rest_of(code)
-}
-
-// The statuses that have neither a command nor a length.
-fn rest_of(code: u32) -> CommandStatus
-    ensures { result ≡ rest_of code }
-{
-    if code == RESET_DONE {
-        return CommandStatus::ResetDone;
-    }
-    if code == FAILED {
-        return CommandStatus::Failed;
-    }
-    if code == NOT_SUPPORTED {
-        return CommandStatus::NotSupported;
-    }
-    if code == CANCELLED {
-        return CommandStatus::Cancelled;
-    }
-    if code == ACKNOWLEDGED {
-        return CommandStatus::Acknowledged;
-    }
-    CommandStatus::Nothing
 }

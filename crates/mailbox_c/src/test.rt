@@ -24,34 +24,21 @@ const GET_CONNECTOR_STATUS: u32 = 0x12;
 pub(crate) fn is_mailbox(words: &[u32; 10]) -> bool
     ensures { result ≡ is_mailbox words.now }
 {
-    if words[place::CONNECTORS] < COUNT_LEAST {
-        return false;
-    }
-    if COUNT_MOST < words[place::CONNECTORS] {
-        return false;
-    }
-    if !within(
-        words[place::SHOWN],
-        words[place::WAITING],
-        words[place::CONNECTORS],
-    ) {
-        return false;
-    }
-    if !notifies(words[place::NOTIFICATIONS], words[place::MASK]) {
-        return false;
-    }
-    is_status(words)
+    let count = words[place::CONNECTORS];
+    COUNT_LEAST <= count
+        && count <= COUNT_MOST
+        && within(words[place::SHOWN], words[place::WAITING], count)
+        && notifies(words[place::NOTIFICATIONS], words[place::MASK])
+        && is_status(words)
 }
 
 // The connector shown and those that wait are among so many.
+#[tactic(auto, using(basis::specs::Pick::tests), unfolding(crate::specs::Words::changes_within))]
 fn within(shown: u32, waiting: u32, count: u32) -> bool
     requires { count ≤ 8 }
     ensures { result ≡ changes_within shown waiting count }
 {
-    if count < shown {
-        return false;
-    }
-    waiting >> count == 0
+    shown <= count && waiting >> count == 0
 }
 
 // A command in Busy alone, one that runs, and a length in Completed alone.
@@ -59,33 +46,24 @@ fn within(shown: u32, waiting: u32, count: u32) -> bool
 fn is_status(words: &[u32; 10]) -> bool
     ensures { result ≡ is_status words.now }
 {
-    if words[place::STATUS] == BUSY {
-        return is_busy(words);
+    match words[place::STATUS] {
+        BUSY => is_busy(words),
+        code => is_idle(words) && is_rest(code, words[place::LENGTH]),
     }
-    if !is_idle(words) {
-        return false;
-    }
-    is_rest(words[place::STATUS], words[place::LENGTH])
 }
 
 #[tactic(auto, using(basis::specs::Pick::tests), unfolding(crate::specs::Words::is_busy))]
 fn is_busy(words: &[u32; 10]) -> bool
     ensures { result ≡ is_busy words.now }
 {
-    if words[place::LENGTH] != 0 {
-        return false;
-    }
-    if words[place::NOTIFICATIONS] != 1 {
-        return false;
-    }
-    if 255 < words[place::RESET_TYPE] {
-        return false;
-    }
-    may_run(
-        words[place::CODE],
-        words[place::CONNECTOR],
-        words[place::CONNECTORS],
-    )
+    words[place::LENGTH] == 0
+        && words[place::NOTIFICATIONS] == 1
+        && words[place::RESET_TYPE] <= 255
+        && may_run(
+            words[place::CODE],
+            words[place::CONNECTOR],
+            words[place::CONNECTORS],
+        )
 }
 
 // A code that runs, and its connector, or 0 for none, among so many.
@@ -93,48 +71,32 @@ fn is_busy(words: &[u32; 10]) -> bool
 fn may_run(code: u32, connector: u32, count: u32) -> bool
     ensures { result ≡ may_run_of code connector count }
 {
-    if count < connector {
-        return false;
-    }
-    runs(code)
+    connector <= count && runs(code)
 }
 
 // The codes that the table has as Run, without a look into it.
 fn runs(code: u32) -> bool
     ensures { result ≡ code_runs code }
 {
-    if code == CONNECTOR_RESET {
-        return true;
-    }
-    if code == GET_CAPABILITY {
-        return true;
-    }
-    if code == GET_CONNECTOR_CAPABILITY {
-        return true;
-    }
-    code == GET_CONNECTOR_STATUS
+    matches!(
+        code,
+        CONNECTOR_RESET | GET_CAPABILITY | GET_CONNECTOR_CAPABILITY | GET_CONNECTOR_STATUS
+    )
 }
 
+#[tactic(auto, using(basis::specs::Pick::tests), unfolding(crate::specs::Words::is_rest))]
 fn is_rest(code: u32, length: u32) -> bool
     ensures { result ≡ is_rest code length }
 {
-    if code == COMPLETED {
-        return length <= 255;
+    match code {
+        COMPLETED => length <= 255,
+        _ => length == 0 && code <= ACKNOWLEDGED,
     }
-    if length != 0 {
-        return false;
-    }
-    code <= ACKNOWLEDGED
 }
 
+#[tactic(auto, using(basis::specs::Pick::tests), unfolding(crate::specs::Words::is_idle))]
 fn is_idle(words: &[u32; 10]) -> bool
     ensures { result ≡ is_idle words.now }
 {
-    if words[place::CODE] != 0 {
-        return false;
-    }
-    if words[place::CONNECTOR] != 0 {
-        return false;
-    }
-    words[place::RESET_TYPE] == 0
+    words[place::CODE] == 0 && words[place::CONNECTOR] == 0 && words[place::RESET_TYPE] == 0
 }

@@ -9,7 +9,7 @@ const COPIES: u64 = 0x0408_1020_4081;
 pub(crate) fn flags_of(bits: u32) -> [bool; 8]
     ensures { result ≡ flags_of bits }
 {
-    let spread = (bits % 128) as u64 * COPIES;
+    let spread = u64::from(bits % 128) * COPIES;
     [
         spread % 2 == 1,
         spread / 0x100 % 2 == 1,
@@ -26,14 +26,14 @@ pub(crate) fn flags_of(bits: u32) -> [bool; 8]
 pub(crate) fn bits_of(w: [bool; 8]) -> u32
     ensures { result ≡ bits_of w }
 {
-    let spread = w[0] as u64
-        | ((w[1] as u64) << 8)
-        | ((w[2] as u64) << 16)
-        | ((w[3] as u64) << 24)
-        | ((w[4] as u64) << 32)
-        | ((w[5] as u64) << 40)
-        | ((w[6] as u64) << 48)
-        | ((w[7] as u64) << 56);
+    let spread = u64::from(w[0])
+        | (u64::from(w[1]) << 8)
+        | (u64::from(w[2]) << 16)
+        | (u64::from(w[3]) << 24)
+        | (u64::from(w[4]) << 32)
+        | (u64::from(w[5]) << 40)
+        | (u64::from(w[6]) << 48)
+        | (u64::from(w[7]) << 56);
     let pairs = spread | (spread >> 7);
     let fours = pairs | (pairs >> 14);
     let all = fours | (fours >> 28);

@@ -55,13 +55,13 @@ pub(crate) fn store(words: &mut [u32; 10], state: State)
     let status = state.status;
     let command = running(status);
     let waiting = state.changes.waiting;
-    words[place::SHOWN] = state.changes.shown as u32;
+    words[place::SHOWN] = u32::from(state.changes.shown);
     words[place::WAITING] = bits_of(waiting);
     words[place::NOTIFICATIONS] = on_of(notifications);
-    words[place::MASK] = mask_of(notifications) as u32;
+    words[place::MASK] = u32::from(mask_of(notifications));
     words[place::STATUS] = status_code(status);
-    words[place::LENGTH] = data_length(status) as u32;
-    words[place::CODE] = command.code as u32;
-    words[place::CONNECTOR] = command.connector as u32;
-    words[place::RESET_TYPE] = command.reset_type as u32;
+    words[place::LENGTH] = u32::from(data_length(status));
+    words[place::CODE] = u32::from(command.code);
+    words[place::CONNECTOR] = u32::from(command.connector);
+    words[place::RESET_TYPE] = u32::from(command.reset_type);
 }

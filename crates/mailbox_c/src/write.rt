@@ -2,10 +2,7 @@
 ghost use Rattle.std.specs.Prelude.{◌≡◌};
 ghost use Rattle.mailbox_c.specs.Calls.{mailbox_called, harsolvek_mailbox_write};
 
-use crate::NO_MAILBOX;
-use crate::carry::carry_out;
-use crate::test::is_mailbox;
-use crate::words::state_at;
+use crate::event::event;
 
 #[tactic(auto, unfolding(basis::specs::Pick::pick))]
 #[unsafe(no_mangle)]
@@ -16,10 +13,6 @@ pub extern "C" fn harsolvek_mailbox_write_raw(
 ) -> u64
     ensures { mailbox_called result words.new message_in.new ≡ harsolvek_mailbox_write words.old message_in.old control.now }
 {
-    if !is_mailbox(words) {
-        return NO_MAILBOX;
-    }
-    let state = state_at(words);
-    let step = mailbox::write_step(state, control);
-    carry_out(words, message_in, step, b"")
+    let decide = |state| mailbox::write_step(state, control);
+    event(words, message_in, b"", decide)
 }

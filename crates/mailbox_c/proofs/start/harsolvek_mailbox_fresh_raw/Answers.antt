@@ -4,7 +4,7 @@ use Rattle.mailbox_c.proofs.start.harsolvek_mailbox_fresh_raw.Goals as goal
 
 pub returns-then-number-ne0 : goal.returns-then-number-ne0
 returns-then-number-ne0 c =
-    fresh_refuses c.args.connectors _ (c.connectors_number-number.ensures ∙ rw c.to_byte.ensures) c.if-number-ne0.true
+    rw c.from.ensures (fresh_refuses c.args.connectors _ (c.connectors_number-number.ensures ∙ rw c.to_byte.ensures) c.if-number-ne0.true)
 
 pub returns : goal.returns
 returns c = fresh_makes c.args.connectors _ (c.connectors_number-number.ensures ∙ rw c.to_byte.ensures) c.if-number-ne0.false

@@ -1,17 +1,15 @@
-use Rattle.std.proofs.Common.{sym}
-use Rattle.mailbox_c.proofs.Codes.{runs_3, runs_6, runs_7, runs_18}
+use Rattle.std.proofs.Common.{arith}
+use Rattle.mailbox_c.proofs.Codes.{runs_alone, runs_pair, runs_none}
 use Rattle.mailbox_c.proofs.test.runs.Goals as goal
 
-pub returns-then-code-eq-CONNECTOR_RESET : goal.returns-then-code-eq-CONNECTOR_RESET
-returns-then-code-eq-CONNECTOR_RESET c = sym (runs_3 _ c.if-code-eq-CONNECTOR_RESET.true)
+pub returns-in_default : goal.returns-in_default
+returns-in_default c = runs_none _ (λ e. grind arith) (λ e. grind arith) (λ e. grind arith) (λ e. grind arith)
 
-pub returns-then-code-eq-GET_CAPABILITY : goal.returns-then-code-eq-GET_CAPABILITY
-returns-then-code-eq-GET_CAPABILITY c = sym (runs_6 _ c.if-code-eq-GET_CAPABILITY.true)
+pub returns-in_default-2 : goal.returns-in_default-2
+returns-in_default-2 c = runs_none _ (λ e. grind arith) (λ e. grind arith) (λ e. grind arith) (λ e. grind arith)
 
-pub returns-then-code-eq-GET_CONNECTOR_CAPABILITY : goal.returns-then-code-eq-GET_CONNECTOR_CAPABILITY
-returns-then-code-eq-GET_CONNECTOR_CAPABILITY c = sym (runs_7 _ c.if-code-eq-GET_CONNECTOR_CAPABILITY.true)
+pub returns-in-3 : goal.returns-in-3
+returns-in-3 c = runs_alone _ c.in-3.is
 
-pub returns : goal.returns
-returns c =
-    sym
-    (runs_18 _ c.if-code-eq-CONNECTOR_RESET.false c.if-code-eq-GET_CAPABILITY.false c.if-code-eq-GET_CONNECTOR_CAPABILITY.false)
+pub returns-in-3-2 : goal.returns-in-3-2
+returns-in-3-2 c = runs_pair _ (omega arith) (omega arith)

@@ -8,5 +8,6 @@ pub returns : goal.returns
 unfolding bits_of spell
 returns c =
     let w = c.args.w in
-    gathers (get_or w 0 false) (get_or w 1 false) (get_or w 2 false) (get_or w 3 false) (get_or w 4 false) (get_or w 5 false) (get_or w 6 false) (get_or w 7 false)
-    ∙ sym (ap bits_of (spelled_all false 8 w (search rules)))
+    rw (c.from.ensures, c.from-2.ensures, c.from-3.ensures, c.from-4.ensures, c.from-5.ensures, c.from-6.ensures, c.from-7.ensures, c.from-8.ensures)
+    (gathers (get_or w 0 false) (get_or w 1 false) (get_or w 2 false) (get_or w 3 false) (get_or w 4 false) (get_or w 5 false) (get_or w 6 false) (get_or w 7 false)
+    ∙ sym (ap bits_of (spelled_all false 8 w (search rules))))

@@ -11,4 +11,4 @@ flags_of_spec =
     (tie.spec
     (λ c. search rules)
     (λ c. search rules)
-    (λ c. rw (flag_0 c.args.bits, flag_1 c.args.bits, flag_2 c.args.bits, flag_3 c.args.bits, flag_4 c.args.bits, flag_5 c.args.bits, flag_6 c.args.bits)))
+    (λ c. rw (c.from-spread.ensures, flag_0 c.args.bits, flag_1 c.args.bits, flag_2 c.args.bits, flag_3 c.args.bits, flag_4 c.args.bits, flag_5 c.args.bits, flag_6 c.args.bits)))
