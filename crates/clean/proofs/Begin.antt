@@ -12,8 +12,7 @@ use Rattle.basis.specs.Pick.{pick, pick_all}
 use Rattle.basis.specs.Left.{Left, left}
 use Rattle.silence.specs.Settings.{settings_of}
 use Rattle.silence.specs.declared.Settings.{Settings}
-use Rattle.silence.specs.declared.Checked.{Checked}
-use Rattle.silence.specs.declared.Checked.TheVariants as Che
+use Rattle.silence.specs.Settings.{Checked}
 use Rattle.lent.specs.Sent.{with_sent}
 use Rattle.wire.specs.Codes.{longest}
 use Rattle.wire.specs.declared.response.Identity.{Identity}
@@ -37,18 +36,19 @@ use Rattle.clean.specs.Turn.{ends_underway}
 use Rattle.clean.specs.On.{clean_world, On}
 use Rattle.clean.specs.declared.ran.Ran.TheVariants.{FileSize}
 use Rattle.clean.proofs.On.{one_goes}
+use Rattle.std.specs.Prelude.{Ok, Err}
 
-made_checked : (identity : Identity) (capacity : ℕ) (r : Receiver) (x : Checked) → receiver_fresh_of x identity capacity ≡ Rec.Made r → (s : Settings) × (x ≡ Che.Made s)
+made_checked : (identity : Identity) (capacity : ℕ) (r : Receiver) (x : Checked) → receiver_fresh_of x identity capacity ≡ Rec.Made r → (s : Settings) × (x ≡ Ok s)
 unfolding receiver_fresh_of
-made_checked identity capacity r (Che.Made s) e = (s, refl)
-made_checked identity capacity r Che.Refused e = absurd (refused_made r e)
+made_checked identity capacity r (Ok s) e = (s, refl)
+made_checked identity capacity r (Err refusal) e = absurd (refused_made r e)
 
 -- Settings that made a receiver are within the limits.
 made_settings : (limit resends : ℕ) (identity : Identity) (capacity : ℕ) (r : Receiver) → receiver_start_of limit resends identity capacity ≡ Rec.Made r
-    → (s : Settings) × (settings_of limit resends ≡ Che.Made s)
+    → (s : Settings) × (settings_of limit resends ≡ Ok s)
 unfolding receiver_start_of
 made_settings limit resends identity capacity r =
-    pick_all (λ (x : ReceiverStarted). x ≡ Rec.Made r → (s : Settings) × (settings_of limit resends ≡ Che.Made s)) (ltb image_size_most capacity) _ _
+    pick_all (λ (x : ReceiverStarted). x ≡ Rec.Made r → (s : Settings) × (settings_of limit resends ≡ Ok s)) (ltb image_size_most capacity) _ _
     (λ _ e. absurd (refused_made r e))
     (λ _. made_checked identity capacity r (settings_of limit resends))
 

@@ -12,8 +12,7 @@ use lib.Seq.{take-append_seam}
 use Rattle.basis.specs.Pick.{pick, pick_all}
 use Rattle.basis.specs.Left.{Left, left}
 use Rattle.silence.specs.Settings as silent
-use Rattle.silence.specs.declared.Checked.{Checked}
-use Rattle.silence.specs.declared.Checked.TheVariants as Che
+use Rattle.silence.specs.Settings.{Checked}
 use Rattle.silence.specs.Within.{Within}
 use Rattle.silence.proofs.Laws.{within_made, made_within, outside_29}
 use Rattle.image.specs.Blocks.{blocks_of}
@@ -28,6 +27,7 @@ use Rattle.indoor_rules.proofs.Compared.{Newer, newer_only, newer_yes, newer_no}
 use Rattle.clean.specs.Run.{clean_number_of, transferred_of, clean_carried_of, clean_begun_of, checked_of, clean_run_of}
 use Rattle.clean.specs.declared.ran.Ran.{Ran}
 use Rattle.clean.specs.declared.ran.Ran.TheVariants.{Settings, FileSize, Ended}
+use Rattle.std.specs.Prelude.{Ok, Err}
 
 -- 01, Numbers we answer: 29, 46, 42, 43, and 0 where the session ends done.
 pub ran_rows : (requests : ℕ) →
@@ -58,8 +58,8 @@ module _ (limit resends : ℕ) (identity : Identity) (release : Release) (file i
 
   refused : (x : Checked) → silent.settings_number_of x ≡ 29 → checked_of x release identity file image ≡ left Settings image
   unfolding checked_of
-  refused (Che.Made settings) e = absurd (omega arith)
-  refused Che.Refused e = refl
+  refused (Ok settings) e = absurd (omega arith)
+  refused (Err refusal) e = refl
 
   pub run_29_settings : (Within limit resends → ⊥) → ran ≡ left Settings image
   unfolding clean_run_of
@@ -145,8 +145,8 @@ module _ (limit resends : ℕ) (identity : Identity) (release : Release) (file i
 
   checked_only : (x : Checked) → silent.settings_of limit resends ≡ x → length image ≤ image_size_most → Only (checked_of x release identity file image)
   unfolding checked_of
-  checked_only (Che.Made settings) e room = begun_only (made_within limit resends settings e) room
-  checked_only Che.Refused e room = λ requests d. absurd (settings_done requests d)
+  checked_only (Ok settings) e room = begun_only (made_within limit resends settings e) room
+  checked_only (Err refusal) e room = λ requests d. absurd (settings_done requests d)
 
   -- No other session ends done.
   pub done_only : Only ran

@@ -8,8 +8,7 @@ use lib.ListN.{length}
 use Rattle.basis.specs.Pick.{pick}
 use Rattle.basis.specs.Left.{left}
 use Rattle.silence.specs.Settings.{settings_of}
-use Rattle.silence.specs.declared.Checked.{Checked}
-use Rattle.silence.specs.declared.Checked.TheVariants as Che
+use Rattle.silence.specs.Settings.{Checked}
 use Rattle.wire.specs.declared.response.Identity.{Identity}
 use Rattle.wire.specs.Codes.{image_size_most}
 use Rattle.receiver_rules.specs.Session.{receiver_fresh_of, receiver_start_of}
@@ -19,12 +18,13 @@ use Rattle.receiver_rules.proofs.Fresh.{refused_made, start_fresh}
 use Rattle.indoor_state.specs.declared.plan.Release.{Release}
 use Rattle.clean.specs.Run.{clean_begun_of, checked_of, clean_run_of}
 use Rattle.clean.specs.declared.ran.Ran.TheVariants.{Settings}
+use Rattle.std.specs.Prelude.{Ok, Err}
 
 module _ (limit resends : ℕ) (identity : Identity) (release : Release) (file memory : List ℕ) where
   checked_29 : (x : Checked) → receiver_fresh_of x identity (length memory) ≡ Refused → left Settings memory ≡ checked_of x release identity file memory
   unfolding receiver_fresh_of checked_of
-  checked_29 (Che.Made s) e = absurd (refused_made _ (sym e))
-  checked_29 Che.Refused e = refl
+  checked_29 (Ok s) e = absurd (refused_made _ (sym e))
+  checked_29 (Err refusal) e = refl
 
   tested_29 : (t : Bool) → ltb image_size_most (length memory) ≡ t → pick t Refused (receiver_fresh_of (settings_of limit resends) identity (length memory)) ≡ Refused
       → left Settings memory ≡ clean_run_of limit resends identity release file memory
@@ -38,8 +38,8 @@ module _ (limit resends : ℕ) (identity : Identity) (release : Release) (file m
 
   checked_begun : (r : Receiver) (x : Checked) → receiver_fresh_of x identity (length memory) ≡ Made r → clean_begun_of release identity file memory ≡ checked_of x release identity file memory
   unfolding receiver_fresh_of checked_of
-  checked_begun r (Che.Made s) e = refl
-  checked_begun r Che.Refused e = absurd (refused_made r e)
+  checked_begun r (Ok s) e = refl
+  checked_begun r (Err refusal) e = absurd (refused_made r e)
 
   tested_begun : (r : Receiver) (t : Bool) → ltb image_size_most (length memory) ≡ t → pick t Refused (receiver_fresh_of (settings_of limit resends) identity (length memory)) ≡ Made r
       → clean_begun_of release identity file memory ≡ clean_run_of limit resends identity release file memory

@@ -9,7 +9,6 @@ use Rattle.basis.specs.Pick.{pick}
 use Rattle.wire.specs.Header.{headed}
 use Rattle.wire.specs.Request as message
 use Rattle.wire.specs.declared.request.Request.{Request}
-use Rattle.wire.specs.declared.request.Parsed.TheVariants.{Valid}
 use Rattle.receiver_state.specs.declared.verdict.Verdict.{Verdict}
 use Rattle.receiver_state.specs.declared.verdict.Verdict.TheVariants as Ver
 use Rattle.receiver_rules.specs.Request.{Effect, effect, receiver_request_of}
@@ -20,6 +19,7 @@ use Rattle.receiver_rules.proofs.Written.{request_within}
 use Rattle.indoor_state.specs.declared.session.Indoor.{Indoor}
 use Rattle.clean.specs.Turn.{ends_underway, answered, answer_of, turned, turned_of, delivered_of, clean_turn_of}
 use Rattle.clean.specs.declared.ends.Ends.{Ends}
+use Rattle.std.specs.Prelude.{Ok}
 
 -- The receiver never writes more bytes than its buffer has, whatever the request is.
 pub answer_fits : (r : Receiver) (image request : List ℕ) (readiness : ℕ) (verdict : Verdict) (down : List ℕ) (heard : Outcome) (image' down' : List ℕ)
@@ -36,7 +36,7 @@ delivers e file image up down heard image' down' did e' up' answers =
     ap (turned_of (effect heard image' down')) answers
     ∙ ap (λ (x : Effect). turned_of x (answer_of x.outcome.session e.indoor file up x.out x.outcome.written)) did
 
-none_read : (q : Request) → message.parsed_request_of [] ≡ Valid q → ⊥
+none_read : (q : Request) → message.parsed_request_of [] ≡ Ok q → ⊥
 unfolding message.parsed_request_of headed pick
 none_read q e = let z : ◌≡◌ {A = ℕ} 0 1 = cc in omega arith
 

@@ -5,8 +5,7 @@ use Rattle.basis.specs.Pick.{pick}
 use Rattle.basis.specs.Left.{Left, left}
 use Rattle.lent.specs.Written.{written_into}
 use Rattle.silence.specs.Settings.{settings_of}
-use Rattle.silence.specs.declared.Checked.{Checked}
-use Rattle.silence.specs.declared.Checked.TheVariants as Che
+use Rattle.silence.specs.Settings.{Checked}
 use Rattle.image.specs.Blocks.{blocks_of}
 use Rattle.wire.specs.declared.response.Identity.{Identity}
 use Rattle.wire.specs.Codes.{image_size_most}
@@ -18,6 +17,7 @@ use Rattle.indoor_state.specs.declared.phase.Phase.TheVariants.{Identify, Initia
 use Rattle.indoor_rules.specs.Newer.{newer_of}
 use Rattle.clean.specs.declared.ran.Ran.{Ran}
 use Rattle.clean.specs.declared.ran.Ran.TheVariants.{Settings, FileSize, Ended}
+use Rattle.std.specs.Prelude.{Ok, Err}
 
 -- 01, Numbers we answer; 0 where the indoor end has not failed
 abbrev pub phase_number : Phase → ℕ
@@ -54,8 +54,8 @@ clean_begun_of release identity file image =
 
 -- 29
 unfoldable pub checked_of : Checked → Release → Identity → List ℕ → List ℕ → Left Ran
-checked_of (Che.Made settings) release identity file image = clean_begun_of release identity file image
-checked_of Che.Refused release identity file image = left Settings image
+checked_of (Ok settings) release identity file image = clean_begun_of release identity file image
+checked_of (Err refusal) release identity file image = left Settings image
 
 unfoldable pub clean_run_of : ℕ → ℕ → Identity → Release → List ℕ → List ℕ → Left Ran
 clean_run_of limit resends identity release file image =

@@ -4,9 +4,9 @@ use Rattle.basis.specs.Left.{left}
 use Rattle.basis.specs.Lists.{take_own}
 use Rattle.lent.specs.Put.{pasted}
 use Rattle.lent.proofs.Laws.{put_fits, put_passes, pasted_there}
-use Rattle.lent.specs.declared.Placed.TheVariants.{Stored, NoRoom}
 use Rattle.image.specs.Blocks.{blocks_of, block_passes_of, put_block_of, block_at}
 use Rattle.image.specs.Sum.{total, sum_of}
+use Rattle.lent.specs.Put.{no_room, stored}
 
 -- n is the least whole number with 256·n ≥ L.
 pub enough : (len : ℕ) → len ≤ 256 * blocks_of len
@@ -57,11 +57,11 @@ module _ (file : List ℕ) where
 
 -- A block that does not pass the capacity is stored: after it, the image begins with what was before its place and then the block.
 module _ (image : List ℕ) (number : ℕ) (block : List ℕ) where
-  pub block_stored : block_passes_of number (length block) (length image) ≡ false → put_block_of image number block ≡ left Stored (pasted image (256 * number) block)
+  pub block_stored : block_passes_of number (length block) (length image) ≡ false → put_block_of image number block ≡ left stored (pasted image (256 * number) block)
   unfolding block_passes_of
   block_stored h = put_fits image (256 * number) block (ltb-false (length image) (256 * number + length block) h)
 
-  pub block_refused : block_passes_of number (length block) (length image) ≡ true → put_block_of image number block ≡ left NoRoom image
+  pub block_refused : block_passes_of number (length block) (length image) ≡ true → put_block_of image number block ≡ left no_room image
   unfolding block_passes_of
   block_refused h = put_passes image (256 * number) block (ltb-true (length image) (256 * number + length block) h)
 

@@ -4,7 +4,7 @@ use Rattle.basis.specs.Left.{left}
 use Rattle.basis.specs.Only.{only}
 use Rattle.image.specs.Blocks.{blocks_of, place_of, block_passes_of, put_block_of, block_at}
 use Rattle.image.specs.Sum.{sum_of}
-use Rattle.lent.specs.declared.Placed.{Placed}
+use Rattle.lent.specs.Put.{Placed}
 
 pub one_blocks_in : (len r r' : ℕ)
     → r ≡ blocks_of len

@@ -2,7 +2,7 @@
 use Rattle.std.specs.Prelude.{ℕ, ◌+◌, ◌*◌, ◌/◌, Bool, List, take, drop, nat_lt}
 use Rattle.basis.specs.Left.{Left}
 use Rattle.lent.specs.Put.{put_of}
-use Rattle.lent.specs.declared.Placed.{Placed}
+use Rattle.lent.specs.Put.{Placed}
 
 abbrev pub block_size : ℕ
 block_size = 256

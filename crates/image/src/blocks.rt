@@ -3,7 +3,7 @@ ghost use Rattle.std.specs.Prelude.{◌≡◌};
 ghost use Rattle.basis.specs.Left.{left};
 ghost use Rattle.image.specs.Blocks.{blocks_of, place_of, block_passes_of, put_block_of, block_at};
 
-use lent::Placed;
+use lent::NoRoom;
 
 // The bytes of a block (001 T5-8); a file's last may have fewer.
 pub const BLOCK: usize = 256;
@@ -11,16 +11,13 @@ pub const BLOCK: usize = 256;
 pub fn blocks_in(len: usize) -> usize
     ensures { result ≡ blocks_of len }
 {
-    if len % BLOCK == 0 {
-        return len / BLOCK;
-    }
-    len / BLOCK + 1
+    len.div_ceil(BLOCK)
 }
 
 pub fn place_of(number: u16) -> usize
     ensures { result ≡ place_of number }
 {
-    BLOCK * (number as usize)
+    BLOCK * usize::from(number)
 }
 
 // The end of the block is never added up, since a large size could wrap it.
@@ -37,7 +34,7 @@ pub fn passes(number: u16, size: usize, capacity: usize) -> bool
     false
 }
 
-pub fn put_block(image: &mut [u8], number: u16, block: &[u8]) -> Placed
+pub fn put_block(image: &mut [u8], number: u16, block: &[u8]) -> Result<(), NoRoom>
     ensures { left result image.new ≡ put_block_of image.old number block.now }
 {
     let at = place_of(number);

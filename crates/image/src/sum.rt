@@ -6,10 +6,8 @@ fn sum_all(bytes: &[u8]) -> u16
     ensures { result ≡ sum_of bytes.now }
 {
     let mut sum: u16 = 0;
-    let mut i = 0;
-    while i < bytes.len() {
-        sum = std::num::wrapping_add_u16(sum, bytes[i] as u16);
-        i += 1;
+    for byte in bytes {
+        sum = sum.wrapping_add(u16::from(*byte));
     }
     sum
 }
@@ -18,8 +16,5 @@ fn sum_all(bytes: &[u8]) -> u16
 pub fn sum_first(image: &[u8], accepted: usize) -> u16
     ensures { result ≡ sum_of (take accepted image.now) }
 {
-    if image.len() < accepted {
-        return sum_all(image);
-    }
-    sum_all(&image[..accepted])
+    sum_all(&image[..accepted.min(image.len())])
 }

@@ -14,8 +14,7 @@ use Rattle.basis.specs.Left.{Left, left}
 use Rattle.silence.specs.Within.{Within}
 use Rattle.silence.specs.Settings.{settings_of}
 use Rattle.silence.specs.declared.Settings as silence
-use Rattle.silence.specs.declared.Checked.{Checked}
-use Rattle.silence.specs.declared.Checked.TheVariants as Che
+use Rattle.silence.specs.Settings.{Checked}
 use Rattle.silence.proofs.Laws.{made_within, within_made}
 use Rattle.wire.specs.Codes.{longest, image_size_most}
 use Rattle.indoor_state.specs.Answer.{indoor_number_of}
@@ -41,12 +40,13 @@ use Rattle.indoor_c.specs.declared.phase_words.PhaseWords.{PhaseWords}
 use Rattle.indoor_c.proofs.Sessions.{session_valid}
 use Rattle.indoor_c.proofs.Inverse.{words_back, silence_back, resends_back, limit_back, allowed_back, words_session, laid_session, laid_back, laid_same}
 use Rattle.indoor_c.proofs.Widths.{response_fits, time_fits}
+use Rattle.std.specs.Prelude.{Ok, Err}
 
-made_same : (a b : silence.Settings) → Che.Made a ≡ Che.Made b → a ≡ b
+made_same : (a b : silence.Settings) → Ok a ≡ Ok b → a ≡ b
 made_same a b e = cc
 
 -- Settings that were made are within the limits.
-within_own : (limit resends : ℕ) (settings : silence.Settings) → settings_of limit resends ≡ Che.Made settings → Within settings.limit settings.resends
+within_own : (limit resends : ℕ) (settings : silence.Settings) → settings_of limit resends ≡ Ok settings → Within settings.limit settings.resends
 within_own limit resends settings e =
     let within = made_within limit resends settings e in
     subst (λ (s : silence.Settings). Within s.limit s.resends) (made_same _ settings (sym (within_made limit resends within) ∙ e)) within
@@ -73,8 +73,8 @@ module _ (release : Release) (file out : List ℕ) where
 
   checked_begins : (limit resends : ℕ) (x : Checked) → settings_of limit resends ≡ x → Began (indoor_started_of x release file out)
   unfolding indoor_started_of
-  checked_begins limit resends (Che.Made settings) e = begins settings (within_own limit resends settings e)
-  checked_begins limit resends Che.Refused e = λ z. absurd (omega arith)
+  checked_begins limit resends (Ok settings) e = begins settings (within_own limit resends settings e)
+  checked_begins limit resends (Err refusal) e = λ z. absurd (omega arith)
 
 -- A start that is taken leaves the words of its session; a refused one leaves zeros, its number, and the buffer as it was.
 module _ (settings release file out : List ℕ) where

@@ -9,8 +9,7 @@ use lib.Dec.{eqb, ltb}
 use Rattle.basis.specs.Pick.{pick, pick_all, pick_yes, pick_both, tests}
 use Rattle.silence.specs.Within.{Within}
 use Rattle.silence.specs.Settings.{settings_of, settings_number_of}
-use Rattle.silence.specs.declared.Checked.{Checked}
-use Rattle.silence.specs.declared.Checked.TheVariants as Che
+use Rattle.silence.specs.Settings.{Checked}
 use Rattle.silence.proofs.Laws.{made_within, within_made}
 use Rattle.wire.specs.Codes.{image_size_most}
 use Rattle.width.specs.Words.{word_at}
@@ -18,6 +17,7 @@ use Rattle.indoor_c.specs.PhaseWords.{is_transfer_phase, is_failed_phase, is_pla
 use Rattle.indoor_c.specs.Words.{phase_words_at, is_indoor_session, no_words}
 use Rattle.indoor_c.specs.Valid.{IndoorPhaseValid, IndoorSessionValid}
 use Rattle.indoor_c.specs.declared.phase_words.PhaseWords.{PhaseWords}
+use Rattle.std.specs.Prelude.{Ok, Err}
 
 -- A choice that is false under its test.
 pub refused_both : (t a : Bool) → pick t false a ≡ true → (t ≡ false) × (a ≡ true)
@@ -156,8 +156,8 @@ module _ (p : PhaseWords) where
       (λ f. valid_plain s (eqb-false p.phase 2 u) (eqb-false p.phase 5 f)))
 
 checked_within : (limit resends : ℕ) (x : Checked) → settings_of limit resends ≡ x → settings_number_of x ≡ 0 → Within limit resends
-checked_within limit resends (Che.Made s) p e = made_within limit resends s p
-checked_within limit resends Che.Refused p e = absurd (omega arith)
+checked_within limit resends (Ok s) p e = made_within limit resends s p
+checked_within limit resends (Err refusal) p e = absurd (omega arith)
 
 pub session_valid : (w : List ℕ) → is_indoor_session w ≡ true → IndoorSessionValid w
 unfolding is_indoor_session

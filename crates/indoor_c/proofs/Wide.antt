@@ -9,7 +9,7 @@ use lib.Dec.{eqb, ltb}
 use Rattle.basis.specs.Pick.{pick, pick_all, pick_no}
 use Rattle.silence.specs.Settings.{settings_of}
 use Rattle.silence.specs.Expiry.{grown_of}
-use Rattle.silence.specs.declared.Checked.{Checked}
+use Rattle.silence.specs.Settings.{Checked}
 use Rattle.silence.proofs.Laws.{many_limits}
 use Rattle.indoor_state.specs.declared.plan.Release.{Release}
 use Rattle.indoor_state.specs.declared.plan.Plan.{Plan}

@@ -15,8 +15,7 @@ use Rattle.wire.specs.Header.{headed}
 use Rattle.wire.specs.Response.{identified_in, initiated_in, receipt_in, validated_in, response_of_type, parsed_response_of}
 use Rattle.wire.specs.declared.response.Response.{Response}
 use Rattle.wire.specs.declared.response.Response.TheVariants as Res
-use Rattle.wire.specs.declared.response.Parsed.{Parsed}
-use Rattle.wire.specs.declared.response.Parsed.TheVariants.{Valid, Malformed}
+use Rattle.wire.specs.Response.{Parsed}
 use Rattle.wire.proofs.Halves.{bytes_word}
 use Rattle.indoor_state.specs.Phase.{indoor_state}
 use Rattle.indoor_state.specs.declared.plan.Plan.{Plan}
@@ -37,6 +36,8 @@ use Rattle.indoor_rules.specs.Time.{indoor_time_of}
 use Rattle.indoor_rules.proofs.Walk.{response_walk, time_walk}
 use Rattle.indoor_c.specs.PhaseWords.{phase_words_of}
 use Rattle.indoor_c.specs.Valid.{IndoorStateFits}
+use Rattle.std.specs.Prelude.{Ok}
+use Rattle.wire.specs.Header.{malformed}
 
 -- The numbers that a response of bytes can say.
 abbrev Says : Response → Type 0
@@ -47,8 +48,8 @@ Says (Res.Validate status wait success) = wait < 256
 Says Res.NotBuilt = Unit
 
 abbrev Reads : Parsed → Type 0
-Reads (Valid r) = Says r
-Reads Malformed = Unit
+Reads (Ok r) = Says r
+Reads malformed = Unit
 
 read_says : (m : List ℕ) → Bytes m → Reads (parsed_response_of m)
 unfolding parsed_response_of response_of_type identified_in initiated_in receipt_in validated_in

@@ -9,7 +9,6 @@ use Rattle.basis.specs.Left.{Left, left}
 use Rattle.lent.specs.Written.{written_into}
 use Rattle.wire.specs.Response as message
 use Rattle.wire.specs.declared.response.Response.{Response}
-use Rattle.wire.specs.declared.response.Parsed.TheVariants as Par
 use Rattle.indoor_rules.specs.Decide.{indoor_decide_of}
 use Rattle.indoor_rules.specs.Tick.{indoor_tick_of}
 use Rattle.indoor_state.specs.declared.answer.Answer.TheVariants.{Malformed, BufferShort, FileLength}
@@ -20,6 +19,8 @@ use Rattle.indoor_rules.specs.Time.{indoor_time_of}
 use Rattle.indoor_state.specs.declared.step.Step.{Step}
 use Rattle.indoor_state.specs.declared.session.Indoor.{Indoor}
 use Rattle.indoor_state.specs.declared.session.Outcome.{Outcome}
+use Rattle.std.specs.Prelude.{Ok}
+use Rattle.wire.specs.Header.{malformed}
 
 -- What a call returns and leaves of a step, each field under its own name.
 abbrev stepped : Indoor → List ℕ → List ℕ → Step → Left Outcome
@@ -41,12 +42,12 @@ module _ (s : Indoor) (file response out : List ℕ) where
     response_27 h = rw (eq_differ (length file) s.plan.length lent, lt-ltb (length out) 260 h)
 
     module _ (room : 260 ≤ length out) where
-      pub response_20 : message.parsed_response_of response ≡ Par.Malformed → indoor_response_of s file response out ≡ left (indoor_returns s Malformed 0) out
+      pub response_20 : message.parsed_response_of response ≡ malformed → indoor_response_of s file response out ≡ left (indoor_returns s Malformed 0) out
       unfolding indoor_response_of response_read_of pick
       response_20 e = rw (eq_differ (length file) s.plan.length lent, le-ltb (length out) 260 room, e)
 
       -- What is decided is handed on, and what is sent is in the buffer's first bytes.
-      pub response_step : (r : Response) → message.parsed_response_of response ≡ Par.Valid r
+      pub response_step : (r : Response) → message.parsed_response_of response ≡ Ok r
           → indoor_response_of s file response out ≡ stepped s file out (indoor_decide_of s.plan s.state r)
       unfolding indoor_response_of response_read_of pick
       response_step r e = rw (eq_differ (length file) s.plan.length lent, le-ltb (length out) 260 room, e)

@@ -8,8 +8,7 @@ use lib.ListN.{length, drop}
 use Rattle.basis.specs.Pick.{pick}
 use Rattle.basis.specs.Left.{left}
 use Rattle.silence.specs.Settings as silent
-use Rattle.silence.specs.declared.Checked.{Checked}
-use Rattle.silence.specs.declared.Checked.TheVariants as Che
+use Rattle.silence.specs.Settings.{Checked}
 use Rattle.silence.specs.Within.{Within}
 use Rattle.silence.proofs.Laws.{within_made, outside_29}
 use Rattle.wire.specs.Written.{request_bytes, bare_bytes}
@@ -20,12 +19,13 @@ use Rattle.indoor_rules.specs.Session.{indoor}
 use Rattle.indoor_rules.specs.Start.{indoor_plan, indoor_begin_of, indoor_started_of, indoor_start_of}
 use Rattle.indoor_state.specs.declared.session.Indoor.{Indoor}
 use Rattle.indoor_state.specs.declared.session.Started.TheVariants.{Made, Settings, FileSize, BufferShort}
+use Rattle.std.specs.Prelude.{Ok, Err}
 
 module _ (limit resends : ℕ) (release : Release) (file out : List ℕ) where
   refused : (x : Checked) → silent.settings_number_of x ≡ 29 → indoor_started_of x release file out ≡ left Settings out
   unfolding indoor_started_of
-  refused (Che.Made settings) e = absurd (omega arith)
-  refused Che.Refused e = refl
+  refused (Ok settings) e = absurd (omega arith)
+  refused (Err refusal) e = refl
 
   -- 29 whatever the file and the buffer are
   pub start_29 : (Within limit resends → ⊥) → indoor_start_of limit resends release file out ≡ left Settings out

@@ -7,7 +7,6 @@ use lib.ListN.{length}
 use Rattle.basis.specs.Left.{left}
 use Rattle.lent.specs.Written.{written_into}
 use Rattle.lent.specs.Put.{put_of}
-use Rattle.lent.specs.declared.Placed.TheVariants.{Stored}
 use Rattle.lent.proofs.Laws.{two_written}
 use Rattle.image.specs.Blocks.{block_at}
 use Rattle.image.proofs.Laws.{block_length}
@@ -15,6 +14,7 @@ use Rattle.wire.specs.Codes.{longest}
 use Rattle.wire.specs.Written.{request_bytes, head_bytes}
 use Rattle.wire.specs.declared.request.Request.TheVariants as Req
 use Rattle.indoor_rules.specs.Send.{block_bytes}
+use Rattle.lent.specs.Put.{stored}
 
 module _ (file : List ℕ) (number : ℕ) where
   pub block_most : length (block_at file number) ≤ 256
@@ -28,7 +28,7 @@ module _ (file : List ℕ) (number : ℕ) where
 
   pub block_written : (out : List ℕ) → longest ≤ length out
       → put_of (written_into (request_bytes (Req.Data number (length (block_at file number)))) out) (length (request_bytes (Req.Data number (length (block_at file number))))) (block_at file number)
-      ≡ left Stored (written_into (block_bytes file number) out)
+      ≡ left stored (written_into (block_bytes file number) out)
   unfolding block_bytes
   block_written out room =
       let four = head_four (length (block_at file number)) in

@@ -8,7 +8,6 @@ use native.Mathlib.Omega.{arith}
 use Rattle.wire.specs.Response as message
 use Rattle.wire.specs.declared.response.Response.{Response}
 use Rattle.wire.specs.declared.response.Response.TheVariants as Res
-use Rattle.wire.specs.declared.response.Parsed.TheVariants.{Valid}
 use Rattle.indoor_rules.specs.Step.{empty_number}
 use Rattle.indoor_rules.specs.Decide.{indoor_decide_of}
 use Rattle.indoor_rules.specs.Tick.{indoor_tick_of}
@@ -25,19 +24,20 @@ use Rattle.indoor_rules.specs.Response.{indoor_response_of}
 use Rattle.indoor_rules.specs.Time.{indoor_time_of}
 use Rattle.indoor_state.specs.declared.session.Indoor.{Indoor}
 use Rattle.indoor_rules.proofs.Walk.{response_walk, time_walk}
+use Rattle.std.specs.Prelude.{Ok}
 
 -- In Validate, in a wait or not, and a VALIDATE response with status OK, wait 0 and the success bit.
 pub record Succeeds (before : Phase) (response : List ℕ) : Type 0 where
   pub left : ℕ
   pub validate : before ≡ Validate left
-  pub parsed : message.parsed_response_of response ≡ Valid (Res.Validate 0x00 0 true)
+  pub parsed : message.parsed_response_of response ≡ Ok (Res.Validate 0x00 0 true)
 
 -- In Transfer with the empty block sent, and a DATA response with WaitTime 255 and the number n.
 pub record Closes (plan : Plan) (before : Phase) (response : List ℕ) : Type 0 where
   pub progress : Progress
   pub transfer : before ≡ Transfer progress
   pub emptied : progress.emptied ≡ true
-  pub parsed : message.parsed_response_of response ≡ Valid (Res.Data 0x00 255 (empty_number plan))
+  pub parsed : message.parsed_response_of response ≡ Ok (Res.Data 0x00 255 (empty_number plan))
 
 abbrev pub Validating : Phase → Type 0
 Validating Identify = ⊥
@@ -47,19 +47,19 @@ Validating (Validate left) = Unit
 Validating Done = ⊥
 Validating (Failed reason) = ⊥
 
-module _ (response : List ℕ) (r : Response) (e : message.parsed_response_of response ≡ Valid r) where
+module _ (response : List ℕ) (r : Response) (e : message.parsed_response_of response ≡ Ok r) where
   to_done : (before : Phase) → ToDone before r → (before ≡ Done) ⊎ Succeeds before response
   to_done Identify h = absurd h
   to_done (Initiate left) h = absurd h
   to_done (Transfer p) h = absurd h
-  to_done (Validate left) h = inr (record { left = left; validate = refl; parsed = e ∙ ap (λ x. Valid x) h })
+  to_done (Validate left) h = inr (record { left = left; validate = refl; parsed = e ∙ ap (λ x. Ok x) h })
   to_done Done h = inl refl
   to_done (Failed reason) h = absurd h
 
   to_validate : (plan : Plan) (before : Phase) → ToValidate plan before r → Validating before ⊎ Closes plan before response
   to_validate plan Identify h = absurd h
   to_validate plan (Initiate left) h = absurd h
-  to_validate plan (Transfer p) h = inr (record { progress = p; transfer = refl; emptied = h.0; parsed = e ∙ ap (λ x. Valid x) h.1 })
+  to_validate plan (Transfer p) h = inr (record { progress = p; transfer = refl; emptied = h.0; parsed = e ∙ ap (λ x. Ok x) h.1 })
   to_validate plan (Validate left) h = inl tt
   to_validate plan Done h = absurd h
   to_validate plan (Failed reason) h = absurd h

@@ -10,8 +10,7 @@ use Rattle.basis.specs.Pick.{pick_all}
 use Rattle.basis.specs.Left.{Left, left}
 use Rattle.silence.specs.Settings.{settings_of}
 use Rattle.silence.specs.declared.Settings.{Settings}
-use Rattle.silence.specs.declared.Checked.{Checked}
-use Rattle.silence.specs.declared.Checked.TheVariants as Che
+use Rattle.silence.specs.Settings.{Checked}
 use Rattle.silence.proofs.Laws.{made_some}
 use Rattle.wire.specs.Codes.{longest, image_size_most}
 use Rattle.wire.specs.Written.{request_bytes, bare_bytes}
@@ -21,6 +20,7 @@ use Rattle.indoor_rules.specs.Start.{indoor_begin_of, indoor_started_of, indoor_
 use Rattle.indoor_state.specs.declared.session.Indoor.{Indoor}
 use Rattle.indoor_state.specs.declared.session.Started.{Started}
 use Rattle.indoor_state.specs.declared.session.Started.TheVariants as Sta
+use Rattle.std.specs.Prelude.{Ok, Err}
 
 pub record Fresh (release : Release) (file : List ℕ) (s : Indoor) (first : List ℕ) : Type 0 where
   pub offered : s.plan.release ≡ release
@@ -51,10 +51,10 @@ module _ (release : Release) (file out : List ℕ) where
       pick_all B (ltb (length out) longest) _ _ (λ _. tt)
       (λ _. record { offered = refl; lent = refl; some = omega arith; most = omega arith; identify = refl; written = refl; below = omega arith })))
 
-  checked_fresh : (x : Checked) → ((s : Settings) → x ≡ Che.Made s → 1 ≤ s.limit) → B (indoor_started_of x release file out)
+  checked_fresh : (x : Checked) → ((s : Settings) → x ≡ Ok s → 1 ≤ s.limit) → B (indoor_started_of x release file out)
   unfolding indoor_started_of
-  checked_fresh (Che.Made settings) some = begin_fresh settings (some settings refl)
-  checked_fresh Che.Refused some = tt
+  checked_fresh (Ok settings) some = begin_fresh settings (some settings refl)
+  checked_fresh (Err refusal) some = tt
 
   pub start_fresh : (limit resends : ℕ) (s : Indoor) (written : ℕ) (out' : List ℕ) → indoor_start_of limit resends release file out ≡ left (Sta.Made s written) out'
       → Fresh release file s (take written out')

@@ -13,8 +13,7 @@ use Rattle.wire.specs.Fields.{Words, Sendable}
 use Rattle.wire.specs.declared.request.Versions.{Versions}
 use Rattle.wire.specs.declared.request.Request.{Request}
 use Rattle.wire.specs.declared.request.Request.TheVariants as Req
-use Rattle.wire.specs.declared.request.Parsed.{Parsed}
-use Rattle.wire.specs.declared.request.Parsed.TheVariants as Par
+use Rattle.wire.specs.Request.{Parsed}
 use Rattle.wire.proofs.RoundTrip.{request_back}
 use Rattle.indoor_state.specs.Answer.{sends_of}
 use Rattle.indoor_state.specs.declared.plan.Plan.{Plan}
@@ -25,9 +24,10 @@ use Rattle.indoor_rules.proofs.Owes.{Within}
 use Rattle.indoor_rules.specs.Send.{block_bytes, sends_bytes, indoor_bytes_of}
 use Rattle.indoor_rules.specs.History.{Genuine}
 use Rattle.indoor_rules.proofs.Block.{block_most}
+use Rattle.std.specs.Prelude.{Ok}
 
 -- A request without a block is read as what it is.
-pub whole_read : (r : Request) → Sendable r [] → message.parsed_request_of (request_bytes r) ≡ Par.Valid r
+pub whole_read : (r : Request) → Sendable r [] → message.parsed_request_of (request_bytes r) ≡ Ok r
 whole_read r can = rw (append-nil (request_bytes r)) at (request_back r [] can)
 
 module _ (versions : Versions) (file : List ℕ) where
@@ -35,7 +35,7 @@ module _ (versions : Versions) (file : List ℕ) where
   read_as m p e h = rw e h
 
   -- DATA is read as the number and the size of its block.
-  pub block_read : (number : ℕ) → number < 65536 → message.parsed_request_of (block_bytes file number) ≡ Par.Valid (Req.Data number (length (block_at file number)))
+  pub block_read : (number : ℕ) → number < 65536 → message.parsed_request_of (block_bytes file number) ≡ Ok (Req.Data number (length (block_at file number)))
   unfolding block_bytes
   block_read number low = request_back (Req.Data number (length (block_at file number))) (block_at file number) (low, refl, block_most file number)
 
@@ -46,11 +46,11 @@ module _ (versions : Versions) (file : List ℕ) where
   block_genuine : (number : ℕ) → length file ≤ image_size_most → number ≤ blocks_of (length file) → Genuine versions file (block_bytes file number) (message.parsed_request_of (block_bytes file number))
   block_genuine number most h =
       let low = least (length file) 4096 (omega arith) in
-      read_as (block_bytes file number) (Par.Valid (Req.Data number (length (block_at file number)))) (block_read number (omega arith)) (h, block_carried number)
+      read_as (block_bytes file number) (Ok (Req.Data number (length (block_at file number)))) (block_read number (omega arith)) (h, block_carried number)
 
-  whole_genuine : (r : Request) → Sendable r [] → Genuine versions file (request_bytes r) (Par.Valid r)
+  whole_genuine : (r : Request) → Sendable r [] → Genuine versions file (request_bytes r) (Ok r)
       → Genuine versions file (request_bytes r) (message.parsed_request_of (request_bytes r))
-  whole_genuine r can h = read_as (request_bytes r) (Par.Valid r) (whole_read r can) h
+  whole_genuine r can h = read_as (request_bytes r) (Ok r) (whole_read r can) h
 
   sends_genuine : (plan : Plan) (sends : Sends) → Words versions → plan.length ≡ length file → length file ≤ image_size_most → Within plan sends → (length (sends_bytes versions file sends) ≡ 0 → ⊥)
       → Genuine versions file (sends_bytes versions file sends) (message.parsed_request_of (sends_bytes versions file sends))

@@ -10,8 +10,7 @@ use Rattle.basis.specs.Left.{Left}
 use Rattle.wire.specs.Codes.{longest}
 use Rattle.wire.specs.Response as message
 use Rattle.wire.specs.declared.response.Response.{Response}
-use Rattle.wire.specs.declared.response.Parsed.{Parsed}
-use Rattle.wire.specs.declared.response.Parsed.TheVariants as Par
+use Rattle.wire.specs.Response.{Parsed}
 use Rattle.indoor_rules.specs.Decide.{indoor_decide_of}
 use Rattle.indoor_rules.specs.Tick.{indoor_tick_of}
 use Rattle.indoor_state.specs.declared.answer.Answer.TheVariants.{Malformed, BufferShort, FileLength}
@@ -20,22 +19,23 @@ use Rattle.indoor_rules.specs.Response.{response_read_of, indoor_response_of}
 use Rattle.indoor_rules.specs.Time.{indoor_time_of}
 use Rattle.indoor_state.specs.declared.session.Indoor.{Indoor}
 use Rattle.indoor_state.specs.declared.session.Outcome.{Outcome}
+use Rattle.std.specs.Prelude.{Ok, Err}
 
 module _ (s : Indoor) (file response out : List ℕ) where
   -- What a well-formed response does.
   abbrev pub heard : Response → Left Outcome
   heard r = indoor_done s.plan (indoor_decide_of s.plan s.state r) file out
 
-  read_walk : (P : Left Outcome → Type 0) (m : Parsed) → P (indoor_kept s Malformed out) → ((r : Response) → m ≡ Par.Valid r → P (heard r)) → P (response_read_of s m file out)
+  read_walk : (P : Left Outcome → Type 0) (m : Parsed) → P (indoor_kept s Malformed out) → ((r : Response) → m ≡ Ok r → P (heard r)) → P (response_read_of s m file out)
   unfolding response_read_of
-  read_walk P Par.Malformed bad good = bad
-  read_walk P (Par.Valid r) bad good = good r refl
+  read_walk P (Err refusal) bad good = bad
+  read_walk P (Ok r) bad good = good r refl
 
   pub response_walk : (P : Left Outcome → Type 0)
       → P (indoor_kept s FileLength out)
       → P (indoor_kept s BufferShort out)
       → P (indoor_kept s Malformed out)
-      → ((r : Response) → length file ≡ s.plan.length → longest ≤ length out → message.parsed_response_of response ≡ Par.Valid r → P (heard r))
+      → ((r : Response) → length file ≡ s.plan.length → longest ≤ length out → message.parsed_response_of response ≡ Ok r → P (heard r))
       → P (indoor_response_of s file response out)
   unfolding indoor_response_of
   response_walk P length-bad short bad good =

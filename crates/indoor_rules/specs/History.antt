@@ -9,8 +9,7 @@ use Rattle.wire.specs.Request as message
 use Rattle.wire.specs.Written.{head_bytes}
 use Rattle.wire.specs.declared.request.Versions.{Versions}
 use Rattle.wire.specs.declared.request.Request.TheVariants as Req
-use Rattle.wire.specs.declared.request.Parsed.{Parsed}
-use Rattle.wire.specs.declared.request.Parsed.TheVariants as Par
+use Rattle.wire.specs.Request.{Parsed}
 use Rattle.indoor_state.specs.declared.plan.Release.{Release}
 use Rattle.indoor_rules.specs.Start.{indoor_start_of}
 use Rattle.indoor_rules.specs.Response.{indoor_response_of}
@@ -18,6 +17,8 @@ use Rattle.indoor_rules.specs.Time.{indoor_time_of}
 use Rattle.indoor_state.specs.declared.session.Indoor.{Indoor}
 use Rattle.indoor_state.specs.declared.session.Outcome.{Outcome}
 use Rattle.indoor_state.specs.declared.session.Started.TheVariants.{Made}
+use Rattle.std.specs.Prelude.{Ok}
+use Rattle.wire.specs.Header.{malformed}
 
 -- What a call wrote is one request.
 abbrev pub sent_after : Left Outcome → List (List ℕ) → List (List ℕ)
@@ -38,13 +39,13 @@ module _ (file : List ℕ) where
 -- GET_FW_ID, INITIATE with the file's versions, a DATA whose number j ≤ n carries exactly block j of the file, VALIDATE or ABORT, as a reader
 -- finds it in the bytes.
 abbrev pub Genuine : Versions → List ℕ → List ℕ → Parsed → Type 0
-Genuine versions file m (Par.Valid Req.GetFwId) = Unit
-Genuine versions file m (Par.Valid (Req.Initiate v)) = v ≡ versions
-Genuine versions file m (Par.Valid (Req.Data number size)) = (number ≤ blocks_of (length file)) × (drop data_head m ≡ block_at file number)
-Genuine versions file m (Par.Valid Req.Validate) = Unit
-Genuine versions file m (Par.Valid Req.Abort) = Unit
-Genuine versions file m (Par.Valid Req.NotBuilt) = ⊥
-Genuine versions file m Par.Malformed = ⊥
+Genuine versions file m (Ok Req.GetFwId) = Unit
+Genuine versions file m (Ok (Req.Initiate v)) = v ≡ versions
+Genuine versions file m (Ok (Req.Data number size)) = (number ≤ blocks_of (length file)) × (drop data_head m ≡ block_at file number)
+Genuine versions file m (Ok Req.Validate) = Unit
+Genuine versions file m (Ok Req.Abort) = Unit
+Genuine versions file m (Ok Req.NotBuilt) = ⊥
+Genuine versions file m malformed = ⊥
 
 abbrev pub AllGenuine : Versions → List ℕ → List (List ℕ) → Type 0
 AllGenuine versions file [] = Unit

@@ -4,18 +4,18 @@ use Rattle.basis.specs.Pick.{pick, differ}
 use Rattle.basis.specs.Left.{Left}
 use Rattle.wire.specs.Codes.{longest}
 use Rattle.wire.specs.Response as message
-use Rattle.wire.specs.declared.response.Parsed.{Parsed}
-use Rattle.wire.specs.declared.response.Parsed.TheVariants as Par
+use Rattle.wire.specs.Response.{Parsed}
 use Rattle.indoor_rules.specs.Decide.{indoor_decide_of}
 use Rattle.indoor_state.specs.declared.answer.Answer.TheVariants.{Malformed, BufferShort, FileLength}
 use Rattle.indoor_rules.specs.Session.{indoor_kept, indoor_done}
 use Rattle.indoor_state.specs.declared.session.Indoor.{Indoor}
 use Rattle.indoor_state.specs.declared.session.Outcome.{Outcome}
+use Rattle.std.specs.Prelude.{Ok, Err}
 
 -- 20, and then what the response asks for
 unfoldable pub response_read_of : Indoor → Parsed → List ℕ → List ℕ → Left Outcome
-response_read_of s Par.Malformed file out = indoor_kept s Malformed out
-response_read_of s (Par.Valid valid) file out = indoor_done s.plan (indoor_decide_of s.plan s.state valid) file out
+response_read_of s (Err refusal) file out = indoor_kept s Malformed out
+response_read_of s (Ok valid) file out = indoor_done s.plan (indoor_decide_of s.plan s.state valid) file out
 
 -- 28, 27, 20, and then what the response asks for
 unfoldable pub indoor_response_of : Indoor → List ℕ → List ℕ → List ℕ → Left Outcome

@@ -5,8 +5,7 @@ use Rattle.basis.specs.Left.{Left, left}
 use Rattle.lent.specs.Written.{written_into}
 use Rattle.silence.specs.Settings.{settings_of}
 use Rattle.silence.specs.declared.Settings as silence
-use Rattle.silence.specs.declared.Checked.{Checked}
-use Rattle.silence.specs.declared.Checked.TheVariants as Che
+use Rattle.silence.specs.Settings.{Checked}
 use Rattle.wire.specs.Codes.{longest, image_size_most}
 use Rattle.wire.specs.Written.{request_bytes}
 use Rattle.wire.specs.declared.request.Request.TheVariants as Req
@@ -17,6 +16,7 @@ use Rattle.indoor_state.specs.declared.phase.Phase.TheVariants.{Identify}
 use Rattle.indoor_rules.specs.Session.{indoor}
 use Rattle.indoor_state.specs.declared.session.Started.{Started}
 use Rattle.indoor_state.specs.declared.session.Started.TheVariants.{Made, Settings, FileSize, BufferShort}
+use Rattle.std.specs.Prelude.{Ok, Err}
 
 abbrev pub indoor_plan : silence.Settings → Release → ℕ → Plan
 indoor_plan settings release length = record { settings = settings; release = release; length = length }
@@ -35,8 +35,8 @@ indoor_begin_of settings release file out =
     (indoor_begun (indoor_plan settings release (length file)) out)))
 
 unfoldable pub indoor_started_of : Checked → Release → List ℕ → List ℕ → Left Started
-indoor_started_of Che.Refused release file out = left Settings out
-indoor_started_of (Che.Made settings) release file out = indoor_begin_of settings release file out
+indoor_started_of (Err refusal) release file out = left Settings out
+indoor_started_of (Ok settings) release file out = indoor_begin_of settings release file out
 
 -- 29, and then 46, 27
 abbrev pub indoor_start_of : ℕ → ℕ → Release → List ℕ → List ℕ → Left Started

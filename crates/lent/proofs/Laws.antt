@@ -1,30 +1,39 @@
 -- What `put` leaves, said of its parts: for callers that know whether there is room.
-use Prim.Native.Nat.{ℕ, ◌+◌, ◌<◌, ◌≤◌}
-use mathlib.Core.Path.{◌≡◌, refl, ◌∙◌}
+use Prim.Native.Nat.{ℕ, ◌+◌, ◌-◌, ◌<◌, ◌≤◌}
+use mathlib.Core.Path.{◌≡◌, refl, ◌∙◌, ap, sym}
 use mathlib.Core.List.{List, ◌++◌}
 use native.Mathlib.Nat.{zero-add}
 use native.Mathlib.Omega.{arith}
 use borrow.Author.Tests.{ltb-false}
 use lib.ListN.{length, take, drop, length-append, length-take, length-drop}
 use lib.Dec.{ltb}
+use borrow.Rule.Slice.PartMut.{put_mid, post_of, Post-is}
 use lib.Seq.{take_at, drop_at, length-take-le, drop-drop, take-append_seam, drop-append-add}
+use Rattle.std.proofs.lemmas.List.{append_assoc}
 use Rattle.basis.specs.Pick.{tests, pick_all}
 use Rattle.basis.specs.Left.{Left, left}
-use Rattle.lent.specs.Put.{pasted, put_of}
+use Rattle.lent.specs.Put.{Placed, stored, no_room, pasted, put_of}
 use Rattle.lent.specs.Written.{written_into}
-use Rattle.lent.specs.declared.Placed.{Placed}
-use Rattle.lent.specs.declared.Placed.TheVariants.{Stored, NoRoom}
 
-pub put_fits : (d : List ℕ) (at : ℕ) (s : List ℕ) → at + length s ≤ length d → put_of d at s ≡ left Stored (pasted d at s)
+pub put_fits : (d : List ℕ) (at : ℕ) (s : List ℕ) → at + length s ≤ length d → put_of d at s ≡ left stored (pasted d at s)
 unfolding put_of
 put_fits d at s h = simp tests
 
-pub put_passes : (d : List ℕ) (at : ℕ) (s : List ℕ) → length d < at + length s → put_of d at s ≡ left NoRoom d
+-- A part that has room and was copied into its place.
+pub put_there : (d s copied : List ℕ) (at : ℕ) → at ≤ length d → length s ≤ length d - at → copied ≡ s
+    → left stored (put_mid at (at + length s - at) d copied) ≡ put_of d at s
+put_there d s copied at p q e =
+    let behind = Post-is at (at + length s) d (omega arith) in
+    let there : put_mid at (at + length s - at) d copied ≡ pasted d at s =
+    ap (λ z. take at d ++ (z ++ post_of at (at + length s - at) d)) e ∙ ap (λ z. take at d ++ (s ++ z)) behind ∙ sym (append_assoc (take at d) s (drop (at + length s) d)) in
+    ap (λ m. left stored m) there ∙ sym (put_fits d at s (omega arith))
+
+pub put_passes : (d : List ℕ) (at : ℕ) (s : List ℕ) → length d < at + length s → put_of d at s ≡ left no_room d
 unfolding put_of
 put_passes d at s h = simp tests
 
 -- A message put at the start of a buffer is its first bytes, and the rest is kept.
-pub put_leads : (s d : List ℕ) → length s ≤ length d → put_of d 0 s ≡ left Stored (written_into s d)
+pub put_leads : (s d : List ℕ) → length s ≤ length d → put_of d 0 s ≡ left stored (written_into s d)
 put_leads s d h = put_fits d 0 s (simp zero-add h) ∙ simp zero-add
 
 -- Up to the part's end lie what was before the place and the part, and behind it all is as it was.
@@ -51,7 +60,7 @@ put_length d at s =
     (λ f. pasted_length d at s (ltb-false (length d) (at + length s) f))
 
 -- A head, and then a block put behind it, are one message in the first bytes of the buffer.
-pub two_written : (h b d : List ℕ) → length h + length b ≤ length d → put_of (written_into h d) (length h) b ≡ left Stored (written_into (h ++ b) d)
+pub two_written : (h b d : List ℕ) → length h + length b ≤ length d → put_of (written_into h d) (length h) b ≡ left stored (written_into (h ++ b) d)
 two_written h b d k =
     let l : length (written_into h d) ≡ length d = simp (length-append, length-drop) (omega arith) in
     let front : take (length h) (written_into h d) ≡ h = take-append_seam h (drop (length h) d) in

@@ -1,4 +1,5 @@
 pub mod Room
 pub mod Laws
+pub mod Front
 pub mod Unique
 pub mod Sent

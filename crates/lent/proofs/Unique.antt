@@ -2,8 +2,7 @@
 use Rattle.std.specs.Prelude.{List, ℕ, ◌≡◌}
 use Rattle.basis.specs.Left.{left}
 use Rattle.basis.specs.Only.{only}
-use Rattle.lent.specs.Put.{put_of}
-use Rattle.lent.specs.declared.Placed.{Placed}
+use Rattle.lent.specs.Put.{Placed, put_of}
 
 pub one_put : (dst : List ℕ) (at : ℕ) (src : List ℕ) (r r' : Placed) (dst_left dst_left' : List ℕ)
     → left r dst_left ≡ put_of dst at src

@@ -1,3 +1,4 @@
 pub mod Put
+pub mod Outcome
 pub mod Written
 pub mod Sent

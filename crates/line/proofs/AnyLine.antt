@@ -12,8 +12,7 @@ use Rattle.lent.specs.Sent.{with_sent}
 use Rattle.image.specs.Blocks.{block_at}
 use Rattle.wire.specs.Request as message
 use Rattle.wire.specs.declared.request.Request.TheVariants as Req
-use Rattle.wire.specs.declared.request.Parsed.{Parsed}
-use Rattle.wire.specs.declared.request.Parsed.TheVariants.{Valid}
+use Rattle.wire.specs.Request.{Parsed}
 use Rattle.wire.specs.declared.response.Identity.{Identity}
 use Rattle.receiver_state.specs.declared.phase.Accepted.{Accepted}
 use Rattle.receiver_state.specs.declared.phase.Phase.{Phase as ReceiverPhase}
@@ -42,6 +41,7 @@ use Rattle.indoor_rules.proofs.Fresh as indoorFresh
 use Rattle.indoor_rules.proofs.Reached.{each_genuine}
 use Rattle.line.specs.Line.{World, Other, Lent, after_request, after_receiver_time, after_indoor_call, Wide, Fresh, Reached, begins, to_receiver, to_indoor, at_receiver, at_indoor, Holds, MarkedGood}
 use Rattle.line.proofs.Sent.{none_sent, sent_or_new}
+use Rattle.std.specs.Prelude.{Ok}
 
 module _ (file memory : List ℕ) (release : Release) (identity : Identity) where
   pub record Safe (w : World) : Type 0 where
@@ -56,7 +56,7 @@ module _ (file memory : List ℕ) (release : Release) (identity : Identity) wher
     pub done : w.indoor.state.phase ≡ Done → IsGood w.receiver.phase
 
   -- A request that the indoor end sent carries the file's block of its number.
-  genuine_data : (m : List ℕ) (p : Parsed) (number size : ℕ) → p ≡ Valid (Req.Data number size) → sending.Genuine release.versions file m p → drop 4 m ≡ block_at file number
+  genuine_data : (m : List ℕ) (p : Parsed) (number size : ℕ) → p ≡ Ok (Req.Data number size) → sending.Genuine release.versions file m p → drop 4 m ≡ block_at file number
   genuine_data m p number size e h = (rw e at h).1
 
   carries : Wide release identity → (w : World) → Safe w → (request : List ℕ) → Memᴰ request w.requests → Carries file request

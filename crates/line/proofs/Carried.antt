@@ -14,9 +14,7 @@ use Rattle.wire.specs.Codes.{longest}
 use Rattle.wire.specs.Request as message
 use Rattle.wire.specs.Response as answer
 use Rattle.wire.specs.declared.request.Request.{Request}
-use Rattle.wire.specs.declared.request.Parsed.TheVariants as ReqPar
 use Rattle.wire.specs.declared.response.Response.{Response}
-use Rattle.wire.specs.declared.response.Parsed.TheVariants as ResPar
 use Rattle.wire.specs.declared.response.Identity.{Identity}
 use Rattle.receiver_state.specs.Answer.{reply_of}
 use Rattle.receiver_state.specs.declared.answer.Answer.{Answer}
@@ -55,6 +53,7 @@ use Rattle.indoor_rules.proofs.Reached as indoorReached
 use Rattle.line.specs.Line.{Line, Wide, carried_up, carried_down, passed_at_receiver, passed_at_indoor}
 use Rattle.line.proofs.Sent.{sent_length}
 use Rattle.line.proofs.AnyLine.{Safe}
+use Rattle.std.specs.Prelude.{Ok}
 
 -- One message where there are bytes, and none where there are none.
 abbrev pub one : List ℕ → List (List ℕ)
@@ -98,7 +97,7 @@ module _ (file memory : List ℕ) (release : Release) (identity : Identity) wher
       abbrev pub call : List ℕ → Effect
       call request = receiver_request_of x.world.receiver x.world.image request 0 verdict out
 
-      done : (m : List ℕ) (p : receiver.Phase) (q : Request) (then : Step) → x.world.receiver.phase ≡ p → message.parsed_request_of m ≡ ReqPar.Valid q
+      done : (m : List ℕ) (p : receiver.Phase) (q : Request) (then : Step) → x.world.receiver.phase ≡ p → message.parsed_request_of m ≡ Ok q
           → receiver_decide_of p q (length memory) 0 verdict ≡ then
           → call m ≡ request_done x.world.receiver then x.world.image m out
       done m p q then e r d =
@@ -108,7 +107,7 @@ module _ (file memory : List ℕ) (release : Release) (identity : Identity) wher
 
       -- A request is delivered: the receiver goes on, and its answer is on its way.
       pub heard : (m : List ℕ) (p : receiver.Phase) (g : indoor.Phase) (q : Request) (then : Step) (count : ℕ) → At x p g (m ∷ []) [] count
-          → message.parsed_request_of m ≡ ReqPar.Valid q → receiver_decide_of p q (length memory) 0 verdict ≡ then
+          → message.parsed_request_of m ≡ Ok q → receiver_decide_of p q (length memory) 0 verdict ≡ then
           → (request : List ℕ) (later : List (List ℕ)) → x.up ≡ request ∷ later
           → At (carried_up x later (call request)) then.phase g [] (one (says then.answer)) count
       heard m p g q then count at r d request later e =
@@ -127,7 +126,7 @@ module _ (file memory : List ℕ) (release : Release) (identity : Identity) wher
 
       -- A request that puts no block leaves the image as it was.
       pub heard_lies : (m : List ℕ) (p : receiver.Phase) (q : Request) (then : Step) → x.world.receiver.phase ≡ p → x.up ≡ m ∷ []
-          → message.parsed_request_of m ≡ ReqPar.Valid q → receiver_decide_of p q (length memory) 0 verdict ≡ then → then.store ≡ Sto.Nowhere → x.world.image ≡ memory
+          → message.parsed_request_of m ≡ Ok q → receiver_decide_of p q (length memory) 0 verdict ≡ then → then.store ≡ Sto.Nowhere → x.world.image ≡ memory
           → (request : List ℕ) (later : List (List ℕ)) → x.up ≡ request ∷ later → (call request).image ≡ memory
       unfolding image_after
       heard_lies m p q then e rising r d nowhere lies request later f =
@@ -139,7 +138,7 @@ module _ (file memory : List ℕ) (release : Release) (identity : Identity) wher
 
     -- A response is delivered: the indoor end goes on, and its next request is on its way.
     pub answered : Wide release identity → (m : List ℕ) (p : receiver.Phase) (g g' : indoor.Phase) (r : Response) (a : indoorAnswer.Answer) (count : ℕ) → At x p g [] (m ∷ []) count
-        → answer.parsed_response_of m ≡ ResPar.Valid r
+        → answer.parsed_response_of m ≡ Ok r
         → rules.indoor_decide_of x.world.indoor.plan (indoor_state g x.world.indoor.state.silence x.world.indoor.state.resends) r ≡ indoor_step (indoor_state g' 0 0) a
         → (response : List ℕ) (later : List (List ℕ)) → x.down ≡ response ∷ later
         → At (carried_down x later (reply response)) p g' (one (asks a)) [] (count + length (one (asks a)))

@@ -18,7 +18,6 @@ use Rattle.wire.specs.Written.{request_bytes, bare_bytes, initiate_bytes, head_b
 use Rattle.wire.specs.Identity.{cleared}
 use Rattle.wire.specs.declared.request.Request.TheVariants as Req
 use Rattle.wire.specs.declared.response.Response.TheVariants as Res
-use Rattle.wire.specs.declared.response.Parsed.TheVariants as ResPar
 use Rattle.wire.specs.declared.response.Identity.{Identity}
 use Rattle.wire.proofs.RoundTrip.{response_back}
 use Rattle.receiver_state.specs.Phase.{accepted_counts, nothing_accepted}
@@ -65,6 +64,7 @@ use Rattle.line.proofs.AnyLine.{Safe, reached_safe}
 use Rattle.line.proofs.Clean.{clean_going}
 use Rattle.line.proofs.Carried.{one, first_same, At, counted, call, heard, heard_lies, reply, answered, receiver_still, indoor_still}
 use Rattle.line.proofs.Carried as carried
+use Rattle.std.specs.Prelude.{Ok}
 
 pub no_message : (l later : List (List ℕ)) (m : List ℕ) → l ≡ [] → l ≡ m ∷ later → ⊥
 no_message l later m e h = let some = ap length (sym e ∙ h) in omega arith
@@ -238,18 +238,18 @@ module _ (file memory : List ℕ) (release : Release) (identity : Identity) wher
       abbrev i : Indoor
       i = x.world.indoor
 
-      identity_read : answer.parsed_response_of (says Identified) ≡ ResPar.Valid (Res.GetFwId 0 (cleared identity))
+      identity_read : answer.parsed_response_of (says Identified) ≡ Ok (Res.GetFwId 0 (cleared identity))
       unfolding reply_bytes reply_of replies.get_fw_id_reply
       identity_read = response_back (Res.GetFwId 0 identity) (wide.vendor, wide.product, wide.reported)
 
-      offer_read : answer.parsed_response_of (says (Offered 0)) ≡ ResPar.Valid (Res.Initiate 0 0 (length memory))
+      offer_read : answer.parsed_response_of (says (Offered 0)) ≡ Ok (Res.Initiate 0 0 (length memory))
       unfolding reply_bytes reply_of replies.initiate_reply
       offer_read =
           let most = reached_capacity s.accepted.reached in
           let capacity = s.capacity in
           response_back (Res.Initiate 0 0 (length memory)) (omega arith)
 
-      receipt_read : (wait number : ℕ) → number < 65536 → answer.parsed_response_of (response_bytes (Res.Data 0 wait number)) ≡ ResPar.Valid (Res.Data 0 wait number)
+      receipt_read : (wait number : ℕ) → number < 65536 → answer.parsed_response_of (response_bytes (Res.Data 0 wait number)) ≡ Ok (Res.Data 0 wait number)
       receipt_read wait number h = response_back (Res.Data 0 wait number) h
 
       -- The file is newer or not.

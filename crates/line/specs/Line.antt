@@ -11,7 +11,6 @@ use Rattle.wire.specs.Codes.{longest, image_size_most}
 use Rattle.wire.specs.Fields.{Words}
 use Rattle.wire.specs.Request.{parsed_request_of}
 use Rattle.wire.specs.declared.request.Request.TheVariants.{Validate}
-use Rattle.wire.specs.declared.request.Parsed.TheVariants.{Valid}
 use Rattle.wire.specs.declared.response.Identity.{Identity}
 use Rattle.receiver_state.specs.declared.phase.Accepted.{Accepted}
 use Rattle.receiver_state.specs.declared.phase.Phase.TheVariants.{Good}
@@ -33,6 +32,7 @@ use Rattle.indoor_rules.specs.Time.{indoor_time_of}
 use Rattle.indoor_state.specs.declared.session.Indoor.{Indoor}
 use Rattle.indoor_state.specs.declared.session.Outcome.{Outcome as IndoorOutcome}
 use Rattle.indoor_state.specs.declared.session.Started.TheVariants as IndoorStarted
+use Rattle.std.specs.Prelude.{Ok}
 
 -- Both ends, the image memory, and every request and every response that was ever sent, as bytes, the newest first.
 pub record World : Type 0 where
@@ -114,7 +114,7 @@ pub record AtRest (l : Line) : Type 0 where
 -- Only VALIDATE looks at the verdict: it is good there, and with any other request any that 26 does not refuse.
 pub record GoodVerdict (request : List ℕ) (verdict : Verdict) : Type 0 where
   pub in_range : Timely verdict
-  pub good : parsed_request_of request ≡ Valid Validate → verdict ≡ Ver.Good
+  pub good : parsed_request_of request ≡ Ok Validate → verdict ≡ Ver.Good
 
 -- The fields that go over the line are as wide as their types, two bytes, as in every value of the code.
 pub record Wide (release : Release) (identity : Identity) : Type 0 where

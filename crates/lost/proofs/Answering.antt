@@ -10,7 +10,6 @@ use Rattle.wire.specs.Response as answer
 use Rattle.wire.specs.Identity.{cleared}
 use Rattle.wire.specs.declared.response.Response.{Response}
 use Rattle.wire.specs.declared.response.Response.TheVariants as Res
-use Rattle.wire.specs.declared.response.Parsed.TheVariants as ResPar
 use Rattle.receiver_state.specs.declared.answer.Answer.{Answer}
 use Rattle.receiver_state.specs.declared.answer.Answer.TheVariants.{Offered, Success}
 use Rattle.receiver_state.specs.declared.phase.Accepted.{Accepted}
@@ -36,6 +35,7 @@ use Rattle.lost.proofs.Messages as messages
 use Rattle.lost.proofs.Messages.{Late}
 use Rattle.lost.proofs.Arriving.{no_message, Fits, fresh}
 use Rattle.lost.proofs.Stations.{n, trips, begun, Cost, Opens, idle, Owes, next, close, Answers, awaits, Station, identifying, identified, unidentified, initiating, offered, unoffered, block, receipt, unreceived, validating, succeeded, unvalidated, finished}
+use Rattle.std.specs.Prelude.{Ok}
 
 -- Of a list that begins with a message.
 no_first : {A : Type 0} (g : Going) (on : List Going) → g ∷ on ≡ [] → A
@@ -48,7 +48,7 @@ module _ (x : Given) (ms : ℕ) (l : Timed) where
 
     hears : {r : Receiver} {g g' : indoor.Phase} {t sent t' sent' : ℕ} {m : List ℕ} {a : ℕ} {up down up' : List Going} {q : Response} {b : indoorAnswer.Answer}
         → At x l r (indoors x g t sent) up (going m a ∷ down)
-        → answer.parsed_response_of m ≡ ResPar.Valid q → indoor_decide_of (plan x) (indoor_state g t sent) q ≡ indoor_step (indoor_state g' t' sent') b → with up (asks x b) ≡ up'
+        → answer.parsed_response_of m ≡ Ok q → indoor_decide_of (plan x) (indoor_state g t sent) q ≡ indoor_step (indoor_state g' t' sent') b → with up (asks x b) ≡ up'
         → At x after r (indoors x g' t' sent') up' down
     hears at parsed decided rises =
         let heard = answered x l out room _ _ _ _ _ _ _ _ _ _ _ at _ _ parsed decided response age later e in

@@ -14,7 +14,6 @@ use Rattle.wire.specs.Codes.{longest}
 use Rattle.wire.specs.Request as message
 use Rattle.wire.specs.declared.request.Request.{Request}
 use Rattle.wire.specs.declared.request.Request.TheVariants as Req
-use Rattle.wire.specs.declared.request.Parsed.TheVariants as ReqPar
 use Rattle.receiver_state.specs.Phase.{accepted_counts}
 use Rattle.receiver_state.specs.declared.answer.Answer.TheVariants.{Offered, Asking, Closed}
 use Rattle.receiver_state.specs.declared.phase.Progress.{Progress}
@@ -40,6 +39,7 @@ use Rattle.lost.proofs.Times.{times_next, below}
 use Rattle.lost.proofs.Messages as messages
 use Rattle.lost.proofs.Messages.{Late}
 use Rattle.lost.proofs.Stations.{n, trips, begun, Cost, Opens, idle, begins, Owes, next, close, Answers, awaits, good, Station, identifying, identified, unidentified, initiating, offered, unoffered, block, receipt, unreceived, validating, succeeded, unvalidated, finished}
+use Rattle.std.specs.Prelude.{Ok}
 
 pub no_message : {A : Type 0} (l later : List Going) (g : Going) → l ≡ [] → l ≡ g ∷ later → A
 no_message l later g e h = let some = ap length (sym e ∙ h) in absurd (omega arith)
@@ -64,7 +64,7 @@ module _ (x : Given) (fits : Fits x) (ms : ℕ) (l : Timed) (size : length l.wor
 
     hears : {p : receiver.Phase} {s made : ℕ} {i : Indoor} {m : List ℕ} {a : ℕ} {up down down' : List Going} {q : Request} {then : Step}
         → At x l (roof x p s made) i (going m a ∷ up) down
-        → message.parsed_request_of m ≡ ReqPar.Valid q → receiver_decide_of p q (length x.memory) 0 Ver.Good ≡ then → with down (says x then.answer) ≡ down'
+        → message.parsed_request_of m ≡ Ok q → receiver_decide_of p q (length x.memory) 0 Ver.Good ≡ then → with down (says x then.answer) ≡ down'
         → At x after (roof x then.phase 0 0) i up down'
     hears at parsed decided falls =
         let heard = heard x l out room size _ _ _ _ _ _ _ _ at _ _ parsed decided request age later e in

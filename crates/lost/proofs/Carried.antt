@@ -13,9 +13,7 @@ use Rattle.wire.specs.Codes.{longest}
 use Rattle.wire.specs.Request as message
 use Rattle.wire.specs.Response as answer
 use Rattle.wire.specs.declared.request.Request.{Request}
-use Rattle.wire.specs.declared.request.Parsed.TheVariants as ReqPar
 use Rattle.wire.specs.declared.response.Response.{Response}
-use Rattle.wire.specs.declared.response.Parsed.TheVariants as ResPar
 use Rattle.wire.specs.declared.response.Identity.{Identity}
 use Rattle.receiver_state.specs.Answer.{reply_of}
 use Rattle.receiver_state.specs.declared.answer.Answer.{Answer}
@@ -52,6 +50,7 @@ use Rattle.indoor_rules.proofs.Answers.{response_step, time_step}
 use Rattle.indoor_state.specs.declared.session.Indoor.{Indoor}
 use Rattle.indoor_state.specs.declared.session.Outcome.{Outcome as IndoorOutcome}
 use Rattle.lost.specs.Lost.{Going, going, Timed, sends, older, arrived_up, arrived_down, passed}
+use Rattle.std.specs.Prelude.{Ok}
 
 -- The bytes of an answer on their way behind the others, if there are any.
 abbrev pub with : List Going → List ℕ → List Going
@@ -106,7 +105,7 @@ module _ (x : Given) where
     -- A request arrives.
     pub heard : (size : length l.world.image ≡ length x.memory) (m : List ℕ) (age : ℕ) (p : receiver.Phase) (s made : ℕ) (i : Indoor) (up down : List Going)
         → At l (roof p s made) i (going m age ∷ up) down
-        → (q : Request) (then : Step) → message.parsed_request_of m ≡ ReqPar.Valid q → receiver_decide_of p q (length x.memory) 0 Ver.Good ≡ then
+        → (q : Request) (then : Step) → message.parsed_request_of m ≡ Ok q → receiver_decide_of p q (length x.memory) 0 Ver.Good ≡ then
         → (request : List ℕ) (age' : ℕ) (later : List Going) → l.up ≡ going request age' ∷ later
         → At (arrived_up l later (receiver_request_of l.world.receiver l.world.image request 0 Ver.Good out)) (roof then.phase 0 0) i up (with down (says then.answer))
     unfolding out_of_range verdict_outside pick
@@ -130,7 +129,7 @@ module _ (x : Given) where
     -- A response arrives.
     pub answered : (m : List ℕ) (age : ℕ) (r : Receiver) (g g' : indoor.Phase) (s made s' made' : ℕ) (up down : List Going)
         → At l r (indoors g s made) up (going m age ∷ down)
-        → (q : Response) (a : indoorAnswer.Answer) → answer.parsed_response_of m ≡ ResPar.Valid q
+        → (q : Response) (a : indoorAnswer.Answer) → answer.parsed_response_of m ≡ Ok q
         → indoor_decide_of plan (indoor_state g s made) q ≡ indoor_step (indoor_state g' s' made') a
         → (response : List ℕ) (age' : ℕ) (later : List Going) → l.down ≡ going response age' ∷ later
         → At (arrived_down l later (indoor_response_of l.world.indoor x.file response out)) r (indoors g' s' made') (with up (asks a)) down

@@ -9,8 +9,7 @@ use lib.ListN.{length, take}
 use Rattle.basis.specs.Pick.{pick_all}
 use Rattle.basis.specs.Left.{Left, left}
 use Rattle.silence.specs.Settings.{limit_least, limit_most, resends_most, settings_of}
-use Rattle.silence.specs.declared.Checked.{Checked}
-use Rattle.silence.specs.declared.Checked.TheVariants as Che
+use Rattle.silence.specs.Settings.{Checked}
 use Rattle.image.specs.Blocks.{blocks_of}
 use Rattle.wire.specs.Codes.{image_size_most, longest}
 use Rattle.wire.specs.Written.{request_bytes, bare_bytes}
@@ -46,9 +45,11 @@ use Rattle.lost.proofs.Arriving.{Fits, rises_on}
 use Rattle.lost.proofs.Answering.{falls_on}
 use Rattle.lost.proofs.Losing.{up_lost, down_lost}
 use Rattle.lost.proofs.Reached.{lossy_reached, timed_goes_on}
+use Rattle.std.specs.Prelude.{Ok, Err}
+use Rattle.silence.specs.Settings.{out_of_limits}
 
 -- Every settings that are made are those that were given, whatever is made of them.
-settings_given : (P : Checked → Type 0) (limit resends : ℕ) → P Che.Refused → P (Che.Made (record { limit = limit; resends = resends })) → P (settings_of limit resends)
+settings_given : (P : Checked → Type 0) (limit resends : ℕ) → P (Err out_of_limits) → P (Ok (record { limit = limit; resends = resends })) → P (settings_of limit resends)
 unfolding settings_of
 settings_given P limit resends refused made =
     pick_all P (ltb limit limit_least) _ _ (λ _. refused) (λ _. pick_all P (ltb limit_most limit) _ _ (λ _. refused) (λ _. pick_all P (ltb resends_most resends) _ _ (λ _. refused) (λ _. made)))

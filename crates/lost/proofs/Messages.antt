@@ -12,7 +12,6 @@ use Rattle.wire.specs.Response as answer
 use Rattle.wire.specs.Written.{request_bytes, bare_bytes, initiate_bytes, head_bytes, response_bytes, identified_bytes, initiated_bytes, receipt_bytes, validated_bytes}
 use Rattle.wire.specs.Identity.{cleared}
 use Rattle.wire.specs.declared.response.Response.TheVariants as Res
-use Rattle.wire.specs.declared.response.Parsed.TheVariants as ResPar
 use Rattle.wire.proofs.RoundTrip.{response_back}
 use Rattle.receiver_state.specs.Answer.{reply_of, get_fw_id_reply, initiate_reply, data_reply, validate_reply}
 use Rattle.receiver_state.specs.declared.answer.Answer.TheVariants.{Identified, Offered, Asking, Closed, Success, Passed}
@@ -22,12 +21,13 @@ use Rattle.indoor_rules.specs.Send.{block_bytes, sends_bytes}
 use Rattle.line.specs.Line.{Wide}
 use Rattle.lost.specs.Lost.{Going, going, older}
 use Rattle.lost.proofs.Carried.{with, Given, says, asks}
+use Rattle.std.specs.Prelude.{Ok}
 
 -- A DATA response with status OK, as the indoor end reads it.
 pub record IsData (g : Going) : Type 0 where
   pub wait : ℕ
   pub number : ℕ
-  pub parsed : answer.parsed_response_of g.message ≡ ResPar.Valid (Res.Data 0 wait number)
+  pub parsed : answer.parsed_response_of g.message ≡ Ok (Res.Data 0 wait number)
 
 -- DATA responses alone.
 abbrev pub Late : List Going → Type 0
@@ -96,22 +96,22 @@ module _ (x : Given) where
     unfolding sends_bytes block_bytes request_bytes head_bytes
     block_on j = pick_no (eqb (length (asks x (Ans.Sending j))) 0) _ _ (ne_eqb (length (asks x (Ans.Sending j))) 0 (λ none. omega arith))
 
-  pub identity_read : Wide x.release x.identity → answer.parsed_response_of (says x Identified) ≡ ResPar.Valid (Res.GetFwId 0 (cleared x.identity))
+  pub identity_read : Wide x.release x.identity → answer.parsed_response_of (says x Identified) ≡ Ok (Res.GetFwId 0 (cleared x.identity))
   unfolding reply_bytes reply_of get_fw_id_reply
   identity_read wide = response_back (Res.GetFwId 0 x.identity) (wide.vendor, wide.product, wide.reported)
 
-  pub offer_read : length x.memory ≤ 1048575 → answer.parsed_response_of (says x (Offered 0)) ≡ ResPar.Valid (Res.Initiate 0 0 (length x.memory))
+  pub offer_read : length x.memory ≤ 1048575 → answer.parsed_response_of (says x (Offered 0)) ≡ Ok (Res.Initiate 0 0 (length x.memory))
   unfolding reply_bytes reply_of initiate_reply
   offer_read most = response_back (Res.Initiate 0 0 (length x.memory)) (omega arith)
 
-  pub asking_read : (number : ℕ) → number < 65536 → answer.parsed_response_of (says x (Asking 0 number)) ≡ ResPar.Valid (Res.Data 0 0 number)
+  pub asking_read : (number : ℕ) → number < 65536 → answer.parsed_response_of (says x (Asking 0 number)) ≡ Ok (Res.Data 0 0 number)
   unfolding reply_bytes reply_of data_reply
   asking_read number h = response_back (Res.Data 0 0 number) h
 
-  pub closed_read : (number : ℕ) → number < 65536 → answer.parsed_response_of (says x (Closed number)) ≡ ResPar.Valid (Res.Data 0 255 number)
+  pub closed_read : (number : ℕ) → number < 65536 → answer.parsed_response_of (says x (Closed number)) ≡ Ok (Res.Data 0 255 number)
   unfolding reply_bytes reply_of data_reply
   closed_read number h = response_back (Res.Data 0 255 number) h
 
-  pub success_read : answer.parsed_response_of (says x Success) ≡ ResPar.Valid (Res.Validate 0 0 true)
+  pub success_read : answer.parsed_response_of (says x Success) ≡ Ok (Res.Validate 0 0 true)
   unfolding reply_bytes reply_of validate_reply
   success_read = response_back (Res.Validate 0 0 true) tt

@@ -8,7 +8,6 @@ use native.Mathlib.Nat.{sub-zero, suc-sub-suc, zero-sub}
 use native.Mathlib.Omega.{arith}
 use lib.ListN.{length, drop, replicate, length-replicate}
 use Rattle.basis.specs.Left.{Left}
-use Rattle.lent.specs.declared.Placed.{Placed}
 use Rattle.lent.proofs.Laws.{put_leads}
 use Rattle.commands.specs.Control.{fields_of}
 use Rattle.commands.specs.Table.{entry_of}
@@ -28,6 +27,7 @@ use Rattle.mailbox_rules.specs.Events.{writes, succeeds, fails, step_returns, ev
 use Rattle.mailbox_state.specs.declared.mailbox.Mailbox.{Mailbox}
 use Rattle.mailbox_state.specs.declared.mailbox.Outcome.{Outcome}
 use Rattle.mailbox_rules.proofs.Laws.{write_step}
+use Rattle.lent.specs.Put.{Placed}
 
 dropped : (k n : ℕ) → drop k (replicate n 0) ≡ replicate {A = ℕ} (n - k) 0
 dropped zero n = ap (λ (m : ℕ). replicate {A = ℕ} m 0) (sym (sub-zero n))

@@ -11,7 +11,6 @@ use lib.ListN.{length, take, drop, replicate, length-replicate, take-append-drop
 use Rattle.basis.specs.Pick.{pick}
 use Rattle.basis.specs.Left.{Left}
 use Rattle.lent.specs.Put.{put_of}
-use Rattle.lent.specs.declared.Placed.{Placed}
 use Rattle.lent.proofs.Laws.{put_leads}
 use Rattle.recording.specs.declared.record.Record.{Record}
 use Rattle.recording.specs.declared.record.Record.TheVariants.{Control, Change, Success, Failure}
@@ -21,6 +20,7 @@ use Rattle.mailbox_rules.specs.MessageIn.{zero_message_in, filled_of, settled_of
 use Rattle.mailbox_rules.specs.Events.{port_bytes}
 use Rattle.playing.specs.Turn.{event_in}
 use Rattle.playing.specs.Step.{zeroed_of}
+use Rattle.lent.specs.Put.{Placed}
 
 take_replicate : (n k : ℕ) → n ≤ k → take {A = ℕ} n (replicate k 0) ≡ replicate n 0
 take_replicate zero k h = refl

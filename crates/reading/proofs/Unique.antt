@@ -3,8 +3,8 @@ use Rattle.std.specs.Prelude.{List, ℕ, ◌≡◌}
 use Rattle.basis.specs.Only.{only}
 use Rattle.wire.specs.Request.{parsed_request_of}
 use Rattle.wire.specs.Response.{parsed_response_of}
-use Rattle.wire.specs.declared.request.Parsed.{Parsed}
-use Rattle.wire.specs.declared.response.Parsed.{Parsed as ResponseParsed}
+use Rattle.wire.specs.Request.{Parsed}
+use Rattle.wire.specs.Response.{Parsed as ResponseParsed}
 
 pub one_read_request : (msg : List ℕ) (r r' : Parsed)
     → r ≡ parsed_request_of msg

@@ -1,35 +1,25 @@
 // Numbers in a message go low byte first (01, Sizes and numbers).
-ghost use Rattle.std.specs.Prelude.{◌≡◌, ◌+◌, ◌*◌, ◌<◌, ◌≤◌, length};
+ghost use Rattle.std.specs.Prelude.{◌≡◌, ◌+◌, ◌<◌, ◌≤◌, length};
 ghost use Rattle.wire.specs.Numbers.{word_at};
 ghost use Rattle.wire.specs.Identity.{versions_at};
 
 use wire::request::Versions;
 
-fn word(low: u8, high: u8) -> u16
-    ensures { result ≡ low + 256 * high }
-{
-    low as u16 + 256 * (high as u16)
-}
-
 pub(crate) fn word_at(msg: &[u8], at: usize) -> u16
     requires { at + 1 < length msg.now }
     ensures { result ≡ word_at msg.now at }
 {
-    word(msg[at], msg[at + 1])
+    u16::from_le_bytes([msg[at], msg[at + 1]])
 }
 
 pub(crate) fn versions_at(msg: &[u8], at: usize) -> Versions
     requires { at + 8 ≤ length msg.now }
     ensures { result ≡ versions_at msg.now at }
 {
-    let first = word_at(msg, at);
-    let second = word_at(msg, at + 2);
-    let third = word_at(msg, at + 4);
-    let fourth = word_at(msg, at + 6);
     Versions {
-        first,
-        second,
-        third,
-        fourth,
+        first: word_at(msg, at),
+        second: word_at(msg, at + 2),
+        third: word_at(msg, at + 4),
+        fourth: word_at(msg, at + 6),
     }
 }

@@ -8,53 +8,43 @@ use crate::header::has_header;
 use crate::number::{versions_at, word_at};
 use fields::cleared;
 use wire::codes;
-use wire::response::{Identity, Parsed, Response};
+use wire::malformed::Malformed;
+use wire::response::{Identity, Response};
 
 #[tactic(auto, using(basis::specs::Pick::tests), unfolding(wire::specs::Response::parsed_response_of))]
-pub fn read_response(msg: &[u8]) -> Parsed
+pub fn read_response(msg: &[u8]) -> Result<Response, Malformed>
     ensures { result ≡ parsed_response_of msg.now }
 {
     if !has_header(msg) {
-        return Parsed::Malformed;
+        return Err(Malformed);
     }
     typed(msg, msg[1])
 }
 
 #[tactic(auto, using(basis::specs::Pick::tests), unfolding(wire::specs::Response::response_of_type))]
-fn typed(msg: &[u8], t: u8) -> Parsed
+fn typed(msg: &[u8], t: u8) -> Result<Response, Malformed>
     ensures { result ≡ response_of_type msg.now t }
 {
-    if t == codes::GET_FW_ID_RESPONSE {
-        return identified(msg);
+    match t {
+        codes::GET_FW_ID_RESPONSE => identified(msg),
+        codes::INITIATE_RESPONSE => initiated(msg),
+        codes::DATA_RESPONSE => receipt(msg),
+        codes::VALIDATE_RESPONSE => validated(msg),
+        codes::DATA_PAUSE_RESPONSE | codes::VENDOR_SPECIFIC_RESPONSE => Ok(Response::NotBuilt),
+        _ => Err(Malformed),
     }
-    if t == codes::INITIATE_RESPONSE {
-        return initiated(msg);
-    }
-    if t == codes::DATA_RESPONSE {
-        return receipt(msg);
-    }
-    if t == codes::VALIDATE_RESPONSE {
-        return validated(msg);
-    }
-    if t == codes::DATA_PAUSE_RESPONSE {
-        return Parsed::Valid(Response::NotBuilt);
-    }
-    if t == codes::VENDOR_SPECIFIC_RESPONSE {
-        return Parsed::Valid(Response::NotBuilt);
-    }
-    Parsed::Malformed
 }
 
 #[tactic(auto, using(basis::specs::Pick::tests), unfolding(wire::specs::Response::identified_in))]
-fn identified(msg: &[u8]) -> Parsed
+fn identified(msg: &[u8]) -> Result<Response, Malformed>
     ensures { result ≡ identified_in msg.now }
 {
     if msg.len() != codes::GET_FW_ID_RESPONSE_LENGTH {
-        return Parsed::Malformed;
+        return Err(Malformed);
     }
     let status = msg[2];
     let identity = cleared(identity_in(msg));
-    Parsed::Valid(Response::GetFwId { status, identity })
+    Ok(Response::GetFwId { status, identity })
 }
 
 // 001 T5-18.
@@ -80,14 +70,14 @@ fn identity_in(msg: &[u8]) -> Identity
 }
 
 #[tactic(auto, using(basis::specs::Pick::tests), unfolding(wire::specs::Response::initiated_in))]
-fn initiated(msg: &[u8]) -> Parsed
+fn initiated(msg: &[u8]) -> Result<Response, Malformed>
     ensures { result ≡ initiated_in msg.now }
 {
     if msg.len() != codes::INITIATE_RESPONSE_LENGTH {
-        return Parsed::Malformed;
+        return Err(Malformed);
     }
-    let size = word_at(msg, 4) as u32 + 65536 * ((msg[6] % 16) as u32);
-    Parsed::Valid(Response::Initiate {
+    let size = u32::from(word_at(msg, 4)) + 65536 * u32::from(msg[6] % 16);
+    Ok(Response::Initiate {
         status: msg[2],
         wait: msg[3],
         size,
@@ -95,27 +85,27 @@ fn initiated(msg: &[u8]) -> Parsed
 }
 
 #[tactic(auto, using(basis::specs::Pick::tests), unfolding(wire::specs::Response::receipt_in))]
-fn receipt(msg: &[u8]) -> Parsed
+fn receipt(msg: &[u8]) -> Result<Response, Malformed>
     ensures { result ≡ receipt_in msg.now }
 {
     if msg.len() != codes::DATA_RESPONSE_LENGTH {
-        return Parsed::Malformed;
+        return Err(Malformed);
     }
     let number = word_at(msg, 5);
-    Parsed::Valid(Response::Data {
+    Ok(Response::Data {
         status: msg[2],
         wait: msg[3],
         number,
     })
 }
 
-fn validated(msg: &[u8]) -> Parsed
+fn validated(msg: &[u8]) -> Result<Response, Malformed>
     ensures { result ≡ validated_in msg.now }
 {
     if msg.len() != codes::VALIDATE_RESPONSE_LENGTH {
-        return Parsed::Malformed;
+        return Err(Malformed);
     }
-    Parsed::Valid(Response::Validate {
+    Ok(Response::Validate {
         status: msg[2],
         wait: msg[3],
         success: msg[4] % 2 == 1,

@@ -15,8 +15,7 @@ use Rattle.basis.specs.Lists.{spell, spelled_all}
 use Rattle.basis.specs.Pick.{pick_all, pick_yes, pick_no, not_yes, not_no}
 use Rattle.silence.specs.Settings.{settings_of}
 use Rattle.silence.specs.Within.{Within}
-use Rattle.silence.specs.declared.Checked.{Checked}
-use Rattle.silence.specs.declared.Checked.TheVariants as Che
+use Rattle.silence.specs.Settings.{Checked}
 use Rattle.silence.proofs.Laws.{made_within}
 use Rattle.wire.specs.Codes.{image_size_most}
 use Rattle.wire.specs.declared.response.Identity.{Identity}
@@ -45,6 +44,7 @@ use Rattle.receiver_c.specs.Handed.{HandedReceiver, starts, asks, passes}
 use Rattle.receiver_c.proofs.Sessions.{session_valid, valid_session}
 use Rattle.receiver_c.proofs.Inverse.{same, phase_back}
 use Rattle.receiver_c.proofs.Small.{Small, request_small, time_small}
+use Rattle.std.specs.Prelude.{Ok, Err}
 
 packed_valid : (p : Phase) → ReceiverPhaseValid (receiver_phase_code p) (accepted_of p).blocks (accepted_of p).bytes (receiver_short_of p)
 packed_valid Idle = record { phases = omega arith; flag = omega arith; transfer_alone = λ _. refl; idle_empty = λ _. (refl, refl) }
@@ -108,8 +108,8 @@ said_small w ok =
 module _ (limit resends : ℕ) (identity : Identity) (capacity : ℕ) where
   fresh_within : (x : Checked) → settings_of limit resends ≡ x → receiver_start_number_of (receiver_fresh_of x identity capacity) ≡ 0 → Within limit resends
   unfolding receiver_fresh_of
-  fresh_within (Che.Made s) p e = made_within limit resends s p
-  fresh_within Che.Refused p e = absurd (omega arith)
+  fresh_within (Ok s) p e = made_within limit resends s p
+  fresh_within (Err refusal) p e = absurd (omega arith)
 
   -- What a start takes is within the limits.
   taken_within : receiver_start_number_of (receiver_start_of limit resends identity capacity) ≡ 0 → Within limit resends × (capacity ≤ 1048575)

@@ -9,7 +9,6 @@ use borrow.Author.Tests.{lt-ltb, le-ltb, ltb-true}
 use lib.Dec.{ltb, eqb}
 use Rattle.basis.specs.Pick.{pick, pick_all, pick_yes, pick_no}
 use Rattle.silence.specs.Settings.{limit_least, limit_most, resends_most, settings_of}
-use Rattle.silence.specs.declared.Checked.TheVariants.{Refused}
 use Rattle.wire.specs.declared.response.Identity.{Identity}
 use Rattle.receiver_state.specs.declared.verdict.Verdict.{Verdict}
 use Rattle.receiver_state.specs.declared.verdict.Verdict.TheVariants.{Good, Bad, Later}
@@ -22,8 +21,10 @@ use Rattle.receiver_rules.proofs.TimeLaws.{time_many}
 use Rattle.width.specs.Narrow.{at_most}
 use Rattle.receiver_c.specs.Words.{session_at}
 use Rattle.receiver_c.specs.Verdict.{verdict_of}
+use Rattle.std.specs.Prelude.{Err}
+use Rattle.silence.specs.Settings.{out_of_limits}
 
-long_refused : (limit resends : ℕ) → 10000 < limit → settings_of limit resends ≡ Refused
+long_refused : (limit resends : ℕ) → 10000 < limit → settings_of limit resends ≡ (Err out_of_limits)
 unfolding settings_of
 long_refused limit resends h = pick_no _ _ _ (le-ltb limit limit_least (omega arith)) ∙ pick_yes _ _ _ (lt-ltb limit_most limit h)
 

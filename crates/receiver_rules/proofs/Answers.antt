@@ -10,7 +10,6 @@ use Rattle.lent.specs.Written.{written_into}
 use Rattle.image.specs.Sum as sums
 use Rattle.wire.specs.Request as message
 use Rattle.wire.specs.declared.request.Request.{Request}
-use Rattle.wire.specs.declared.request.Parsed.TheVariants as Par
 use Rattle.receiver_state.specs.Phase.{accepted_of}
 use Rattle.receiver_state.specs.declared.answer.Answer.TheVariants.{Malformed, OutOfRange, BufferShort, ImageLength}
 use Rattle.receiver_rules.specs.Range.{out_of_range}
@@ -22,6 +21,8 @@ use Rattle.receiver_rules.specs.Respond.{receiver_bytes_of}
 use Rattle.receiver_rules.specs.Sum.{receiver_sum_of}
 use Rattle.receiver_state.specs.declared.session.Receiver.{Receiver}
 use Rattle.receiver_state.specs.declared.sum.Summed.TheVariants as Summed
+use Rattle.std.specs.Prelude.{Ok}
+use Rattle.wire.specs.Header.{malformed}
 
 module _ (r : Receiver) (image request : List ℕ) (readiness : ℕ) (verdict : Verdict) (out : List ℕ) where
   pub answers_28 : (length image ≡ r.capacity → ⊥) → receiver_request_of r image request readiness verdict out ≡ effect (receiver_returns r ImageLength 0) image out
@@ -38,13 +39,13 @@ module _ (r : Receiver) (image request : List ℕ) (readiness : ℕ) (verdict : 
       unfolding receiver_request_of pick
       answers_26 h = rw (eq_differ (length image) r.capacity lent, le-ltb (length out) 260 room, h)
 
-      pub answers_20 : out_of_range readiness verdict ≡ false → message.parsed_request_of request ≡ Par.Malformed
+      pub answers_20 : out_of_range readiness verdict ≡ false → message.parsed_request_of request ≡ malformed
           → receiver_request_of r image request readiness verdict out ≡ effect (receiver_returns r Malformed 0) image out
       unfolding receiver_request_of request_read_of pick
       answers_20 h e = rw (eq_differ (length image) r.capacity lent, le-ltb (length out) 260 room, h, e)
 
       -- What is decided is handed on, each field under its own name; silence and resends are zero, and what is sent is in the buffer's first bytes.
-      pub answers_step : (q : Request) → out_of_range readiness verdict ≡ false → message.parsed_request_of request ≡ Par.Valid q
+      pub answers_step : (q : Request) → out_of_range readiness verdict ≡ false → message.parsed_request_of request ≡ Ok q
           → let step = receiver_decide_of r.phase q r.capacity readiness verdict in
           receiver_request_of r image request readiness verdict out
           ≡ effect (record {

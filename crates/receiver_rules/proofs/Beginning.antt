@@ -8,8 +8,7 @@ use Rattle.basis.specs.Pick.{pick, pick_all}
 use Rattle.silence.specs.Settings as silent
 use Rattle.silence.specs.Within.{Within}
 use Rattle.silence.proofs.Laws.{within_made, outside_29}
-use Rattle.silence.specs.declared.Checked.{Checked}
-use Rattle.silence.specs.declared.Checked.TheVariants as Che
+use Rattle.silence.specs.Settings.{Checked}
 use Rattle.wire.specs.declared.response.Identity.{Identity}
 use Rattle.receiver_state.specs.declared.phase.Phase.TheVariants.{Idle}
 use Rattle.wire.specs.Codes.{image_size_most}
@@ -17,6 +16,7 @@ use Rattle.receiver_rules.specs.Session.{receiver_fresh_of, receiver_start_of}
 use Rattle.receiver_state.specs.declared.session.Receiver.{Receiver}
 use Rattle.receiver_state.specs.declared.session.Started.{Started}
 use Rattle.receiver_state.specs.declared.session.Started.TheVariants.{Made, Refused}
+use Rattle.std.specs.Prelude.{Ok, Err}
 
 abbrev pub fresh : ℕ → ℕ → Identity → ℕ → Receiver
 fresh limit resends identity capacity = record {
@@ -43,8 +43,8 @@ module _ (limit resends : ℕ) (identity : Identity) (capacity : ℕ) where
 
   fresh_29 : (x : Checked) → silent.settings_number_of x ≡ 29 → receiver_fresh_of x identity capacity ≡ Refused
   unfolding receiver_fresh_of
-  fresh_29 (Che.Made settings) e = absurd (omega arith)
-  fresh_29 Che.Refused e = refl
+  fresh_29 (Ok settings) e = absurd (omega arith)
+  fresh_29 (Err refusal) e = refl
 
   -- A silence limit or resend count outside its limits: 29, no session.
   pub start_29_settings : (Within limit resends → ⊥) → receiver_start_of limit resends identity capacity ≡ Refused

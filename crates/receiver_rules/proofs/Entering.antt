@@ -6,7 +6,6 @@ use mathlib.Core.List.{List}
 use Rattle.wire.specs.Request as message
 use Rattle.wire.specs.declared.request.Request.{Request}
 use Rattle.wire.specs.declared.request.Request.TheVariants as Req
-use Rattle.wire.specs.declared.request.Parsed.TheVariants.{Valid}
 use Rattle.receiver_rules.specs.Decide.{receiver_decide_of}
 use Rattle.receiver_rules.proofs.Owes.{ToGood, ToAwait, Enters, decide_row}
 use Rattle.receiver_state.specs.declared.phase.Accepted.{Accepted}
@@ -18,11 +17,12 @@ use Rattle.receiver_state.specs.declared.verdict.Verdict.TheVariants as Ver
 use Rattle.receiver_state.specs.declared.session.Receiver.{Receiver}
 use Rattle.receiver_rules.proofs.Walk.{request_walk}
 use Rattle.receiver_rules.proofs.Laws.{next}
+use Rattle.std.specs.Prelude.{Ok}
 
 -- Await, and a VALIDATE with a good verdict.
 pub record Validated (before : Phase) (request : List ℕ) (verdict : Verdict) (a : Accepted) : Type 0 where
   pub awaited : before ≡ Await a
-  pub parsed : message.parsed_request_of request ≡ Valid Req.Validate
+  pub parsed : message.parsed_request_of request ≡ Ok Req.Validate
   pub good : verdict ≡ Ver.Good
 
 -- Transfer with at least one block accepted, and the empty block that is due.
@@ -30,20 +30,20 @@ pub record Closes (before : Phase) (request : List ℕ) (a : Accepted) : Type 0 
   pub progress : Progress
   pub transfer : before ≡ Transfer progress
   pub same : a ≡ progress.accepted
-  pub parsed : message.parsed_request_of request ≡ Valid (Req.Data a.blocks 0)
+  pub parsed : message.parsed_request_of request ≡ Ok (Req.Data a.blocks 0)
   pub some : 0 < a.blocks
 
-module _ (request : List ℕ) (q : Request) (e : message.parsed_request_of request ≡ Valid q) (a : Accepted) where
+module _ (request : List ℕ) (q : Request) (e : message.parsed_request_of request ≡ Ok q) (a : Accepted) where
   from_good : (before : Phase) (verdict : Verdict) → ToGood before q verdict a → (before ≡ Good a) ⊎ Validated before request verdict a
   from_good Idle verdict h = absurd h
   from_good (Transfer p) verdict h = absurd h
   from_good (Await b) verdict h =
-      inr (record { awaited = ap (λ x. Await x) (sym h.0); parsed = e ∙ ap (λ x. Valid x) h.1; good = h.2 })
+      inr (record { awaited = ap (λ x. Await x) (sym h.0); parsed = e ∙ ap (λ x. Ok x) h.1; good = h.2 })
   from_good (Good b) verdict h = inl (ap (λ x. Good x) (sym h))
 
   from_await : (before : Phase) → ToAwait before q a → (before ≡ Await a) ⊎ Closes before request a
   from_await Idle h = absurd h
-  from_await (Transfer p) h = inr (record { progress = p; transfer = refl; same = h.0; parsed = e ∙ ap (λ x. Valid x) h.1; some = h.2 })
+  from_await (Transfer p) h = inr (record { progress = p; transfer = refl; same = h.0; parsed = e ∙ ap (λ x. Ok x) h.1; some = h.2 })
   from_await (Await b) h = inl (ap (λ x. Await x) (sym h))
   from_await (Good b) h = absurd h
 

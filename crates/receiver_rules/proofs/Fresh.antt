@@ -7,8 +7,7 @@ use lib.Dec.{ltb}
 use Rattle.basis.specs.Pick.{pick_all}
 use Rattle.silence.specs.Settings as silent
 use Rattle.silence.specs.declared.Settings.{Settings}
-use Rattle.silence.specs.declared.Checked.{Checked}
-use Rattle.silence.specs.declared.Checked.TheVariants as Che
+use Rattle.silence.specs.Settings.{Checked}
 use Rattle.silence.proofs.Laws.{made_some}
 use Rattle.wire.specs.declared.response.Identity.{Identity}
 use Rattle.receiver_state.specs.declared.phase.Phase.TheVariants.{Idle}
@@ -17,6 +16,7 @@ use Rattle.receiver_rules.specs.Session.{receiver_fresh_of, receiver_start_of}
 use Rattle.receiver_state.specs.declared.session.Receiver.{Receiver}
 use Rattle.receiver_state.specs.declared.session.Started.{Started}
 use Rattle.receiver_state.specs.declared.session.Started.TheVariants.{Made, Refused}
+use Rattle.std.specs.Prelude.{Ok, Err}
 
 -- A fresh session is in Idle, with the identity and the capacity that it was started with, at most 1,048,575, and its silence is below the limit.
 pub record Fresh (identity : Identity) (capacity : ℕ) (r : Receiver) : Type 0 where
@@ -32,16 +32,16 @@ made_same a b e = cc
 pub refused_made : (r : Receiver) → Refused ≡ Made r → ⊥
 refused_made r e = let z : ◌≡◌ {A = ℕ} 0 1 = cc in omega arith
 
-made_fresh : (identity : Identity) (capacity : ℕ) (r : Receiver) (x : Checked) → ((s : Settings) → x ≡ Che.Made s → 1 ≤ s.limit) → capacity ≤ image_size_most → receiver_fresh_of x identity capacity ≡ Made r → Fresh identity capacity r
+made_fresh : (identity : Identity) (capacity : ℕ) (r : Receiver) (x : Checked) → ((s : Settings) → x ≡ Ok s → 1 ≤ s.limit) → capacity ≤ image_size_most → receiver_fresh_of x identity capacity ≡ Made r → Fresh identity capacity r
 unfolding receiver_fresh_of
-made_fresh identity capacity r (Che.Made settings) some h e =
+made_fresh identity capacity r (Ok settings) some h e =
     let limit = some settings refl in
     let same = made_same _ r e in
     let room = ap (λ x. x.capacity) (sym same) in
     let quiet = ap (λ x. x.silence) (sym same) in
     let asked = ap (λ x. x.settings.limit) (sym same) in
     record { idle = ap (λ x. x.phase) (sym same); who = ap (λ x. x.identity) (sym same); room = room; within = omega arith; below = omega arith }
-made_fresh identity capacity r Che.Refused some h e = absurd (refused_made r e)
+made_fresh identity capacity r (Err refusal) some h e = absurd (refused_made r e)
 
 pub start_fresh : (limit resends : ℕ) (identity : Identity) (capacity : ℕ) (r : Receiver) → receiver_start_of limit resends identity capacity ≡ Made r → Fresh identity capacity r
 unfolding receiver_start_of

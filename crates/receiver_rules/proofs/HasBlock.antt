@@ -6,7 +6,6 @@ use Rattle.wire.specs.Request as message
 use Rattle.wire.proofs.Sizes.{request_sized}
 use Rattle.wire.specs.declared.request.Request.{Request}
 use Rattle.wire.specs.declared.request.Request.TheVariants as Req
-use Rattle.wire.specs.declared.request.Parsed.TheVariants.{Valid}
 use Rattle.receiver_rules.specs.Decide.{receiver_decide_of}
 use Rattle.receiver_rules.proofs.Owes.{Puts, decide_row}
 use Rattle.receiver_state.specs.declared.phase.Phase.{Phase}
@@ -15,12 +14,13 @@ use Rattle.receiver_state.specs.declared.verdict.Verdict.{Verdict}
 use Rattle.receiver_state.specs.declared.step.Store.{Store}
 use Rattle.receiver_state.specs.declared.step.Store.TheVariants.{Nowhere, At}
 use Rattle.receiver_rules.specs.Request.{HasBlock}
+use Rattle.std.specs.Prelude.{Ok}
 
-module _ (m : List ℕ) (valid : Request) (capacity : ℕ) (e : message.parsed_request_of m ≡ Valid valid) where
+module _ (m : List ℕ) (valid : Request) (capacity : ℕ) (e : message.parsed_request_of m ≡ Ok valid) where
   put_has : (before then : Phase) (s : Store) → Puts before valid capacity then s → HasBlock s m
   put_has before then Nowhere h = tt
   put_has Idle then (At number) h = absurd h
-  put_has (Transfer p) then (At number) h = (request_sized m (Req.Data number h.size) (e ∙ ap (λ x. Valid x) h.is_data)).0
+  put_has (Transfer p) then (At number) h = (request_sized m (Req.Data number h.size) (e ∙ ap (λ x. Ok x) h.is_data)).0
   put_has (Await a) then (At number) h = absurd h
   put_has (Good a) then (At number) h = absurd h
 

@@ -10,8 +10,7 @@ use Rattle.basis.specs.Left.{Left, left}
 use Rattle.basis.specs.Pick.{pick, pick_all, pick_no, differ}
 use Rattle.lent.specs.Written.{written_into, returns_written}
 use Rattle.wire.specs.Codes.{longest}
-use Rattle.wire.specs.declared.request.Parsed.{Parsed}
-use Rattle.wire.specs.declared.request.Parsed.TheVariants as Par
+use Rattle.wire.specs.Request.{Parsed}
 use Rattle.wire.specs.declared.response.Identity.{Identity}
 use Rattle.receiver_state.specs.Answer.{get_fw_id_reply, reply_of}
 use Rattle.receiver_state.specs.declared.answer.Answer.{Answer}
@@ -24,6 +23,7 @@ use Rattle.receiver_rules.specs.Respond.{reply_bytes, receiver_bytes_of}
 use Rattle.receiver_rules.specs.Session.{receiver_returns, receiver_moved}
 use Rattle.receiver_rules.specs.Hearing.{receiver_kept, heard_read_of, heard_of, has_identity, no_identity, identity_sent_of, answer_sent_of}
 use Rattle.receiver_state.specs.declared.step.Heard.{Heard}
+use Rattle.std.specs.Prelude.{Ok, Err}
 
 -- What is left of a session by what was heard, once the response is written.
 abbrev pub answered : Receiver → Left Heard → List ℕ → Effect
@@ -37,8 +37,8 @@ module _ (r : Receiver) (image request : List ℕ) (readiness : ℕ) (verdict : 
       → request_read_of r m image request readiness verdict out
       ≡ answered r (heard_read_of r.phase r.capacity m image request readiness verdict) out
   unfolding request_read_of heard_read_of pick
-  read_parts Par.Malformed = refl
-  read_parts (Par.Valid q) = refl
+  read_parts (Err refusal) = refl
+  read_parts (Ok q) = refl
 
   tested_parts : (lengths short range : Bool) (m : Parsed)
       → pick lengths (request_kept r ImageLength image out)

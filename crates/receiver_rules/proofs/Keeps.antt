@@ -14,7 +14,6 @@ use Rattle.wire.proofs.Sizes.{request_sized}
 use Rattle.wire.specs.declared.request.Versions.{Versions}
 use Rattle.wire.specs.declared.request.Request.{Request}
 use Rattle.wire.specs.declared.request.Request.TheVariants as Req
-use Rattle.wire.specs.declared.request.Parsed.TheVariants as Par
 use Rattle.receiver_state.specs.Answer.{receiver_number_of}
 use Rattle.receiver_rules.specs.Decide.{receiver_offer_of, initiate_in_transfer_of, receiver_initiate_of, passes_capacity, close_transfer_of, take_block_of, receiver_transfer_of, receiver_data_of, receiver_verdict_of, receiver_validate_of, receiver_abort_of, receiver_decide_of}
 use Rattle.receiver_rules.proofs.Within.{within}
@@ -28,6 +27,7 @@ use Rattle.receiver_state.specs.declared.step.Step.{Step}
 use Rattle.receiver_rules.specs.Request.{image_after}
 use Rattle.receiver_rules.specs.History.{taken_by, in_order}
 use Rattle.receiver_rules.proofs.Held.{Held, whole_bytes, not_short, nothing_held, none_taken}
+use Rattle.std.specs.Prelude.{Ok}
 
 module _ (capacity : ℕ) (image request : List ℕ) (taken : List (List ℕ)) (readiness : ℕ) (verdict : Verdict) where
   abbrev Has : Phase → Type 0
@@ -38,7 +38,7 @@ module _ (capacity : ℕ) (image request : List ℕ) (taken : List (List ℕ)) (
   Then before q s =
       Held capacity (image_after s.store image request) (taken_by (record {
         before = before;
-        message = Par.Valid q;
+        message = Ok q;
         block = drop 4 request;
         answered = receiver_number_of s.answer;
         after = s.phase;
@@ -88,7 +88,7 @@ module _ (capacity : ℕ) (image request : List ℕ) (taken : List (List ℕ)) (
         (pick_all (Then (Transfer p) (Req.Data number 0)) (eqb p.accepted.blocks 0) _ _ (λ _. refl)
         (λ t. let some = eqb-false p.accepted.blocks 0 t in (h.0, omega arith)))
 
-    module _ (lent : length image ≡ capacity) (e : message.parsed_request_of request ≡ Par.Valid (Req.Data number size)) where
+    module _ (lent : length image ≡ capacity) (e : message.parsed_request_of request ≡ Ok (Req.Data number size)) where
       take_keeps : number ≡ p.accepted.blocks → p.short ≡ false → 0 < size → passes_capacity number size capacity ≡ false
           → Then (Transfer p) (Req.Data number size) (take_block_of number size readiness)
       unfolding take_block_of image_after pick
@@ -130,7 +130,7 @@ module _ (capacity : ℕ) (image request : List ℕ) (taken : List (List ℕ)) (
           take_keeps (differ_false number p.accepted.blocks a) whole (omega arith) passed))))
 
   module _ (lent : length image ≡ capacity) where
-    data_keeps : (before : Phase) (number size : ℕ) → message.parsed_request_of request ≡ Par.Valid (Req.Data number size) → Has before
+    data_keeps : (before : Phase) (number size : ℕ) → message.parsed_request_of request ≡ Ok (Req.Data number size) → Has before
         → Then before (Req.Data number size) (receiver_data_of before number size capacity readiness)
     unfolding receiver_data_of image_after pick
     data_keeps Idle number size e h = refl
@@ -138,7 +138,7 @@ module _ (capacity : ℕ) (image request : List ℕ) (taken : List (List ℕ)) (
     data_keeps (Await a) number size e h = h
     data_keeps (Good a) number size e h = h
 
-    pub decide_keeps : (before : Phase) (q : Request) → message.parsed_request_of request ≡ Par.Valid q → Has before
+    pub decide_keeps : (before : Phase) (q : Request) → message.parsed_request_of request ≡ Ok q → Has before
         → Then before q (receiver_decide_of before q capacity readiness verdict)
     unfolding receiver_decide_of image_after pick
     decide_keeps Idle Req.GetFwId e h = refl

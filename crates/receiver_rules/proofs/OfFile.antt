@@ -17,7 +17,6 @@ use Rattle.wire.specs.Request as message
 use Rattle.wire.proofs.Sizes.{request_sized}
 use Rattle.wire.specs.declared.request.Request.{Request}
 use Rattle.wire.specs.declared.request.Request.TheVariants as Req
-use Rattle.wire.specs.declared.request.Parsed.TheVariants.{Valid}
 use Rattle.receiver_state.specs.Phase.{accepted_of}
 use Rattle.receiver_state.specs.Answer.{receiver_number_of}
 use Rattle.receiver_state.specs.declared.phase.Accepted.{Accepted}
@@ -40,6 +39,7 @@ use Rattle.receiver_rules.proofs.TimeLaws.{time_lasts}
 use Rattle.receiver_rules.proofs.Held.{Held}
 use Rattle.receiver_rules.proofs.Reached.{refused_accepts, refused_as, reached_holds}
 use Rattle.receiver_rules.proofs.InPlace.{in_place, counted}
+use Rattle.std.specs.Prelude.{Ok}
 
 by_test : (a b : ℕ) (t : Bool) → eqb a b ≡ t → (a ≡ b) ⊎ (a ≡ b → ⊥)
 by_test a b true e = inl (eqb-true a b e)
@@ -50,7 +50,7 @@ equal_or a b = by_test a b (eqb a b) refl
 
 module _ (file : List ℕ) where
   abbrev pub Carries : List ℕ → Type 0
-  Carries request = (number size : ℕ) → message.parsed_request_of request ≡ Valid (Req.Data number size) → drop 4 request ≡ block_at file number
+  Carries request = (number size : ℕ) → message.parsed_request_of request ≡ Ok (Req.Data number size) → drop 4 request ≡ block_at file number
 
   -- The accepted blocks, the newest first, are the file's first ones.
   abbrev pub FirstBlocks : List (List ℕ) → Type 0
@@ -86,7 +86,7 @@ module _ (file : List ℕ) where
 
   module _ (block : List ℕ) (taken : List (List ℕ)) (h : FirstBlocks taken) where
     abbrev Then : Phase → Request → Step → Type 0
-    Then before q s = FirstBlocks (pick (accepts_block before (Valid q) (receiver_number_of s.answer)) (block ∷ taken) taken)
+    Then before q s = FirstBlocks (pick (accepts_block before (Ok q) (receiver_number_of s.answer)) (block ∷ taken) taken)
 
     due_first : (t : Bool) → block ≡ block_at file (length taken) → FirstBlocks (pick t (block ∷ taken) taken)
     due_first t same = pick_all FirstBlocks t (block ∷ taken) taken (λ _. (same, h)) (λ _. h)
@@ -97,7 +97,7 @@ module _ (file : List ℕ) where
         → Then (Transfer p) (Req.Data number size) (receiver_decide_of (Transfer p) (Req.Data number size) capacity readiness verdict)
     unfolding pick
     data_first p number size capacity readiness verdict count same (inl due) =
-        due_first (accepts_block (Transfer p) (Valid (Req.Data number size)) (receiver_number_of (receiver_decide_of (Transfer p) (Req.Data number size) capacity readiness verdict).answer))
+        due_first (accepts_block (Transfer p) (Ok (Req.Data number size)) (receiver_number_of (receiver_decide_of (Transfer p) (Req.Data number size) capacity readiness verdict).answer))
         (same ∙ ap (block_at file) (due ∙ count))
     data_first p number size capacity readiness verdict count same (inr early) = rw (answers_22 p number size capacity readiness verdict early) h
 
@@ -121,7 +121,7 @@ module _ (file : List ℕ) where
   closed_at before phase e h = rw e at h
 
   -- An empty block is the file's block of its number only where the file ends before it.
-  empty_closes : (request : List ℕ) (number : ℕ) → Carries request → message.parsed_request_of request ≡ Valid (Req.Data number 0) → length file ≤ 256 * number
+  empty_closes : (request : List ℕ) (number : ℕ) → Carries request → message.parsed_request_of request ≡ Ok (Req.Data number 0) → length file ≤ 256 * number
   empty_closes request number same e =
       let sized = (request_sized request (Req.Data number 0) e).1 in
       let block = ap length (same number 0 e) in
@@ -147,9 +147,9 @@ module _ (file : List ℕ) where
           (λ q _ _ e.
           let s = receiver_decide_of r.phase q r.capacity readiness verdict in
           rw e
-          (forgets_first s.phase (pick (accepts_block r.phase (Valid q) (receiver_number_of s.answer)) (drop 4 request ∷ taken) taken)
+          (forgets_first s.phase (pick (accepts_block r.phase (Ok q) (receiver_number_of s.answer)) (drop 4 request ∷ taken) taken)
           (decide_first (drop 4 request) taken h.blocks r.phase q r.capacity readiness verdict image (reached_holds h.reached)
-          (λ number size e'. same number size (e ∙ ap (λ x. Valid x) e')))))
+          (λ number size e'. same number size (e ∙ ap (λ x. Ok x) e')))))
 
       from_await : (a : Accepted) → (r.phase ≡ Await a) ⊎ Closes r.phase request a → length file ≤ 256 * a.blocks
       from_await a (inl e) = closed_at r.phase (Await a) e h.closed

@@ -9,8 +9,7 @@ use lib.ListN.{length, drop}
 use Rattle.basis.specs.Pick.{pick}
 use Rattle.wire.specs.Request as message
 use Rattle.wire.specs.declared.request.Request.TheVariants as Req
-use Rattle.wire.specs.declared.request.Parsed.{Parsed}
-use Rattle.wire.specs.declared.request.Parsed.TheVariants as Par
+use Rattle.wire.specs.Request.{Parsed}
 use Rattle.receiver_rules.proofs.Elapsed.{Lasts, stays_below}
 use Rattle.receiver_state.specs.declared.phase.Phase.{Phase}
 use Rattle.receiver_state.specs.declared.phase.Phase.TheVariants.{Idle, Transfer, Await, Good}
@@ -26,16 +25,17 @@ use Rattle.receiver_rules.proofs.TimeLaws.{time_lasts, time_settings}
 use Rattle.receiver_rules.proofs.Held.{Held, forgets_held}
 use Rattle.receiver_rules.proofs.Keeps.{decide_keeps}
 use Rattle.receiver_rules.proofs.Fresh.{start_fresh}
+use Rattle.std.specs.Prelude.{Ok, Err}
 
 -- A request that is refused accepts no block.
 refused_block : (m : Parsed) (answered : ℕ) → eqb answered 0 ≡ false → block_answered m answered ≡ false
-refused_block Par.Malformed answered h = refl
-refused_block (Par.Valid Req.GetFwId) answered h = refl
-refused_block (Par.Valid (Req.Initiate v)) answered h = refl
-refused_block (Par.Valid (Req.Data number size)) answered h = rw h
-refused_block (Par.Valid Req.Validate) answered h = refl
-refused_block (Par.Valid Req.Abort) answered h = refl
-refused_block (Par.Valid Req.NotBuilt) answered h = refl
+refused_block (Err refusal) answered h = refl
+refused_block (Ok Req.GetFwId) answered h = refl
+refused_block (Ok (Req.Initiate v)) answered h = refl
+refused_block (Ok (Req.Data number size)) answered h = rw h
+refused_block (Ok Req.Validate) answered h = refl
+refused_block (Ok Req.Abort) answered h = refl
+refused_block (Ok Req.NotBuilt) answered h = refl
 
 pub refused_accepts : (before : Phase) (m : Parsed) (answered : ℕ) → eqb answered 0 ≡ false → accepts_block before m answered ≡ false
 refused_accepts Idle m answered h = refl

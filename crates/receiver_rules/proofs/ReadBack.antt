@@ -15,7 +15,6 @@ use Rattle.wire.specs.Response.{parsed_response_of}
 use Rattle.wire.specs.declared.request.Request.{Request}
 use Rattle.wire.specs.declared.request.Request.TheVariants as Req
 use Rattle.wire.specs.declared.response.Identity.{Identity}
-use Rattle.wire.specs.declared.response.Parsed.TheVariants.{Valid}
 use Rattle.wire.specs.declared.response.Response.{Response}
 use Rattle.receiver_state.specs.Answer.{get_fw_id_reply, initiate_reply, data_reply, validate_reply, reply_of}
 use Rattle.receiver_state.specs.Phase.{accepted_of}
@@ -40,6 +39,7 @@ use Rattle.receiver_rules.specs.Time.{receiver_time_of}
 use Rattle.receiver_rules.proofs.InPlace.{limits}
 use Rattle.receiver_rules.proofs.Walk.{request_walk, time_walk}
 use Rattle.receiver_rules.proofs.Written.{Leads, read_back, request_leads, time_leads}
+use Rattle.std.specs.Prelude.{Ok}
 
 -- The block numbers of an answer have 16 bits.
 abbrev Numbered : Answer → Type 0
@@ -172,7 +172,7 @@ module _ (identity : Identity) (words : Sixteen identity) (capacity : ℕ) (room
 -- What an answer sends, a reader finds in the bytes.
 abbrev pub Finds : Receiver → Outcome → List ℕ → Type 0
 Finds r outcome out = (sent : Response) → reply_of r.identity r.capacity outcome.answer ≡ Sends sent
-    → parsed_response_of (take outcome.written out) ≡ Valid (as_read sent)
+    → parsed_response_of (take outcome.written out) ≡ Ok (as_read sent)
 
 module _ {r : Receiver} {image₀ : List ℕ} {taken : List (List ℕ)} (reached : Reached r image₀ taken) (words : Sixteen r.identity) where
   finds : (out : List ℕ) (outcome : Outcome) (out' : List ℕ) → Leads r out outcome out' → Numbered outcome.answer → Finds r outcome out'

@@ -12,7 +12,6 @@ use Rattle.wire.specs.Request as message
 use Rattle.wire.proofs.Sizes.{request_sized}
 use Rattle.wire.specs.declared.request.Request.{Request}
 use Rattle.wire.specs.declared.request.Request.TheVariants as Req
-use Rattle.wire.specs.declared.request.Parsed.TheVariants.{Valid}
 use Rattle.receiver_state.specs.Phase.{accepted_counts}
 use Rattle.receiver_rules.specs.Decide.{receiver_progress, receiver_decide_of}
 use Rattle.receiver_rules.proofs.Owes.{Taken, Puts, decide_row}
@@ -26,6 +25,7 @@ use Rattle.receiver_rules.specs.Request.{image_after}
 use Rattle.receiver_state.specs.declared.session.Receiver.{Receiver}
 use Rattle.receiver_rules.proofs.Walk.{request_walk}
 use Rattle.receiver_rules.proofs.Laws.{after, next}
+use Rattle.std.specs.Prelude.{Ok}
 
 -- A taken block, and the image that it leaves: the block in its place, and every byte before and behind it as it was.
 pub record Stored (before : Phase) (capacity : ℕ) (request image image' : List ℕ) (then : Phase) : Type 0 where
@@ -33,7 +33,7 @@ pub record Stored (before : Phase) (capacity : ℕ) (request image image' : List
   pub transfer : before ≡ Transfer p
   pub number : ℕ
   pub size : ℕ
-  pub parsed : message.parsed_request_of request ≡ Valid (Req.Data number size)
+  pub parsed : message.parsed_request_of request ≡ Ok (Req.Data number size)
   pub sized : length (drop 4 request) ≡ size
   pub due : number ≡ p.accepted.blocks
   pub whole : p.short ≡ false
@@ -47,11 +47,11 @@ pub record Stored (before : Phase) (capacity : ℕ) (request image image' : List
   pub counted : then ≡ Transfer (receiver_progress (accepted_counts (number + 1) (256 * number + size)) (ltb size 256))
 
 module _ (image request : List ℕ) (capacity : ℕ) (room : length image ≡ capacity) where
-  pub taken_stored : (p : Progress) (q : Request) (number : ℕ) (then : Phase) → message.parsed_request_of request ≡ Valid q → Taken p q capacity number then
+  pub taken_stored : (p : Progress) (q : Request) (number : ℕ) (then : Phase) → message.parsed_request_of request ≡ Ok q → Taken p q capacity number then
       → Stored (Transfer p) capacity request image (image_after (At number) image request) then
   unfolding image_after
   taken_stored p q number then e t =
-      let parsed : message.parsed_request_of request ≡ Valid (Req.Data number t.size) = e ∙ ap (λ x. Valid x) t.is_data in
+      let parsed : message.parsed_request_of request ≡ Ok (Req.Data number t.size) = e ∙ ap (λ x. Ok x) t.is_data in
       let size = request_sized request (Req.Data number t.size) parsed in
       let short = size.2 in
       let fits = t.fits in
@@ -77,7 +77,7 @@ module _ (image request : List ℕ) (capacity : ℕ) (room : length image ≡ ca
         counted = t.counted;
       })
 
-  store_image : (before : Phase) (q : Request) (then : Phase) (s : Store) → message.parsed_request_of request ≡ Valid q → Puts before q capacity then s
+  store_image : (before : Phase) (q : Request) (then : Phase) (s : Store) → message.parsed_request_of request ≡ Ok q → Puts before q capacity then s
       → (image_after s image request ≡ image) ⊎ Stored before capacity request image (image_after s image request) then
   unfolding image_after
   store_image before q then Nowhere e h = inl refl

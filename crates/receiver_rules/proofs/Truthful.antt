@@ -9,8 +9,7 @@ use Rattle.wire.specs.Header.{headed}
 use Rattle.wire.specs.Response.{identified_in, initiated_in, receipt_in, validated_in, response_of_type, parsed_response_of}
 use Rattle.wire.specs.Written.{response_bytes, identified_bytes, initiated_bytes, receipt_bytes, validated_bytes}
 use Rattle.wire.specs.declared.response.Response.TheVariants as Res
-use Rattle.wire.specs.declared.response.Parsed.{Parsed}
-use Rattle.wire.specs.declared.response.Parsed.TheVariants as Par
+use Rattle.wire.specs.Response.{Parsed}
 use Rattle.receiver_state.specs.Answer.{get_fw_id_reply, initiate_reply, data_reply, validate_reply, reply_of}
 use Rattle.receiver_state.specs.declared.answer.Answer.{Answer}
 use Rattle.receiver_state.specs.declared.answer.Answer.TheVariants.{Identified, Offered, Asking, Closed, Success, Later, Aborted, Passed, Malformed, UnexpectedInitiate, UnexpectedData, UnexpectedValidate, Unexpected, NotDue, PassesCapacity, WrongFile, VerdictBad, OutOfRange, BufferShort, ImageLength}
@@ -31,15 +30,17 @@ use Rattle.receiver_rules.proofs.Walk.{request_walk, time_walk}
 use Rattle.receiver_rules.proofs.Laws.{good_stays}
 use Rattle.receiver_rules.proofs.TimeLaws.{time_good}
 use Rattle.receiver_rules.proofs.Written.{first_bytes, request_leads, time_leads}
+use Rattle.std.specs.Prelude.{Ok}
+use Rattle.wire.specs.Header.{malformed}
 
 -- A VALIDATE response with the success bit.
 abbrev pub Succeeds : Parsed → Type 0
-Succeeds (Par.Valid (Res.GetFwId status reported)) = ⊥
-Succeeds (Par.Valid (Res.Initiate status wait size)) = ⊥
-Succeeds (Par.Valid (Res.Data status wait number)) = ⊥
-Succeeds (Par.Valid (Res.Validate status wait success)) = success ≡ true
-Succeeds (Par.Valid Res.NotBuilt) = ⊥
-Succeeds Par.Malformed = ⊥
+Succeeds (Ok (Res.GetFwId status reported)) = ⊥
+Succeeds (Ok (Res.Initiate status wait size)) = ⊥
+Succeeds (Ok (Res.Data status wait number)) = ⊥
+Succeeds (Ok (Res.Validate status wait success)) = success ≡ true
+Succeeds (Ok Res.NotBuilt) = ⊥
+Succeeds malformed = ⊥
 
 -- A message from a receiver in this phase has the success bit only where the phase is Good.
 abbrev pub Truthful : Phase → List ℕ → Type 0

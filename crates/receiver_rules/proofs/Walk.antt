@@ -10,8 +10,7 @@ use Rattle.basis.specs.Left.{Left, left}
 use Rattle.wire.specs.Codes.{longest}
 use Rattle.wire.specs.Request as message
 use Rattle.wire.specs.declared.request.Request.{Request}
-use Rattle.wire.specs.declared.request.Parsed.{Parsed}
-use Rattle.wire.specs.declared.request.Parsed.TheVariants as Par
+use Rattle.wire.specs.Request.{Parsed}
 use Rattle.receiver_state.specs.declared.answer.Answer.TheVariants.{Malformed, OutOfRange, BufferShort, ImageLength}
 use Rattle.receiver_rules.specs.Range.{out_of_range}
 use Rattle.receiver_rules.specs.Decide.{receiver_decide_of}
@@ -22,24 +21,26 @@ use Rattle.receiver_rules.specs.Request.{Effect, request_kept, request_done, req
 use Rattle.receiver_rules.specs.Time.{receiver_ticked_of, receiver_elapsed_of, receiver_time_of}
 use Rattle.receiver_state.specs.declared.session.Receiver.{Receiver}
 use Rattle.receiver_state.specs.declared.session.Outcome.{Outcome}
+use Rattle.std.specs.Prelude.{Ok, Err}
+use Rattle.wire.specs.Header.{malformed}
 
 module _ (r : Receiver) (image request : List ℕ) (readiness : ℕ) (verdict : Verdict) (out : List ℕ) where
   -- The effect of the step that a well-formed request asks for.
   abbrev pub heard : Request → Effect
   heard q = request_done r (receiver_decide_of r.phase q r.capacity readiness verdict) image request out
 
-  read_walk : (P : Effect → Type 0) (m : Parsed) → (m ≡ Par.Malformed → P (request_kept r Malformed image out)) → ((q : Request) → m ≡ Par.Valid q → P (heard q))
+  read_walk : (P : Effect → Type 0) (m : Parsed) → (m ≡ malformed → P (request_kept r Malformed image out)) → ((q : Request) → m ≡ Ok q → P (heard q))
       → P (request_read_of r m image request readiness verdict out)
   unfolding request_read_of
-  read_walk P Par.Malformed bad good = bad refl
-  read_walk P (Par.Valid q) bad good = good q refl
+  read_walk P (Err refusal) bad good = bad refl
+  read_walk P (Ok q) bad good = good q refl
 
   pub request_walk : (P : Effect → Type 0)
       → P (request_kept r ImageLength image out)
       → P (request_kept r BufferShort image out)
       → P (request_kept r OutOfRange image out)
       → P (request_kept r Malformed image out)
-      → ((q : Request) → length image ≡ r.capacity → longest ≤ length out → message.parsed_request_of request ≡ Par.Valid q → P (heard q))
+      → ((q : Request) → length image ≡ r.capacity → longest ≤ length out → message.parsed_request_of request ≡ Ok q → P (heard q))
       → P (receiver_request_of r image request readiness verdict out)
   unfolding receiver_request_of
   request_walk P length-bad short range bad good =

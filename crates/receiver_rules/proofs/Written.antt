@@ -15,9 +15,7 @@ use Rattle.wire.specs.Fields.{Answerable, as_read}
 use Rattle.wire.proofs.RoundTrip.{response_back}
 use Rattle.wire.specs.declared.request.Request.{Request}
 use Rattle.wire.specs.declared.request.Request.TheVariants as Req
-use Rattle.wire.specs.declared.request.Parsed.TheVariants.{Valid}
 use Rattle.wire.specs.declared.response.Response.{Response}
-use Rattle.wire.specs.declared.response.Parsed.TheVariants as ResPar
 use Rattle.receiver_state.specs.Answer.{reply_of}
 use Rattle.receiver_state.specs.declared.answer.Answer.{Answer}
 use Rattle.receiver_state.specs.declared.answer.Reply.{Reply}
@@ -33,6 +31,7 @@ use Rattle.receiver_rules.specs.Time.{receiver_time_of}
 use Rattle.receiver_state.specs.declared.session.Receiver.{Receiver}
 use Rattle.receiver_state.specs.declared.session.Outcome.{Outcome}
 use Rattle.receiver_rules.proofs.Walk.{request_walk, time_walk}
+use Rattle.std.specs.Prelude.{Ok}
 
 reply_fits : (reply : Reply) → length (reply_bytes reply) ≤ 22
 unfolding reply_bytes
@@ -62,7 +61,7 @@ module _ (r : Receiver) (out : List ℕ) (outcome : Outcome) (out' : List ℕ) (
 
   -- What was written is one message: a reader finds the answer's response in it.
   pub read_back : (sent : Response) → reply_of r.identity r.capacity outcome.answer ≡ Sends sent → Answerable sent
-      → response.parsed_response_of (take outcome.written out') ≡ ResPar.Valid (as_read sent)
+      → response.parsed_response_of (take outcome.written out') ≡ Ok (as_read sent)
   unfolding reply_bytes
   read_back sent e can = rw (first_bytes, e) (response_back sent can)
 
@@ -134,7 +133,7 @@ unanswered_silent r Req.NotBuilt readiness verdict before h = refl
 
 module _ (r : Receiver) (image request : List ℕ) (readiness : ℕ) (verdict : Verdict) (out : List ℕ) where
   -- Nothing is written for them, whatever the phase and the answer.
-  pub nothing_written : (q : Request) → message.parsed_request_of request ≡ Valid q → Unanswered q
+  pub nothing_written : (q : Request) → message.parsed_request_of request ≡ Ok q → Unanswered q
       → ((receiver_request_of r image request readiness verdict out).out ≡ out) × ((receiver_request_of r image request readiness verdict out).outcome.written ≡ 0)
   nothing_written q e h =
       request_walk r image request readiness verdict out (λ x. (x.out ≡ out) × (x.outcome.written ≡ 0))

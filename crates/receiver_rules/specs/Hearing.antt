@@ -5,8 +5,7 @@ use Rattle.basis.specs.Pick.{pick, differ}
 use Rattle.lent.specs.Written.{returns_written}
 use Rattle.wire.specs.Codes.{longest}
 use Rattle.wire.specs.Request as message
-use Rattle.wire.specs.declared.request.Parsed.{Parsed}
-use Rattle.wire.specs.declared.request.Parsed.TheVariants as Par
+use Rattle.wire.specs.Request.{Parsed}
 use Rattle.wire.specs.declared.response.Identity.{Identity}
 use Rattle.receiver_state.specs.Answer.{get_fw_id_reply, reply_of}
 use Rattle.receiver_state.specs.declared.answer.Answer.{Answer}
@@ -19,6 +18,7 @@ use Rattle.receiver_rules.specs.Range.{out_of_range}
 use Rattle.receiver_rules.specs.Request.{image_after}
 use Rattle.receiver_rules.specs.Respond.{reply_bytes}
 use Rattle.receiver_state.specs.declared.step.Heard.{Heard}
+use Rattle.std.specs.Prelude.{Ok, Err}
 
 abbrev pub heard : Phase → Answer → Bool → Heard
 heard phase answer kept = record { phase = phase; answer = answer; kept = kept }
@@ -31,8 +31,8 @@ receiver_done step image request = left (heard step.phase step.answer false) (im
 
 -- 20, and then what the request asks for
 unfoldable pub heard_read_of : Phase → ℕ → Parsed → List ℕ → List ℕ → ℕ → Verdict → Left Heard
-heard_read_of phase capacity Par.Malformed image request readiness verdict = left (receiver_kept phase Malformed) image
-heard_read_of phase capacity (Par.Valid valid) image request readiness verdict =
+heard_read_of phase capacity (Err refusal) image request readiness verdict = left (receiver_kept phase Malformed) image
+heard_read_of phase capacity (Ok valid) image request readiness verdict =
     receiver_done (receiver_decide_of phase valid capacity readiness verdict) image request
 
 -- 28, 27, 26, 20, and then what the request asks for; `room` is the output buffer's length

@@ -6,8 +6,7 @@ use Rattle.basis.specs.Pick.{pick}
 use Rattle.wire.specs.Codes.{data_head}
 use Rattle.wire.specs.Request as message
 use Rattle.wire.specs.declared.request.Request.TheVariants as Req
-use Rattle.wire.specs.declared.request.Parsed.{Parsed}
-use Rattle.wire.specs.declared.request.Parsed.TheVariants as Par
+use Rattle.wire.specs.Request.{Parsed}
 use Rattle.wire.specs.declared.response.Identity.{Identity}
 use Rattle.receiver_state.specs.Answer.{receiver_number_of}
 use Rattle.receiver_state.specs.declared.phase.Phase.{Phase}
@@ -19,16 +18,17 @@ use Rattle.receiver_rules.specs.Time.{receiver_time_of}
 use Rattle.receiver_state.specs.declared.session.Receiver.{Receiver}
 use Rattle.receiver_state.specs.declared.session.Outcome.{Outcome}
 use Rattle.receiver_state.specs.declared.session.Started.TheVariants.{Made}
+use Rattle.std.specs.Prelude.{Ok, Err}
 
 -- A DATA request with a non-empty block that was answered 0.
 abbrev pub block_answered : Parsed → ℕ → Bool
-block_answered Par.Malformed answered = false
-block_answered (Par.Valid Req.GetFwId) answered = false
-block_answered (Par.Valid (Req.Initiate versions)) answered = false
-block_answered (Par.Valid (Req.Data number size)) answered = eqb answered 0 && ltb 0 size
-block_answered (Par.Valid Req.Validate) answered = false
-block_answered (Par.Valid Req.Abort) answered = false
-block_answered (Par.Valid Req.NotBuilt) answered = false
+block_answered (Err refusal) answered = false
+block_answered (Ok Req.GetFwId) answered = false
+block_answered (Ok (Req.Initiate versions)) answered = false
+block_answered (Ok (Req.Data number size)) answered = eqb answered 0 && ltb 0 size
+block_answered (Ok Req.Validate) answered = false
+block_answered (Ok Req.Abort) answered = false
+block_answered (Ok Req.NotBuilt) answered = false
 
 -- In Transfer that block is accepted; in Await the same answer is the closing answer again.
 abbrev pub accepts_block : Phase → Parsed → ℕ → Bool

@@ -5,8 +5,7 @@ use Rattle.lent.specs.Written.{written_into}
 use Rattle.image.specs.Blocks.{put_block_of}
 use Rattle.wire.specs.Codes.{longest, data_head}
 use Rattle.wire.specs.Request as message
-use Rattle.wire.specs.declared.request.Parsed.{Parsed}
-use Rattle.wire.specs.declared.request.Parsed.TheVariants as Par
+use Rattle.wire.specs.Request.{Parsed}
 use Rattle.receiver_rules.specs.Range.{out_of_range}
 use Rattle.receiver_rules.specs.Decide.{receiver_decide_of}
 use Rattle.receiver_state.specs.declared.verdict.Verdict.{Verdict}
@@ -19,6 +18,7 @@ use Rattle.receiver_rules.specs.Session.{receiver_returns, receiver_moved}
 use Rattle.receiver_rules.specs.Respond.{receiver_bytes_of}
 use Rattle.receiver_state.specs.declared.session.Receiver.{Receiver}
 use Rattle.receiver_state.specs.declared.session.Outcome.{Outcome}
+use Rattle.std.specs.Prelude.{Ok, Err}
 
 -- What a request call returns, and the image and the output buffer that it leaves.
 pub record Effect : Type 0 where
@@ -52,8 +52,8 @@ request_done r step image request out =
 
 -- 20, and then what the request asks for
 unfoldable pub request_read_of : Receiver → Parsed → List ℕ → List ℕ → ℕ → Verdict → List ℕ → Effect
-request_read_of r Par.Malformed image request readiness verdict out = request_kept r Malformed image out
-request_read_of r (Par.Valid valid) image request readiness verdict out =
+request_read_of r (Err refusal) image request readiness verdict out = request_kept r Malformed image out
+request_read_of r (Ok valid) image request readiness verdict out =
     request_done r (receiver_decide_of r.phase valid r.capacity readiness verdict) image request out
 
 -- 28, 27, 26, 20, and then what the request asks for

@@ -2,8 +2,7 @@
 use Rattle.std.specs.Prelude.{ℕ, ltb}
 use Rattle.basis.specs.Pick.{pick}
 use Rattle.silence.specs.Settings.{settings_of}
-use Rattle.silence.specs.declared.Checked.{Checked}
-use Rattle.silence.specs.declared.Checked.TheVariants as Che
+use Rattle.silence.specs.Settings.{Checked}
 use Rattle.wire.specs.Codes.{image_size_most}
 use Rattle.wire.specs.declared.response.Identity.{Identity}
 use Rattle.receiver_state.specs.declared.answer.Answer.{Answer}
@@ -13,11 +12,12 @@ use Rattle.receiver_state.specs.declared.session.Receiver.{Receiver}
 use Rattle.receiver_state.specs.declared.session.Outcome.{Outcome}
 use Rattle.receiver_state.specs.declared.session.Started.{Started}
 use Rattle.receiver_state.specs.declared.session.Started.TheVariants.{Made, Refused}
+use Rattle.std.specs.Prelude.{Ok, Err}
 
 -- Settings outside their limits: 29, no session. A fresh session is in Idle.
 unfoldable pub receiver_fresh_of : Checked → Identity → ℕ → Started
-receiver_fresh_of Che.Refused identity capacity = Refused
-receiver_fresh_of (Che.Made settings) identity capacity =
+receiver_fresh_of (Err refusal) identity capacity = Refused
+receiver_fresh_of (Ok settings) identity capacity =
     Made (record { settings = settings; identity = identity; capacity = capacity; phase = Idle; silence = 0; resends = 0 })
 
 -- Capacity is the lent image memory's length; above 1,048,575: 29; 0 is allowed (01, Sizes and numbers).

@@ -10,12 +10,12 @@ use Rattle.basis.specs.Pick.{pick_no}
 use Rattle.basis.specs.Left.{left, leaves}
 use Rattle.lent.specs.Put.{put_of}
 use Rattle.lent.proofs.Laws.{put_leads}
-use Rattle.lent.specs.declared.Placed.{Placed}
 use Rattle.recording.specs.Writing.{record_bytes_of, room_least, in_nine, record_write_of}
 use Rattle.recording.proofs.Sizes.{record_sized}
 use Rattle.recording.specs.declared.record.Record.{Record}
 use Rattle.recording.specs.declared.writer.Written.TheVariants.{Whole}
 use Rattle.recording.specs.declared.writer.Nine.{Nine}
+use Rattle.lent.specs.Put.{Placed}
 
 module _ (r : Record) (nine : Nine) (e : nine ≡ in_nine (record_bytes_of r)) where
   pub nine_len : nine.len ≡ length (record_bytes_of r)

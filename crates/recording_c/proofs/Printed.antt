@@ -10,12 +10,12 @@ use Rattle.basis.specs.Pick.{pick_no}
 use Rattle.basis.specs.Left.{left, leaves}
 use Rattle.lent.specs.Put.{put_of}
 use Rattle.lent.proofs.Laws.{put_leads}
-use Rattle.lent.specs.declared.Placed.{Placed}
 use Rattle.printing.specs.Line.{text_of, stop_text, line_in, line_of, stop_of, line_longest}
 use Rattle.printing.specs.declared.text.Line.{Line}
 use Rattle.printing.proofs.Texts.{line_holds, line_sized}
 use Rattle.recording_c.specs.Writes.{wrote}
 use Rattle.recording_c.specs.Lines.{printed_of, harsolvek_record_line, harsolvek_record_stop}
+use Rattle.lent.specs.Put.{Placed}
 
 -- The front of an array, put at the start of a buffer with room for every line.
 pub front_printed : (bytes : List ℕ) (len : ℕ) (out after : List ℕ) (p : Placed)

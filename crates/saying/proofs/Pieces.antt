@@ -10,32 +10,31 @@ use lib.ListN.{length}
 use Rattle.basis.specs.Pick.{pick}
 use Rattle.basis.specs.Left.{Left, left}
 use Rattle.lent.specs.Put.{pasted, put_of}
-use Rattle.lent.specs.declared.Placed.{Placed}
-use Rattle.lent.specs.declared.Placed.TheVariants.{Stored, NoRoom}
 use Rattle.saying.specs.Said.{said, appended_of}
 use Rattle.saying.specs.declared.said.Said.{Said}
+use Rattle.lent.specs.Put.{Placed, no_room, stored}
 
-stored_apart : Stored ≡ NoRoom → ⊥
+stored_apart : stored ≡ no_room → ⊥
 stored_apart h = let z : ◌≡◌ {A = ℕ} 0 1 = cc in omega arith
 
 module _ (d : List ℕ) (at : ℕ) (s : List ℕ) where
   abbrev put : Bool → Left Placed
-  put passes = pick passes (left NoRoom d) (left Stored (pasted d at s))
+  put passes = pick passes (left no_room d) (left stored (pasted d at s))
 
   abbrev text : Bool → Said
   text passes = pick passes (said at d) (said (at + length s) (pasted d at s))
 
-  has_room : (passes : Bool) → (put passes).answer ≡ Stored → passes ≡ false
+  has_room : (passes : Bool) → (put passes).answer ≡ stored → passes ≡ false
   unfolding pick
   has_room true e = absurd (stored_apart (sym e))
   has_room false e = refl
 
-  added : (passes : Bool) → (put passes).answer ≡ Stored → said (at + length s) (put passes).memory ≡ text passes
+  added : (passes : Bool) → (put passes).answer ≡ stored → said (at + length s) (put passes).memory ≡ text passes
   unfolding pick
   added true e = absurd (stored_apart (sym e))
   added false e = refl
 
-  kept : (passes : Bool) → (put passes).answer ≡ NoRoom → said at (put passes).memory ≡ text passes
+  kept : (passes : Bool) → (put passes).answer ≡ no_room → said at (put passes).memory ≡ text passes
   unfolding pick
   kept true e = refl
   kept false e = absurd (stored_apart e)
@@ -47,14 +46,14 @@ module _ (d : List ℕ) (at : ℕ) (s : List ℕ) where
     memory : x.memory ≡ (put_of d at s).memory
     memory = ap (λ (y : Left Placed). y.memory) is
 
-    pub stored_fits : x.answer ≡ Stored → at + length s ≤ length d
+    pub stored_fits : x.answer ≡ stored → at + length s ≤ length d
     unfolding put_of
     stored_fits e = ltb-false (length d) (at + length s) (has_room (ltb (length d) (at + length s)) (sym answer ∙ e))
 
-    pub text_added : x.answer ≡ Stored → said (at + length s) x.memory ≡ appended_of (said at d) s
+    pub text_added : x.answer ≡ stored → said (at + length s) x.memory ≡ appended_of (said at d) s
     unfolding put_of appended_of
     text_added e = ap (said (at + length s)) memory ∙ added (ltb (length d) (at + length s)) (sym answer ∙ e)
 
-    pub text_kept : x.answer ≡ NoRoom → said at x.memory ≡ appended_of (said at d) s
+    pub text_kept : x.answer ≡ no_room → said at x.memory ≡ appended_of (said at d) s
     unfolding put_of appended_of
     text_kept e = ap (said at) memory ∙ kept (ltb (length d) (at + length s)) (sym answer ∙ e)

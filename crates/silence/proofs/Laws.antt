@@ -2,20 +2,19 @@
 use Prim.Native.Nat.{ℕ, ◌+◌, ◌<◌, ◌≤◌}
 use mathlib.Core.Path.{◌≡◌, refl, ◌∙◌, ap}
 use native.Mathlib.Omega.{arith}
+use Rattle.std.specs.Prelude.{Result, Ok, Err}
 use borrow.Author.Tests.{ltb-true, ltb-false, le-ltb}
 use lib.Dec.{ltb}
 use Rattle.basis.specs.Pick.{pick, pick_all}
 use Rattle.silence.specs.Within.{Within}
-use Rattle.silence.specs.Settings.{limit_least, limit_most, resends_most, settings_of, settings_number_of}
+use Rattle.silence.specs.Settings.{Checked, out_of_limits, limit_least, limit_most, resends_most, settings_of, settings_number_of}
 use Rattle.silence.specs.Expiry.{grown_of, grown}
 use Rattle.silence.specs.declared.Settings.{Settings}
-use Rattle.silence.specs.declared.Checked.{Checked}
-use Rattle.silence.specs.declared.Checked.TheVariants.{Made, Refused}
 use Rattle.silence.specs.declared.Grown.{Grown}
 use Rattle.silence.specs.declared.Event.TheVariants.{Quiet, Resend, NoneLeft}
 
 -- Settings within the limits are made as they were given; settings outside these: 29.
-pub within_made : (limit resends : ℕ) → Within limit resends → settings_of limit resends ≡ Made (record { limit = limit; resends = resends })
+pub within_made : (limit resends : ℕ) → Within limit resends → settings_of limit resends ≡ Ok (record { limit = limit; resends = resends })
 unfolding settings_of pick
 within_made limit resends h =
     let a : limit_least ≤ limit = omega arith in
@@ -36,14 +35,14 @@ outside_29 limit resends h =
     let few = ltb-false resends_most resends c in
     absurd (h (record { low = omega arith; high = omega arith; few = omega arith })))))
 
-refused_made : (s : Settings) → Refused ≡ Made s → ⊥
+refused_made : (s : Settings) → ◌≡◌ {A = Checked} (Err out_of_limits) (Ok s) → ⊥
 refused_made s e = let z : ◌≡◌ {A = ℕ} 0 1 = cc in omega arith
 
 -- Settings that were made are within the limits.
-pub made_within : (limit resends : ℕ) (s : Settings) → settings_of limit resends ≡ Made s → Within limit resends
+pub made_within : (limit resends : ℕ) (s : Settings) → settings_of limit resends ≡ Ok s → Within limit resends
 unfolding settings_of
 made_within limit resends s =
-    let P : Checked → Type 0 = λ x. x ≡ Made s → Within limit resends in
+    let P : Checked → Type 0 = λ x. x ≡ Ok s → Within limit resends in
     pick_all P (ltb limit limit_least) _ _ (λ _ e. absurd (refused_made s e))
     (λ a. pick_all P (ltb limit_most limit) _ _ (λ _ e. absurd (refused_made s e))
     (λ b. pick_all P (ltb resends_most resends) _ _ (λ _ e. absurd (refused_made s e))
@@ -54,7 +53,7 @@ made_within limit resends s =
     record { low = omega arith; high = omega arith; few = omega arith })))
 
 -- Their limit is at least 1.
-pub made_some : (limit resends : ℕ) (s : Settings) → settings_of limit resends ≡ Made s → 1 ≤ s.limit
+pub made_some : (limit resends : ℕ) (s : Settings) → settings_of limit resends ≡ Ok s → 1 ≤ s.limit
 made_some limit resends s e =
     let within = made_within limit resends s e in
     let given = within_made limit resends within in

@@ -2,8 +2,7 @@
 use Rattle.std.specs.Prelude.{ℕ, ◌≡◌}
 use Rattle.basis.specs.Only.{only}
 use Rattle.silence.specs.Expiry.{grown_of}
-use Rattle.silence.specs.Settings.{settings_of, settings_number_of}
-use Rattle.silence.specs.declared.Checked.{Checked}
+use Rattle.silence.specs.Settings.{Checked, settings_of}
 use Rattle.silence.specs.declared.Grown.{Grown}
 use Rattle.silence.specs.declared.Settings.{Settings}
 
@@ -12,12 +11,6 @@ pub one_new : (limit resends : ℕ) (r r' : Checked)
     → r' ≡ settings_of limit resends
     → r ≡ r'
 one_new limit resends r r' is is' = only is is'
-
-pub one_number : (self : Checked) (r r' : ℕ)
-    → r ≡ settings_number_of self
-    → r' ≡ settings_number_of self
-    → r ≡ r'
-one_number self r r' is is' = only is is'
 
 pub one_grow : (silence elapsed resends : ℕ) (settings : Settings) (r r' : Grown)
     → r ≡ grown_of silence elapsed resends settings

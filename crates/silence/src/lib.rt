@@ -2,8 +2,10 @@
 #![tactic(auto)]
 
 ghost use Rattle.std.specs.Prelude.{◌≡◌};
-ghost use Rattle.silence.specs.Settings.{settings_of, settings_number_of};
+ghost use Rattle.silence.specs.Settings.{settings_of, limits_number_of};
 ghost use Rattle.silence.specs.Expiry.{grown_of};
+
+use numbers::Numbered;
 
 // The limit in milliseconds, and how often a message may be sent again (001 T5-30, T5-31, T6-1).
 #[derive(Clone, Copy)]
@@ -12,11 +14,9 @@ pub struct Settings {
     pub resends: u8,
 }
 
+// Numbers of a start that are outside their limits (01, Sizes and numbers).
 #[derive(Clone, Copy)]
-pub enum Checked {
-    Made(Settings),
-    Refused,
-}
+pub struct OutOfLimits;
 
 impl Settings {
     pub const LIMIT_LEAST: u16 = 1;
@@ -26,31 +26,28 @@ impl Settings {
     pub const RESENDS_MOST: u8 = 10;
 
     #[tactic(auto, using(basis::specs::Pick::tests), unfolding(crate::specs::Settings::settings_of))]
-    pub fn new(limit: u16, resends: u8) -> Checked
+    pub fn new(limit: u16, resends: u8) -> Result<Settings, OutOfLimits>
         ensures { result ≡ settings_of limit resends }
     {
         if limit < Settings::LIMIT_LEAST {
-            return Checked::Refused;
+            return Err(OutOfLimits);
         }
         if Settings::LIMIT_MOST < limit {
-            return Checked::Refused;
+            return Err(OutOfLimits);
         }
         if Settings::RESENDS_MOST < resends {
-            return Checked::Refused;
+            return Err(OutOfLimits);
         }
-        Checked::Made(Settings { limit, resends })
+        Ok(Settings { limit, resends })
     }
 }
 
-impl Checked {
-    // 01, Numbers we answer.
-    pub fn number(self) -> u8
-        ensures { result ≡ settings_number_of self }
-    {
-        match self {
-            Checked::Made(_) => 0,
-            Checked::Refused => 29,
-        }
+// 01, Numbers we answer.
+impl Numbered for OutOfLimits {
+    ghost number_of = { limits_number_of };
+
+    fn number(self) -> u8 {
+        29
     }
 }
 
@@ -74,8 +71,8 @@ pub struct Grown {
 pub fn grow(silence: u16, elapsed: u16, resends: u8, settings: Settings) -> Grown
     ensures { result ≡ grown_of silence elapsed resends settings }
 {
-    let sum = silence as u32 + elapsed as u32;
-    if sum < settings.limit as u32 {
+    let sum = u32::from(silence) + u32::from(elapsed);
+    if sum < u32::from(settings.limit) {
         return Grown {
             silence: sum as u16,
             resends,

@@ -18,10 +18,11 @@ use Rattle.wire.specs.Written.{request_bytes, bare_bytes, initiate_bytes, head_b
 use Rattle.wire.specs.Fields.{BuiltRequest, Sendable, block_in}
 use Rattle.wire.specs.declared.request.Request.{Request}
 use Rattle.wire.specs.declared.request.Request.TheVariants.{GetFwId, Validate, Abort, NotBuilt}
-use Rattle.wire.specs.declared.request.Parsed.{Parsed}
-use Rattle.wire.specs.declared.request.Parsed.TheVariants.{Valid, Malformed}
+use Rattle.wire.specs.Request.{Parsed}
 use Rattle.wire.proofs.Walk.{Headed, Reader, HoldsOf, refused, valid_holds, of_length, of_type, with_header}
 use Rattle.wire.proofs.Halves.{bytes_low, bytes_high, bytes_word}
+use Rattle.std.specs.Prelude.{Ok}
+use Rattle.wire.specs.Header.{malformed}
 
 -- How the bytes of m agree with the request r that they are read as.
 pub record Same (m : List ℕ) (r : Request) : Type 0 where
@@ -31,14 +32,14 @@ pub record Same (m : List ℕ) (r : Request) : Type 0 where
   pub fields : BuiltRequest r → Sendable r (block_in m r)
   pub type : (BuiltRequest r → ⊥) → Memᴰ (byte_at m 1) requests_not_built
 
-pub inner : (a b : Request) → Valid a ≡ Valid b → a ≡ b
+pub inner : (a b : Request) → ◌≡◌ {A = Parsed} (Ok a) (Ok b) → a ≡ b
 inner a b e = cc
 
-pub apart : (r : Request) → Malformed ≡ Valid r → ⊥
+pub apart : (r : Request) → ◌≡◌ {A = Parsed} malformed (Ok r) → ⊥
 apart r e = let z : ◌≡◌ {A = ℕ} 0 1 = cc in omega arith
 
 abbrev pub requests : Reader Request Parsed
-requests = record { valid = Valid; malformed = Malformed; inner = inner; apart = apart }
+requests = record { valid = Ok; malformed = malformed; inner = inner; apart = apart }
 
 bare_same : (m : List ℕ) (t : ℕ) → byte_at m 0 ≡ 1 → byte_at m 1 ≡ t → length m ≡ 2 → bare_bytes t ++ [] ≡ m
 unfolding bare_bytes spell
@@ -80,7 +81,7 @@ module _ (m : List ℕ) (small : Bytes m) (h : Headed m) where
       let short = h.short in
       valid_holds requests (Same m) _ (built _ tt (data_same m small h.version e four) (bytes_word m small 2, length-drop 4 m, omega arith)))
 
-  not_built : Memᴰ (byte_at m 1) requests_not_built → HoldsOf requests (Same m) (Valid NotBuilt)
+  not_built : Memᴰ (byte_at m 1) requests_not_built → HoldsOf requests (Same m) (Ok NotBuilt)
   unfolding request_bytes
   not_built known =
       let long = h.long in
@@ -105,6 +106,6 @@ module _ (m : List ℕ) (small : Bytes m) (h : Headed m) where
       (by data_pause _ _ (λ e. not_built (Memᴰ.tail (Memᴰ.head e)))
       (by vendor_specific _ _ (λ e. not_built (Memᴰ.tail (Memᴰ.tail (Memᴰ.head e)))) (refused requests (Same m)))))))))
 
-pub request_same : (m : List ℕ) → Bytes m → (r : Request) → parsed_request_of m ≡ Valid r → Same m r
+pub request_same : (m : List ℕ) → Bytes m → (r : Request) → parsed_request_of m ≡ Ok r → Same m r
 unfolding parsed_request_of HoldsOf
 request_same m small = with_header requests (Same m) m (request_of_type m (byte_at m 1)) (typed_read m small)

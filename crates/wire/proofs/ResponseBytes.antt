@@ -17,11 +17,12 @@ use Rattle.wire.specs.Written.{response_bytes, identified_bytes, initiated_bytes
 use Rattle.wire.specs.Fields.{BuiltResponse, Plain, Answerable, as_read}
 use Rattle.wire.specs.declared.response.Response.{Response}
 use Rattle.wire.specs.declared.response.Response.TheVariants.{GetFwId, Initiate, Data, Validate, NotBuilt}
-use Rattle.wire.specs.declared.response.Parsed.{Parsed}
-use Rattle.wire.specs.declared.response.Parsed.TheVariants.{Valid, Malformed}
+use Rattle.wire.specs.Response.{Parsed}
 use Rattle.wire.proofs.Walk.{Headed, Reader, HoldsOf, refused, valid_holds, of_length, of_type, with_header}
 use Rattle.wire.proofs.RoundTrip.{response_back}
 use Rattle.wire.proofs.Halves.{bytes_low, bytes_high, bytes_word, upper_twice, rest_twice, first_back, second_back, third_back}
+use Rattle.std.specs.Prelude.{Ok}
+use Rattle.wire.specs.Header.{malformed}
 
 -- How the bytes of m agree with the response r that they are read as.
 pub record Same (m : List ℕ) (r : Response) : Type 0 where
@@ -32,14 +33,14 @@ pub record Same (m : List ℕ) (r : Response) : Type 0 where
   pub cleared_already : as_read r ≡ r
   pub type : (BuiltResponse r → ⊥) → Memᴰ (byte_at m 1) responses_not_built
 
-inner : (a b : Response) → Valid a ≡ Valid b → a ≡ b
+inner : (a b : Response) → ◌≡◌ {A = Parsed} (Ok a) (Ok b) → a ≡ b
 inner a b e = cc
 
-apart : (r : Response) → Malformed ≡ Valid r → ⊥
+apart : (r : Response) → ◌≡◌ {A = Parsed} malformed (Ok r) → ⊥
 apart r e = let z : ◌≡◌ {A = ℕ} 0 1 = cc in omega arith
 
 abbrev responses : Reader Response Parsed
-responses = record { valid = Valid; malformed = Malformed; inner = inner; apart = apart }
+responses = record { valid = Ok; malformed = malformed; inner = inner; apart = apart }
 
 flag_back : (x : ℕ) → x < 2 → flag_of (eqb (x % 2) 1) ≡ x
 flag_back zero h = refl
@@ -134,7 +135,7 @@ module _ (m : List ℕ) (small : Bytes m) (h : Headed m) where
     type = λ n. absurd (n tt);
   }
 
-  not_built : Memᴰ (byte_at m 1) responses_not_built → HoldsOf responses (Same m) (Valid NotBuilt)
+  not_built : Memᴰ (byte_at m 1) responses_not_built → HoldsOf responses (Same m) (Ok NotBuilt)
   unfolding response_bytes
   not_built known =
       let long = h.long in
@@ -159,12 +160,12 @@ module _ (m : List ℕ) (small : Bytes m) (h : Headed m) where
       (by data_pause_response _ _ (λ e. not_built (Memᴰ.head e))
       (by vendor_specific_response _ _ (λ e. not_built (Memᴰ.tail (Memᴰ.head e))) (refused responses (Same m)))))))
 
-pub response_same : (m : List ℕ) → Bytes m → (r : Response) → parsed_response_of m ≡ Valid r → Same m r
+pub response_same : (m : List ℕ) → Bytes m → (r : Response) → parsed_response_of m ≡ Ok r → Same m r
 unfolding parsed_response_of HoldsOf
 response_same m small = with_header responses (Same m) m (response_of_type m (byte_at m 1)) (typed_read m small)
 
 -- Reserved bits are ignored: a response that is written anew, without them, is read as it was read with them.
-pub response_again : (m : List ℕ) → Bytes m → (r : Response) → parsed_response_of m ≡ Valid r → BuiltResponse r → parsed_response_of (response_bytes r) ≡ Valid r
+pub response_again : (m : List ℕ) → Bytes m → (r : Response) → parsed_response_of m ≡ Ok r → BuiltResponse r → parsed_response_of (response_bytes r) ≡ Ok r
 response_again m small r e b =
     let s = response_same m small r e in
-    response_back r (s.fields b) ∙ ap Valid s.cleared_already
+    response_back r (s.fields b) ∙ ap Ok s.cleared_already

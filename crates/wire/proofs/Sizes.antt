@@ -13,9 +13,9 @@ use Rattle.wire.specs.Request.{parsed_request_of, request_of_type, bare_in, init
 use Rattle.wire.specs.Fields.{Sized}
 use Rattle.wire.specs.declared.request.Request.{Request}
 use Rattle.wire.specs.declared.request.Request.TheVariants.{GetFwId, Validate, Abort, NotBuilt}
-use Rattle.wire.specs.declared.request.Parsed.TheVariants.{Valid}
 use Rattle.wire.proofs.Walk.{Headed, HoldsOf, refused, valid_holds, of_length, of_type, with_header}
 use Rattle.wire.proofs.RequestBytes.{requests}
+use Rattle.std.specs.Prelude.{Ok}
 
 module _ (m : List ℕ) where
   data_sized : Headed m → HoldsOf requests (Sized m) (data_in m)
@@ -42,6 +42,6 @@ module _ (m : List ℕ) where
       (by data_pause _ _ (λ _. known)
       (by vendor_specific _ _ (λ _. known) (refused requests (Sized m)))))))))
 
-pub request_sized : (m : List ℕ) (r : Request) → parsed_request_of m ≡ Valid r → Sized m r
+pub request_sized : (m : List ℕ) (r : Request) → parsed_request_of m ≡ Ok r → Sized m r
 unfolding parsed_request_of HoldsOf
 request_sized m = with_header requests (Sized m) m (request_of_type m (byte_at m 1)) (typed_sized m)

@@ -8,9 +8,9 @@ use Rattle.basis.specs.Table.{tabulate}
 use Rattle.wire.specs.Request as request
 use Rattle.wire.specs.Response as response
 use Rattle.wire.specs.declared.request.Request.TheVariants as Req
-use Rattle.wire.specs.declared.request.Parsed.TheVariants as ReqPar
 use Rattle.wire.specs.declared.response.Response.TheVariants as Res
-use Rattle.wire.specs.declared.response.Parsed.TheVariants as ResPar
+use Rattle.std.specs.Prelude.{Ok}
+use Rattle.wire.specs.Header.{malformed}
 
 -- n types from t on
 abbrev from : ℕ → ℕ → List ℕ
@@ -23,45 +23,45 @@ module _ (m : List ℕ) where
       ≡ request.bare_in m Req.GetFwId
       ∷ request.initiate_in m
       ∷ request.data_in m
-      ∷ ReqPar.Valid Req.NotBuilt
+      ∷ Ok Req.NotBuilt
       ∷ request.bare_in m Req.Validate
       ∷ request.bare_in m Req.Abort
-      ∷ ReqPar.Valid Req.NotBuilt
-      ∷ ReqPar.Valid Req.NotBuilt
+      ∷ Ok Req.NotBuilt
+      ∷ Ok Req.NotBuilt
       ∷ []
   unfolding request.request_of_type pick
   request_types = refl
 
   -- 00h to 7Fh are responses' and 80h is reserved; so are 88h to FEh
-  pub request_types_low : map (request.request_of_type m) (from 0x00 129) ≡ replicate 129 ReqPar.Malformed
+  pub request_types_low : map (request.request_of_type m) (from 0x00 129) ≡ replicate 129 malformed
   unfolding request.request_of_type pick
   request_types_low = refl
 
-  pub request_types_high : map (request.request_of_type m) (from 0x88 119) ≡ replicate 119 ReqPar.Malformed
+  pub request_types_high : map (request.request_of_type m) (from 0x88 119) ≡ replicate 119 malformed
   unfolding request.request_of_type pick
   request_types_high = refl
 
   -- 00h to 07h, 04h and 06h being reserved, and 7Fh
   pub response_types :
       map (response.response_of_type m) (0x00 ∷ 0x01 ∷ 0x02 ∷ 0x03 ∷ 0x04 ∷ 0x05 ∷ 0x06 ∷ 0x07 ∷ 0x7F ∷ [])
-      ≡ ResPar.Malformed
+      ≡ malformed
       ∷ response.identified_in m
       ∷ response.initiated_in m
       ∷ response.receipt_in m
-      ∷ ResPar.Malformed
+      ∷ malformed
       ∷ response.validated_in m
-      ∷ ResPar.Malformed
-      ∷ ResPar.Valid Res.NotBuilt
-      ∷ ResPar.Valid Res.NotBuilt
+      ∷ malformed
+      ∷ Ok Res.NotBuilt
+      ∷ Ok Res.NotBuilt
       ∷ []
   unfolding response.response_of_type pick
   response_types = refl
 
   -- 08h to 7Eh are reserved and 80h to FFh are requests'
-  pub response_types_low : map (response.response_of_type m) (from 0x08 119) ≡ replicate 119 ResPar.Malformed
+  pub response_types_low : map (response.response_of_type m) (from 0x08 119) ≡ replicate 119 malformed
   unfolding response.response_of_type pick
   response_types_low = refl
 
-  pub response_types_high : map (response.response_of_type m) (from 0x80 128) ≡ replicate 128 ResPar.Malformed
+  pub response_types_high : map (response.response_of_type m) (from 0x80 128) ≡ replicate 128 malformed
   unfolding response.response_of_type pick
   response_types_high = refl

@@ -2,6 +2,7 @@
 #![tactic(auto)]
 
 pub mod codes;
+pub mod malformed;
 pub mod request;
 pub mod response;
 pub mod status;

@@ -1,7 +1,7 @@
 // What a request says (001 T5-3 to T5-15).
 
-// FWVersion1 to FWVersion4 (001 T5-6, T5-18).
-#[derive(Clone, Copy)]
+// FWVersion1 to FWVersion4 (001 T5-6, T5-18), in the order in which they are compared (001 section 5.3.1).
+#[derive(Clone, Copy, PartialEq, Eq, PartialOrd, Ord)]
 pub struct Versions {
     pub first: u16,
     pub second: u16,
@@ -13,17 +13,10 @@ pub struct Versions {
 pub enum Request {
     GetFwId,
     Initiate(Versions),
-    // An enum holds no slice: the block itself is the part of the request from its fifth byte.
+    // The block itself is the part of the request from its fifth byte: a request that held it would have to be lent as long as the message.
     Data { number: u16, size: usize },
     Validate,
     Abort,
     // DATA_NR, DATA_PAUSE and VENDOR_SPECIFIC: known, and not built (01, The parts of the cable job).
     NotBuilt,
-}
-
-// Malformed is answered 20 (01, Numbers we answer).
-#[derive(Clone, Copy)]
-pub enum Parsed {
-    Valid(Request),
-    Malformed,
 }

@@ -25,10 +25,3 @@ pub enum Response {
     // DATA_PAUSE and VENDOR_SPECIFIC: known, and not built (01, The parts of the cable job).
     NotBuilt,
 }
-
-// Malformed is answered 20 (01, Numbers we answer).
-#[derive(Clone, Copy)]
-pub enum Parsed {
-    Valid(Response),
-    Malformed,
-}

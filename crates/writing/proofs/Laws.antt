@@ -9,21 +9,20 @@ use borrow.Author.Tests.{ltb-false}
 use Rattle.basis.specs.Pick.{tests, pick_all}
 use Rattle.basis.specs.Left.{Left, left}
 use Rattle.lent.specs.Written.{written_into}
-use Rattle.writing.specs.Message.{message_of, sent_of, send_of}
+use Rattle.std.specs.Prelude.{Ok, Err}
+use Rattle.writing.specs.Message.{Sent, message_of, sent_of, send_of}
 use Rattle.writing.specs.declared.message.Message.{Message}
-use Rattle.writing.specs.declared.message.Sent.{Sent}
-use Rattle.writing.specs.declared.message.Sent.TheVariants.{Written, TooShort}
 
 module _ (l out : List ℕ) (h : length l ≤ 22) where
   -- The buffer begins with the message, and the rest of it is kept.
-  pub sends_whole : length l ≤ length out → send_of (message_of l) out ≡ left (Written (length l)) (written_into l out)
+  pub sends_whole : length l ≤ length out → send_of (message_of l) out ≡ left (Ok (length l)) (written_into l out)
   unfolding message_of sent_of
   sends_whole k = rw (take-append_seam l (drop (length l) (replicate 22 0))) (simp tests)
 
 -- No more is written than the buffer holds.
 abbrev pub Fits : ℕ → Sent → Type 0
-Fits room (Written n) = n ≤ room
-Fits room TooShort = Unit
+Fits room (Ok n) = n ≤ room
+Fits room (Err refusal) = Unit
 
 pub send_fits : (m : Message) (out : List ℕ) → Fits (length out) (send_of m out).answer
 unfolding sent_of

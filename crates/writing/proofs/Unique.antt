@@ -5,9 +5,8 @@ use Rattle.basis.specs.Only.{only}
 use Rattle.wire.specs.Written.{request_bytes, response_bytes}
 use Rattle.wire.specs.declared.request.Request.{Request}
 use Rattle.wire.specs.declared.response.Response.{Response}
-use Rattle.writing.specs.Message.{send_of, message_of}
+use Rattle.writing.specs.Message.{Sent, send_of, message_of}
 use Rattle.writing.specs.declared.message.Message.{Message}
-use Rattle.writing.specs.declared.message.Sent.{Sent}
 
 pub one_send : (self : Message) (out : List ℕ) (r r' : Sent) (out_left out_left' : List ℕ)
     → left r out_left ≡ send_of self out

@@ -5,6 +5,6 @@ mod message;
 mod request;
 mod response;
 
-pub use message::{Message, Sent};
+pub use message::{Message, TooShort};
 pub use request::write_request;
 pub use response::write_response;

@@ -14,12 +14,9 @@ pub struct Message {
     pub len: usize,
 }
 
+// The buffer, or the message's own array, is shorter than the message's length.
 #[derive(Clone, Copy)]
-pub enum Sent {
-    Written(usize),
-    // The buffer, or the message's own array, is shorter than the message's length.
-    TooShort,
-}
+pub struct TooShort;
 
 // These bytes, and zeros behind them.
 pub(crate) fn made(bytes: &[u8]) -> Message
@@ -27,7 +24,7 @@ pub(crate) fn made(bytes: &[u8]) -> Message
     ensures { result ≡ message_of bytes.now }
 {
     let mut all = [0u8; MOST];
-    lent::put(&mut all, 0, bytes);
+    let _ = lent::put(&mut all, 0, bytes);
     Message {
         bytes: all,
         len: bytes.len(),
@@ -35,25 +32,23 @@ pub(crate) fn made(bytes: &[u8]) -> Message
 }
 
 impl Message {
-    pub fn send(self, out: &mut [u8]) -> Sent
+    pub fn send(self, out: &mut [u8]) -> Result<usize, TooShort>
         ensures { left result out.new ≡ send_of self out.old }
     {
-        let len = self.len;
-        let bytes = self.bytes;
-        lead(out, bytes, len)
+        lead(out, self.bytes, self.len)
     }
 }
 
 #[tactic(auto, using(basis::specs::Pick::tests), unfolding(crate::specs::Message::sent_of))]
-fn lead(out: &mut [u8], bytes: [u8; MOST], len: usize) -> Sent
+fn lead(out: &mut [u8], bytes: [u8; MOST], len: usize) -> Result<usize, TooShort>
     ensures { left result out.new ≡ sent_of bytes len out.old }
 {
     if MOST < len {
-        return Sent::TooShort;
+        return Err(TooShort);
     }
     if out.len() < len {
-        return Sent::TooShort;
+        return Err(TooShort);
     }
-    lent::put(out, 0, &bytes[..len]);
-    Sent::Written(len)
+    let _ = lent::put(out, 0, &bytes[..len]);
+    Ok(len)
 }

@@ -22,36 +22,39 @@ pub fn write_request(request: Request) -> Message
     }
 }
 
+#[tactic(auto, unfolding(wire::specs::Written::bare_bytes))]
 fn bare(t: u8) -> Message
     ensures { result ≡ message_of (bare_bytes t) }
 {
     made(&[codes::VERSION, t])
 }
 
+#[tactic(auto, unfolding(wire::specs::Written::initiate_bytes))]
 fn initiate(v: Versions) -> Message
     ensures { result ≡ message_of (initiate_bytes v) }
 {
+    let [first, first_high] = v.first.to_le_bytes();
+    let [second, second_high] = v.second.to_le_bytes();
+    let [third, third_high] = v.third.to_le_bytes();
+    let [fourth, fourth_high] = v.fourth.to_le_bytes();
     made(&[
         codes::VERSION,
         codes::INITIATE,
-        (v.first % 256) as u8,
-        (v.first / 256 % 256) as u8,
-        (v.second % 256) as u8,
-        (v.second / 256 % 256) as u8,
-        (v.third % 256) as u8,
-        (v.third / 256 % 256) as u8,
-        (v.fourth % 256) as u8,
-        (v.fourth / 256 % 256) as u8,
+        first,
+        first_high,
+        second,
+        second_high,
+        third,
+        third_high,
+        fourth,
+        fourth_high,
     ])
 }
 
+#[tactic(auto, unfolding(wire::specs::Written::head_bytes))]
 fn head(number: u16) -> Message
     ensures { result ≡ message_of (head_bytes number) }
 {
-    made(&[
-        codes::VERSION,
-        codes::DATA,
-        (number % 256) as u8,
-        (number / 256 % 256) as u8,
-    ])
+    let [low, high] = number.to_le_bytes();
+    made(&[codes::VERSION, codes::DATA, low, high])
 }

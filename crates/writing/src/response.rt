@@ -1,6 +1,6 @@
 // Each response as bytes (001 T5-16 to T5-24). Reserved bits are zero (001 section 1.4.2.8).
 ghost use Rattle.std.specs.Prelude.{◌≡◌};
-ghost use Rattle.wire.specs.Written.{response_bytes, identified_bytes, initiated_bytes, receipt_bytes, validated_bytes, flag_of};
+ghost use Rattle.wire.specs.Written.{response_bytes, identified_bytes, initiated_bytes, receipt_bytes, validated_bytes};
 ghost use Rattle.writing.specs.Message.{message_of};
 
 use crate::message::{Message, made};
@@ -30,30 +30,35 @@ pub fn write_response(response: Response) -> Message
     }
 }
 
-#[tactic(auto, using(basis::specs::Pick::tests), unfolding(wire::specs::Written::identified_bytes))]
+#[tactic(auto, unfolding(wire::specs::Written::identified_bytes))]
 fn identified(status: u8, identity: Identity) -> Message
     ensures { result ≡ message_of (identified_bytes status identity) }
 {
     let i = cleared(identity);
-    let v = i.versions;
+    let [vendor, vendor_high] = i.vendor.to_le_bytes();
+    let [product, product_high] = i.product.to_le_bytes();
+    let [first, first_high] = i.versions.first.to_le_bytes();
+    let [second, second_high] = i.versions.second.to_le_bytes();
+    let [third, third_high] = i.versions.third.to_le_bytes();
+    let [fourth, fourth_high] = i.versions.fourth.to_le_bytes();
     made(&[
         codes::VERSION,
         codes::GET_FW_ID_RESPONSE,
         status,
-        (i.vendor % 256) as u8,
-        (i.vendor / 256 % 256) as u8,
-        (i.product % 256) as u8,
-        (i.product / 256 % 256) as u8,
+        vendor,
+        vendor_high,
+        product,
+        product_high,
         i.hardware,
         i.silicon,
-        (v.first % 256) as u8,
-        (v.first / 256 % 256) as u8,
-        (v.second % 256) as u8,
-        (v.second / 256 % 256) as u8,
-        (v.third % 256) as u8,
-        (v.third / 256 % 256) as u8,
-        (v.fourth % 256) as u8,
-        (v.fourth / 256 % 256) as u8,
+        first,
+        first_high,
+        second,
+        second_high,
+        third,
+        third_high,
+        fourth,
+        fourth_high,
         i.bank,
         i.flags1,
         i.flags2,
@@ -62,34 +67,39 @@ fn identified(status: u8, identity: Identity) -> Message
     ])
 }
 
+#[tactic(auto, unfolding(wire::specs::Written::initiated_bytes))]
 fn initiated(status: u8, wait: u8, size: u32) -> Message
     ensures { result ≡ message_of (initiated_bytes status wait size) }
 {
+    let [low, middle, high, _] = size.to_le_bytes();
     made(&[
         codes::VERSION,
         codes::INITIATE_RESPONSE,
         status,
         wait,
-        (size % 256) as u8,
-        (size / 256 % 256) as u8,
-        (size / 65536 % 16) as u8,
+        low,
+        middle,
+        high % 16,
     ])
 }
 
+#[tactic(auto, unfolding(wire::specs::Written::receipt_bytes))]
 fn receipt(status: u8, wait: u8, number: u16) -> Message
     ensures { result ≡ message_of (receipt_bytes status wait number) }
 {
+    let [low, high] = number.to_le_bytes();
     made(&[
         codes::VERSION,
         codes::DATA_RESPONSE,
         status,
         wait,
         0,
-        (number % 256) as u8,
-        (number / 256 % 256) as u8,
+        low,
+        high,
     ])
 }
 
+#[tactic(auto, unfolding(wire::specs::Written::validated_bytes))]
 fn validated(status: u8, wait: u8, success: bool) -> Message
     ensures { result ≡ message_of (validated_bytes status wait success) }
 {
@@ -98,12 +108,6 @@ fn validated(status: u8, wait: u8, success: bool) -> Message
         codes::VALIDATE_RESPONSE,
         status,
         wait,
-        flag(success),
+        u8::from(success),
     ])
-}
-
-fn flag(success: bool) -> u8
-    ensures { result ≡ flag_of success }
-{
-    if success { 1 } else { 0 }
 }
