@@ -15,7 +15,6 @@ use indoor_state::answer::Answer;
 use indoor_state::plan::Plan;
 use indoor_state::session::{Indoor, Outcome};
 use wire::codes;
-use wire::response::Parsed;
 
 #[tactic(auto, using(basis::specs::Pick::tests), unfolding(indoor_rules::specs::Response::indoor_response_of))]
 pub fn response(session: Indoor, file: &[u8], response: &[u8], out: &mut [u8]) -> Outcome
@@ -36,7 +35,7 @@ fn read(session: Indoor, file: &[u8], response: &[u8], out: &mut [u8]) -> Outcom
     ensures { left result out.new ≡ response_read_of session (message_of response.now) file.now out.old }
 {
     let parsed = reading::read_response(response);
-    let Parsed::Valid(valid) = parsed else {
+    let Ok(valid) = parsed else {
         return refused(session, Answer::Malformed);
     };
     let plan = session.plan;

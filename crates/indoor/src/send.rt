@@ -42,7 +42,7 @@ pub(crate) fn message(out: &mut [u8], request: Request) -> usize
 {
     let message = writing::write_request(request);
     let written = message.len;
-    message.send(out);
+    let _ = message.send(out);
     written
 }
 
@@ -55,6 +55,6 @@ pub(crate) fn block(out: &mut [u8], file: &[u8], number: u16) -> usize
     let part = image::block_at(file, number);
     let size = part.len();
     let head = message(out, Request::Data { number, size });
-    lent::put(out, head, part);
+    let _ = lent::put(out, head, part);
     head + size
 }

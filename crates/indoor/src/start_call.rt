@@ -9,7 +9,7 @@ use crate::send::message;
 use indoor_state::phase::{Phase, State};
 use indoor_state::plan::{Plan, Release};
 use indoor_state::session::{Indoor, Started};
-use silence::{Checked, Settings};
+use silence::Settings;
 use wire::codes;
 use wire::request::Request;
 
@@ -19,7 +19,7 @@ pub fn start(limit: u16, resends: u8, release: Release, file: &[u8], out: &mut [
     ensures { left result out.new ≡ indoor_start_of limit resends release file.now out.old }
 {
     let checked = Settings::new(limit, resends);
-    let Checked::Made(settings) = checked else {
+    let Ok(settings) = checked else {
         return Started::Settings;
     };
     begin(settings, release, file, out)

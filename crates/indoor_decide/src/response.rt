@@ -5,7 +5,6 @@ ghost use Rattle.indoor_rules.specs.Decide.{passed_over, sends_block, not_ok, wh
 use crate::compare::newer;
 use crate::sent::{last, sent};
 use crate::step::{fails, goes};
-use fields::status_code;
 use indoor_state::answer::Answer;
 use indoor_state::phase::{Phase, Progress, Reason, State};
 use indoor_state::plan::Plan;
@@ -51,7 +50,7 @@ fn passes_over(state: State) -> Step
 fn not_ok(status: u8) -> bool
     ensures { result ≡ not_ok status }
 {
-    let ok = status_code(Status::Ok);
+    let ok = u8::from(Status::Ok);
     status != ok
 }
 

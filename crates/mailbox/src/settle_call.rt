@@ -24,5 +24,5 @@ fn fill(message: &mut [u8; 256], bytes: &[u8])
     ensures { message.new ≡ filled_of bytes.now }
 {
     *message = [0; 256];
-    lent::put(message, 0, bytes);
+    let _ = lent::put(message, 0, bytes);
 }

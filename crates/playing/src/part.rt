@@ -74,5 +74,5 @@ fn put(out: &mut [u8], at: usize, line: Line)
 {
     let bytes = line.bytes;
     let len = line.len;
-    lent::put(out, at, &bytes[..len]);
+    let _ = lent::put(out, at, &bytes[..len]);
 }

@@ -1,9 +1,8 @@
 // What a request does, but for its response: the lent lengths are tested, the message is read, the step is decided, and its block is put into
 // the image (01, Numbers we answer: 28, 27, 26, 20, and then the step's own). The identity is no part of it: only one response has it.
-ghost use Rattle.std.specs.Prelude.{◌≡◌};
+ghost use Rattle.std.specs.Prelude.{◌≡◌, Ok};
 ghost use Rattle.basis.specs.Left.{left};
 ghost use Rattle.wire.specs.Request.{parsed_request_of as message_of};
-ghost use Rattle.wire.specs.declared.request.Parsed.TheVariants.{Valid};
 ghost use Rattle.receiver_rules.specs.Decide.{receiver_decide_of};
 ghost use Rattle.receiver_rules.specs.Hearing.{receiver_kept, receiver_done, heard_read_of, heard_of};
 
@@ -14,7 +13,7 @@ use receiver_state::phase::Phase;
 use receiver_state::step::Heard;
 use receiver_state::verdict::Verdict;
 use wire::codes;
-use wire::request::{Parsed, Request};
+use wire::request::Request;
 
 #[tactic(auto, using(basis::specs::Pick::tests), unfolding(receiver_rules::specs::Hearing::heard_of))]
 pub fn hear(
@@ -62,7 +61,7 @@ fn read(
     ensures { left result image.new ≡ heard_read_of phase capacity (message_of request.now) image.old request.now readiness verdict }
 {
     let parsed = reading::read_request(request);
-    let Parsed::Valid(valid) = parsed else {
+    let Ok(valid) = parsed else {
         return kept(phase, Answer::Malformed);
     };
     take(phase, capacity, image, request, valid, readiness, verdict)
@@ -77,7 +76,7 @@ fn take(
     readiness: u8,
     verdict: Verdict,
 ) -> Heard
-    requires { message_of request.now ≡ Valid valid }
+    requires { message_of request.now ≡ Ok valid }
     ensures { left result image.new ≡ receiver_done (receiver_decide_of phase valid capacity readiness verdict) image.old request.now }
 {
     let step = decide(phase, valid, capacity, readiness, verdict);

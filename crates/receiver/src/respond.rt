@@ -9,7 +9,6 @@ ghost use Rattle.lent.specs.Written.{returns_written};
 ghost use Rattle.receiver_rules.specs.Respond.{reply_bytes};
 ghost use Rattle.receiver_rules.specs.Hearing.{has_identity, no_identity, identity_sent_of, answer_sent_of};
 
-use fields::status_code;
 use receiver_decide::reply;
 use receiver_state::answer::{Answer, Reply};
 use wire::codes;
@@ -63,7 +62,7 @@ pub fn send_identity(out: &mut [u8], identity: Identity) -> usize
     if out.len() < codes::LONGEST {
         return 0;
     }
-    let status = status_code(Status::Ok);
+    let status = u8::from(Status::Ok);
     write(out, Response::GetFwId { status, identity })
 }
 
@@ -178,6 +177,6 @@ fn write(out: &mut [u8], response: Response) -> usize
 {
     let message = writing::write_response(response);
     let written = message.len;
-    message.send(out);
+    let _ = message.send(out);
     written
 }

@@ -5,7 +5,7 @@ ghost use Rattle.receiver_rules.specs.Session.{receiver_start_of, receiver_fresh
 
 use receiver_state::phase::Phase;
 use receiver_state::session::{Receiver, Started};
-use silence::{Checked, Settings};
+use silence::{OutOfLimits, Settings};
 use wire::codes;
 use wire::response::Identity;
 
@@ -22,12 +22,12 @@ pub fn start(limit: u16, resends: u8, identity: Identity, capacity: usize) -> St
 }
 
 #[tactic(auto, using(basis::specs::Pick::tests), unfolding(receiver_rules::specs::Session::receiver_fresh_of))]
-fn fresh(checked: Checked, identity: Identity, capacity: u32) -> Started
+fn fresh(checked: Result<Settings, OutOfLimits>, identity: Identity, capacity: u32) -> Started
     ensures { result ≡ receiver_fresh_of checked identity capacity }
 {
     match checked {
-        Checked::Refused => Started::Refused,
-        Checked::Made(settings) => {
+        Err(_) => Started::Refused,
+        Ok(settings) => {
             Started::Made(Receiver {
                 settings,
                 identity,

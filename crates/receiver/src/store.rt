@@ -22,5 +22,5 @@ fn put(image: &mut [u8], request: &[u8], number: u16)
     requires { data_head ≤ length request.now }
     ensures { image.new ≡ (put_block_of image.old number (drop data_head request.now)).memory }
 {
-    image::put_block(image, number, &request[4..]);
+    let _ = image::put_block(image, number, &request[4..]);
 }

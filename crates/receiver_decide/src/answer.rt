@@ -2,7 +2,6 @@
 ghost use Rattle.std.specs.Prelude.{◌≡◌};
 ghost use Rattle.receiver_state.specs.Answer.{get_fw_id_reply, initiate_reply, data_reply, validate_reply, receiver_number_of, reply_of};
 
-use fields::status_code;
 use receiver_state::answer::{Answer, Reply};
 use wire::codes;
 use wire::response::{Identity, Response};
@@ -73,7 +72,7 @@ pub fn reply(answer: Answer, identity: Identity, capacity: u32) -> Reply
 fn get_fw_id_reply(identity: Identity) -> Reply
     ensures { result ≡ get_fw_id_reply identity }
 {
-    let status = status_code(Status::Ok);
+    let status = u8::from(Status::Ok);
     Reply::Sends(Response::GetFwId { status, identity })
 }
 
@@ -81,7 +80,7 @@ fn get_fw_id_reply(identity: Identity) -> Reply
 fn initiate_reply(status: Status, wait: u8, size: u32) -> Reply
     ensures { result ≡ initiate_reply status wait size }
 {
-    let status = status_code(status);
+    let status = u8::from(status);
     Reply::Sends(Response::Initiate { status, wait, size })
 }
 
@@ -89,7 +88,7 @@ fn initiate_reply(status: Status, wait: u8, size: u32) -> Reply
 fn data_reply(status: Status, wait: u8, number: u16) -> Reply
     ensures { result ≡ data_reply status wait number }
 {
-    let status = status_code(status);
+    let status = u8::from(status);
     Reply::Sends(Response::Data {
         status,
         wait,
@@ -101,7 +100,7 @@ fn data_reply(status: Status, wait: u8, number: u16) -> Reply
 fn validate_reply(status: Status, wait: u8, success: bool) -> Reply
     ensures { result ≡ validate_reply status wait success }
 {
-    let status = status_code(status);
+    let status = u8::from(status);
     Reply::Sends(Response::Validate {
         status,
         wait,

@@ -44,7 +44,7 @@ pub fn write(record: Record, out: &mut [u8]) -> Written
     let nine = nine_of(record);
     let bytes = nine.bytes;
     let len = nine.len;
-    lent::put(out, 0, &bytes[..len]);
+    let _ = lent::put(out, 0, &bytes[..len]);
     Written::Whole(len)
 }
 

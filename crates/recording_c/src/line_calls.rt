@@ -39,7 +39,7 @@ fn print(line: Line, out: &mut [u8], written: &mut usize) -> u64
     }
     let bytes = line.bytes;
     let len = line.len;
-    lent::put(out, 0, &bytes[..len]);
+    let _ = lent::put(out, 0, &bytes[..len]);
     *written = len;
     0
 }

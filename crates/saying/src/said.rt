@@ -2,8 +2,6 @@
 ghost use Rattle.std.specs.Prelude.{◌≡◌};
 ghost use Rattle.saying.specs.Said.{empty_text, not_understood, appended_of, said_lines_of, character_of};
 
-use lent::Placed;
-
 // More than the longest text, that of a replay: 4,000 bytes of lines, and the numbers before and after them.
 const ROOM: usize = 4096;
 
@@ -40,11 +38,11 @@ impl Said {
         let mut bytes = self.bytes;
         let placed = lent::put(&mut bytes, len, s);
         match placed {
-            Placed::Stored => Said {
+            Ok(()) => Said {
                 len: len + s.len(),
                 bytes,
             },
-            Placed::NoRoom => Said { len, bytes },
+            Err(_) => Said { len, bytes },
         }
     }
 

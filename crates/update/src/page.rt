@@ -113,6 +113,6 @@ fn put(bytes: &mut [u8], at: usize, word: &[u8]) -> usize
     if bytes.len() - at < n {
         return at;
     }
-    lent::put(bytes, at, word);
+    let _ = lent::put(bytes, at, word);
     at + n
 }

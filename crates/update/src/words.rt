@@ -2,15 +2,15 @@
 ghost use Rattle.std.specs.Prelude.{◌≤◌};
 
 use crate::page::Page;
-use wire::request::{Parsed as Asks, Request, Versions};
-use wire::response::{Parsed as Tells, Response};
+use wire::request::{Request, Versions};
+use wire::response::Response;
 
 pub(crate) fn request(page: Page, message: &[u8]) -> Page
     requires { page.at ≤ 120 }
     ensures { result.at ≤ 120 }
 {
     let parsed = reading::read_request(message);
-    let Asks::Valid(valid) = parsed else {
+    let Ok(valid) = parsed else {
         return page.word(b"malformed");
     };
     match valid {
@@ -51,7 +51,7 @@ pub(crate) fn response(page: Page, message: &[u8]) -> Page
     ensures { result.at ≤ 120 }
 {
     let parsed = reading::read_response(message);
-    let Tells::Valid(valid) = parsed else {
+    let Ok(valid) = parsed else {
         return page.word(b"malformed");
     };
     match valid {

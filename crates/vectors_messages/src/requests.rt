@@ -1,13 +1,13 @@
 // A request: what is read in it (001 T5-3 to T5-15), and the bytes that are written of it.
 use crate::{versions, written};
 use saying::Said;
-use wire::request::{Parsed, Request, Versions};
+use wire::request::{Request, Versions};
 
 pub(crate) fn is_valid(msg: &[u8]) -> bool {
     let parsed = reading::read_request(msg);
     match parsed {
-        Parsed::Valid(_) => true,
-        Parsed::Malformed => false,
+        Ok(_) => true,
+        Err(_) => false,
     }
 }
 
@@ -15,11 +15,11 @@ pub(crate) fn is_valid(msg: &[u8]) -> bool {
 pub(crate) fn show(msg: &[u8]) -> Said {
     let parsed = reading::read_request(msg);
     match parsed {
-        Parsed::Valid(request) => written::add(
+        Ok(request) => written::add(
             request_text(request),
             writing::write_request(request),
         ),
-        Parsed::Malformed => Said::nothing().text(b" 20"),
+        Err(_) => Said::nothing().text(b" 20"),
     }
 }
 

@@ -1,13 +1,13 @@
 // A response: what is read in it (001 T5-16 to T5-28), and the bytes that are written of it.
 use crate::{versions, written};
 use saying::Said;
-use wire::response::{Identity, Parsed, Response};
+use wire::response::{Identity, Response};
 
 pub(crate) fn is_valid(msg: &[u8]) -> bool {
     let parsed = reading::read_response(msg);
     match parsed {
-        Parsed::Valid(_) => true,
-        Parsed::Malformed => false,
+        Ok(_) => true,
+        Err(_) => false,
     }
 }
 
@@ -15,11 +15,11 @@ pub(crate) fn is_valid(msg: &[u8]) -> bool {
 pub(crate) fn show(msg: &[u8]) -> Said {
     let parsed = reading::read_response(msg);
     match parsed {
-        Parsed::Valid(response) => written::add(
+        Ok(response) => written::add(
             response_text(response),
             writing::write_response(response),
         ),
-        Parsed::Malformed => Said::nothing().text(b" 20"),
+        Err(_) => Said::nothing().text(b" 20"),
     }
 }
 

@@ -1,6 +1,6 @@
 // A message written into a lent buffer.
 use saying::Said;
-use writing::{Message, Sent};
+use writing::Message;
 
 // The buffer is full of EE first, so that a byte which is not written shows. Of a message that is not built nothing is written.
 pub(crate) fn add(said: Said, message: Message) -> Said {
@@ -12,7 +12,7 @@ pub(crate) fn add(said: Said, message: Message) -> Said {
 fn put(message: Message, out: &mut [u8]) -> usize {
     let sent = message.send(out);
     match sent {
-        Sent::Written(n) => n,
-        Sent::TooShort => 0,
+        Ok(n) => n,
+        Err(_) => 0,
     }
 }
