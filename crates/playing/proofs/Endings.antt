@@ -5,11 +5,11 @@ use mathlib.Core.List.{List, [], ◌++◌, map, append-nil}
 use native.Mathlib.Omega.{arith}
 use Rattle.printing.specs.Line.{line_longest, stop_text, line_in, stop_of}
 use Rattle.recording.specs.Reading.{next_record_of}
+use Rattle.recording.specs.Record.{AllEight}
 use Rattle.recording.specs.Apart.{apart, onward, apart_of, written_of}
 use Rattle.recording.proofs.TakenApart.{apart_step, apart_written}
 use Rattle.recording.proofs.Moved.{unknown_stays}
 use Rattle.recording.specs.declared.record.Record.{Record}
-use Rattle.recording.specs.declared.reader.Read.TheVariants.{Ended}
 use Rattle.recording.specs.declared.reader.Ending.{Ending}
 use Rattle.recording.specs.declared.reader.Ending.TheVariants.{Whole, Cut, UnknownKind}
 use Rattle.mailbox_state.specs.declared.mailbox.Mailbox.{Mailbox}
@@ -18,6 +18,7 @@ use Rattle.playing.specs.Turn.{event_in}
 use Rattle.playing.specs.Replay.{lines_of, closing_text, replayed, replayed_of, replay_of}
 use Rattle.playing.specs.Part.{closing_of}
 use Rattle.playing.specs.declared.part.Stop.{Stop}
+use Rattle.std.specs.Prelude.{Err}
 
 -- A whole recording, a cut record, an unknown kind; and a part that waits for room has not ended, and has no closing line.
 pub record Closing : Type 0 where
@@ -31,25 +32,25 @@ unfolding closing_of
 closing_rows = record { whole = refl; cut = refl; unknown = refl; full = refl }
 
 -- Where no record is found, the closing line is all that is printed, and the mailbox is as it was.
-pub replay_ended : (m : Mailbox) (s : List ℕ) (ending : Ending) → next_record_of s 0 ≡ Ended ending → replay_of m s ≡ replayed (closing_text ending) m
+pub replay_ended : (m : Mailbox) (s : List ℕ) (ending : Ending) → next_record_of s 0 ≡ Err ending → replay_of m s ≡ replayed (closing_text ending) m
 unfolding replayed_of history_from
 replay_ended m s ending e = ap (replayed_of m) (apart_step s ∙ ap (onward apart_of s) e)
 
 -- Records, and behind them nothing, a cut record or an unknown kind: their lines, then the closing line, and the mailbox that they leave.
-pub replay_written : (m : Mailbox) (rs : List Record) (rest : List ℕ) (ending : Ending) → next_record_of rest 0 ≡ Ended ending
+pub replay_written : (m : Mailbox) (rs : List Record) → AllEight rs → (rest : List ℕ) (ending : Ending) → next_record_of rest 0 ≡ Err ending
     → replay_of m (written_of rs ++ rest)
     ≡ replayed (lines_of (history_from m (map event_in rs)).answered ++ closing_text ending) (history_from m (map event_in rs)).mailbox
 unfolding replayed_of
-replay_written m rs rest ending e =
+replay_written m rs eights rest ending e =
     let none : apart_of rest ≡ apart [] ending = apart_step rest ∙ ap (onward apart_of rest) e in
-    let all : apart_of (written_of rs ++ rest) ≡ apart rs ending = apart_written rs rest ∙ rw (none, append-nil rs) in
+    let all : apart_of (written_of rs ++ rest) ≡ apart rs ending = apart_written rs eights rest ∙ rw (none, append-nil rs) in
     ap (replayed_of m) all
 
 -- Whatever follows an unknown kind, nothing more is printed or played.
-pub stop_last : (m : Mailbox) (rs : List Record) (rest more : List ℕ) → next_record_of rest 0 ≡ Ended UnknownKind
+pub stop_last : (m : Mailbox) (rs : List Record) → AllEight rs → (rest more : List ℕ) → next_record_of rest 0 ≡ Err UnknownKind
     → replay_of m (written_of rs ++ (rest ++ more))
     ≡ replayed (lines_of (history_from m (map event_in rs)).answered ++ stop_text) (history_from m (map event_in rs)).mailbox
-stop_last m rs rest more e = replay_written m rs (rest ++ more) UnknownKind (unknown_stays rest more 0 e)
+stop_last m rs eights rest more e = replay_written m rs eights (rest ++ more) UnknownKind (unknown_stays rest more 0 e)
 
 -- The line that ends a recording fits into its array.
 pub closing_fits : (stop : Stop) → (closing_of stop).len ≤ line_longest

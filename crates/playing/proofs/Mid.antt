@@ -13,13 +13,12 @@ use Rattle.lent.specs.Put.{pasted}
 use Rattle.lent.proofs.Laws.{pasted_there, pasted_behind, pasted_length}
 use Rattle.printing.specs.Line.{line_longest, line_in}
 use Rattle.printing.proofs.Texts.{line_holds}
-use Rattle.recording.specs.Reading.{next_record_of}
+use Rattle.recording.specs.Reading.{found, next_record_of}
 use Rattle.recording.specs.Writing.{record_bytes_of}
 use Rattle.recording.specs.Apart.{onward, apart_of}
 use Rattle.recording.proofs.Cases.{found_past}
 use Rattle.recording.proofs.TakenApart.{apart_at}
 use Rattle.recording.specs.declared.record.Record.{Record}
-use Rattle.recording.specs.declared.reader.Read.TheVariants.{Found, Ended}
 use Rattle.recording.specs.declared.reader.Ending.{Ending}
 use Rattle.mailbox_state.specs.declared.mailbox.Mailbox.{Mailbox}
 use Rattle.playing.specs.Turn.{outcome_of, printed, turn_of}
@@ -28,6 +27,7 @@ use Rattle.playing.proofs.Lines.{printed_sized}
 use Rattle.playing.specs.declared.part.Stop.{Stop}
 use Rattle.playing.specs.declared.part.Played.{Played}
 use Rattle.playing.specs.declared.turn.Turn.{Turn}
+use Rattle.std.specs.Prelude.{Err}
 
 pub record Mid (started : Mailbox) (part before : List ℕ) (mailbox : Mailbox) (taken written : ℕ) (out : List ℕ) : Type 0 where
   pub run : part_of started (length before) (apart_of part) ≡ after taken (take written out) (part_of mailbox (length before - written) (apart_of (drop taken part)))
@@ -74,17 +74,17 @@ module _ (started : Mailbox) (part before : List ℕ) (mailbox : Mailbox) (taken
       sym (ap (λ (p : Plays). leads_of p before) (mid.run ∙ ap (after taken (take written out)) e)
       ∙ rw (add-zero taken, append-nil (take written out), l, ← mid.rest, take-append-drop written out))
 
-  pub mid_done : (ending : Ending) → next_record_of part taken ≡ Ended ending
+  pub mid_done : (ending : Ending) → next_record_of part taken ≡ Err ending
       → ◌≡◌ {A = Left Played} (left (record { mailbox = mailbox; taken = taken; written = written; stop = Stop.Ended ending }) out) (play_of started part before)
   unfolding plays_of
   mid_done ending e = rests (Stop.Ended ending) (ap (part_of mailbox (length before - written)) (apart_at part taken ∙ ap (onward apart_of part) e))
 
-  pub mid_full : (r : Record) (next : ℕ) → next_record_of part taken ≡ Found r next → length out - written < length (printed (outcome_of mailbox r))
+  pub mid_full : (r : Record) (next : ℕ) → next_record_of part taken ≡ found r next → length out - written < length (printed (outcome_of mailbox r))
       → ◌≡◌ {A = Left Played} (left (record { mailbox = mailbox; taken = taken; written = written; stop = Stop.Full }) out) (play_of started part before)
   unfolding plays_of
   mid_full r next e h = rests Stop.Full (ap (part_of mailbox (length before - written)) (apart_at part taken ∙ ap (onward apart_of part) e) ∙ pick_yes _ _ _ (lt-ltb (length before - written) (length (printed (outcome_of mailbox r))) (omega arith)))
 
-  pub mid_goes : (r : Record) (next : ℕ) (now : List ℕ) → next_record_of part taken ≡ Found r next → length (printed (outcome_of mailbox r)) ≤ length out - written
+  pub mid_goes : (r : Record) (next : ℕ) (now : List ℕ) → next_record_of part taken ≡ found r next → length (printed (outcome_of mailbox r)) ≤ length out - written
       → now ≡ pasted out written (printed (outcome_of mailbox r))
       → Mid started part before (outcome_of mailbox r).mailbox next (written + length (printed (outcome_of mailbox r))) now
   unfolding plays_of
@@ -107,7 +107,7 @@ module _ (started : Mailbox) (part before : List ℕ) (mailbox : Mailbox) (taken
         place = past.2;
       }
 
-  pub mid_turn : (r : Record) (next : ℕ) (turn : Turn) (now : List ℕ) → next_record_of part taken ≡ Found r next → turn ≡ turn_of mailbox r
+  pub mid_turn : (r : Record) (next : ℕ) (turn : Turn) (now : List ℕ) → next_record_of part taken ≡ found r next → turn ≡ turn_of mailbox r
       → turn.line.len ≤ length out - written → now ≡ pasted out written (take turn.line.len turn.line.bytes)
       → Mid started part before turn.mailbox next (written + turn.line.len) now
   mid_turn r next turn now e f h p =

@@ -7,14 +7,13 @@ use lib.ListN.{length, take, drop, length-drop, length-append}
 use lib.Seq.{drop-drop, drop-append-le, take-append_seam, drop-append_seam}
 use Rattle.basis.specs.Left.{Left, left}
 use Rattle.printing.specs.Line.{line_longest}
-use Rattle.recording.specs.Reading.{next_record_of}
+use Rattle.recording.specs.Reading.{found, next_record_of}
 use Rattle.recording.specs.Writing.{record_bytes_of}
 use Rattle.recording.specs.Apart.{onward, apart_of}
 use Rattle.recording.proofs.Cases.{found_past, Short, next_short}
 use Rattle.recording.proofs.TakenApart.{apart_step}
 use Rattle.recording.proofs.Moved.{found_stays}
 use Rattle.recording.specs.declared.record.Record.{Record}
-use Rattle.recording.specs.declared.reader.Read.TheVariants.{Found, Ended}
 use Rattle.recording.specs.declared.reader.Ending.TheVariants.{Whole, Cut, UnknownKind}
 use Rattle.mailbox_state.specs.declared.mailbox.Mailbox.{Mailbox}
 use Rattle.playing.specs.Turn.{event_in, outcome_of, printed}
@@ -25,6 +24,7 @@ use Rattle.playing.proofs.Lines.{printed_sized}
 use Rattle.playing.proofs.PartAll.{part_all}
 use Rattle.playing.specs.declared.part.Played.{Played}
 use Rattle.playing.specs.declared.part.Stop.{Stop}
+use Rattle.std.specs.Prelude.{Err}
 
 -- No more is taken than there is, and no more is written than there is room.
 pub part_within : (m : Mailbox) (room : ℕ) (part : List ℕ) → ((part_of m room (apart_of part)).taken ≤ length part) × (length (part_of m room (apart_of part)).text ≤ room)
@@ -78,7 +78,7 @@ abbrev pub behind_lines : List ℕ → Replayed → Replayed
 behind_lines lines r = replayed (lines ++ r.text) r.mailbox
 
 -- A recording from its first record on.
-replay_found : (m : Mailbox) (s : List ℕ) (r : Record) (next : ℕ) → next_record_of s 0 ≡ Found r next
+replay_found : (m : Mailbox) (s : List ℕ) (r : Record) (next : ℕ) → next_record_of s 0 ≡ found r next
     → replay_of m s ≡ behind_lines (printed (outcome_of m r)) (replay_of (outcome_of m r).mailbox (drop next s))
 unfolding replayed_of history_from outcome_of printed
 replay_found m s r next e =
@@ -112,11 +112,11 @@ part_joins m room part more =
 pub record Waits (m : Mailbox) (room : ℕ) (rest : List ℕ) : Type 0 where
   pub waiting : Record
   pub next : ℕ
-  pub found : next_record_of rest 0 ≡ Found waiting next
+  pub found : next_record_of rest 0 ≡ found waiting next
   pub long : room < length (printed (outcome_of m waiting))
 
 abbrev pub Because : Mailbox → ℕ → List ℕ → Stop → Type 0
-Because m room rest (Stop.Ended ending) = next_record_of rest 0 ≡ Ended ending
+Because m room rest (Stop.Ended ending) = next_record_of rest 0 ≡ Err ending
 Because m room rest Stop.Full = Waits m room rest
 
 pub part_stops : (m : Mailbox) (room : ℕ) (part : List ℕ)

@@ -12,7 +12,6 @@ use Rattle.printing.specs.Line.{line_longest}
 use Rattle.recording.specs.Reading.{next_record_of}
 use Rattle.recording.proofs.ByKind.{nothing_there}
 use Rattle.recording.proofs.Moved.{unknown_stays}
-use Rattle.recording.specs.declared.reader.Read.TheVariants.{Ended}
 use Rattle.recording.specs.declared.reader.Ending.TheVariants.{Whole, Cut, UnknownKind}
 use Rattle.mailbox_state.specs.declared.mailbox.Mailbox.{Mailbox}
 use Rattle.playing.specs.Replay.{begun, Replayed, replayed, replay_of, printed_of}
@@ -22,10 +21,11 @@ use Rattle.playing.proofs.Endings.{replay_ended}
 use Rattle.playing.proofs.PartLaws.{part_within, NotFull, never_full, behind_lines, part_joins, Because, part_stops, Leaves, part_leaves}
 use Rattle.playing.proofs.Roomy.{part_ended, part_on}
 use Rattle.playing.specs.declared.part.Stop.{Stop}
+use Rattle.std.specs.Prelude.{Err}
 
 -- No record is found at the start of the bytes that wait, for the reason that is given.
 abbrev pub Waiting : List ℕ → Stop → Type 0
-Waiting held (Stop.Ended ending) = next_record_of held 0 ≡ Ended ending
+Waiting held (Stop.Ended ending) = next_record_of held 0 ≡ Err ending
 Waiting held Stop.Full = ⊥
 
 pub first_waits : (m : Mailbox) → Waiting (replay_begins m).held (replay_begins m).stop

@@ -9,14 +9,13 @@ use lib.ListN.{length, drop, length-drop}
 use lib.Seq.{drop-drop, drop-append-le}
 use Rattle.basis.specs.Pick.{pick_no}
 use Rattle.printing.specs.Line.{line_longest}
-use Rattle.recording.specs.Reading.{next_record_of}
+use Rattle.recording.specs.Reading.{found, next_record_of}
 use Rattle.recording.specs.Writing.{record_bytes_of}
 use Rattle.recording.specs.Apart.{onward, apart_of}
 use Rattle.recording.proofs.Cases.{found_past}
 use Rattle.recording.proofs.TakenApart.{apart_step}
 use Rattle.recording.proofs.Moved.{found_stays}
 use Rattle.recording.specs.declared.record.Record.{Record}
-use Rattle.recording.specs.declared.reader.Read.TheVariants.{Found, Ended}
 use Rattle.recording.specs.declared.reader.Ending.{Ending}
 use Rattle.mailbox_state.specs.declared.mailbox.Mailbox.{Mailbox}
 use Rattle.playing.specs.Turn.{outcome_of, printed}
@@ -26,15 +25,16 @@ use Rattle.playing.proofs.Lines.{printed_sized}
 use Rattle.playing.proofs.Mid.{regroup}
 use Rattle.playing.proofs.PartAll.{part_all}
 use Rattle.playing.specs.declared.part.Stop.TheVariants as Stop
+use Rattle.std.specs.Prelude.{Err}
 
 module _ (m : Mailbox) (room : ℕ) (s : List ℕ) where
   -- Where no record is found nothing is played.
-  pub part_ended : (ending : Ending) → next_record_of s 0 ≡ Ended ending → part_of m room (apart_of s) ≡ plays m 0 [] (Stop.Ended ending)
+  pub part_ended : (ending : Ending) → next_record_of s 0 ≡ Err ending → part_of m room (apart_of s) ≡ plays m 0 [] (Stop.Ended ending)
   unfolding plays_of
   part_ended ending e = ap (part_of m room) (apart_step s ∙ ap (onward apart_of s) e)
 
   -- The first record is played where its line fits, and then the rest.
-  part_found : (r : Record) (next : ℕ) → next_record_of s 0 ≡ Found r next → length (printed (outcome_of m r)) ≤ room
+  part_found : (r : Record) (next : ℕ) → next_record_of s 0 ≡ found r next → length (printed (outcome_of m r)) ≤ room
       → part_of m room (apart_of s)
       ≡ after (length (record_bytes_of r)) (printed (outcome_of m r)) (part_of (outcome_of m r).mailbox (room - length (printed (outcome_of m r))) (apart_of (drop next s)))
   unfolding plays_of
@@ -82,7 +82,7 @@ part_on m room part more =
     nothing : (m : Mailbox) (s : List ℕ) → roomy_of m s ≡ after 0 [] (roomy_of m s)
     nothing m s = sym (rw (zero-add (roomy_of m s).taken))
 
-    roomy_found : (m : Mailbox) (s : List ℕ) (r : Record) (next : ℕ) → next_record_of s 0 ≡ Found r next
+    roomy_found : (m : Mailbox) (s : List ℕ) (r : Record) (next : ℕ) → next_record_of s 0 ≡ found r next
         → roomy_of m s ≡ after (length (record_bytes_of r)) (printed (outcome_of m r)) (roomy_of (outcome_of m r).mailbox (drop next s))
     roomy_found m s r next e =
         let past = found_past s 0 r next e in

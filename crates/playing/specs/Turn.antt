@@ -1,6 +1,5 @@
 -- What a record does to a mailbox, and the line that it prints (01, Replay program).
 use Rattle.std.specs.Prelude.{ℕ, List, replicate}
-use Rattle.recording.specs.Record.{control_bytes}
 use Rattle.recording.specs.declared.record.Record.{Record}
 use Rattle.recording.specs.declared.record.Record.TheVariants.{Control, Change, Success, Failure}
 use Rattle.printing.specs.Line.{text_of, line_in}
@@ -13,7 +12,7 @@ use Rattle.playing.specs.declared.turn.Turn.{Turn}
 
 -- Kind 3 has one byte, and that many zero bytes are reported.
 unfoldable pub event_in : Record → Event
-event_in (Control control) = writes (control_bytes control)
+event_in (Control control) = writes control
 event_in (Change connector reason) = changes connector reason
 event_in (Success length) = succeeds (replicate length 0)
 event_in Failure = fails

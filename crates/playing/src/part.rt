@@ -8,10 +8,10 @@ ghost use Rattle.playing.specs.Part.{play_of};
 use crate::step::{line_after, settle_zeros, step_of};
 use mailbox_state::mailbox::Mailbox;
 use printing::Line;
-use recording::{Ending, Read};
+use recording::Ending;
 
 // Why no further record was played: none is found at the place, or its line does not fit into the output.
-#[derive(Clone, Copy)]
+#[derive(Clone, Copy, Debug, PartialEq, Eq)]
 pub enum Stop {
     Ended(Ending),
     Full,
@@ -29,41 +29,33 @@ pub struct Played {
 pub fn play(mailbox: Mailbox, part: &[u8], out: &mut [u8]) -> Played
     ensures { left result out.new ≡ play_of mailbox part.now out.old }
 {
-    let mut state = mailbox.state;
-    let mut message = mailbox.message;
+    let Mailbox {
+        mut state,
+        mut message,
+    } = mailbox;
     let mut taken = 0;
     let mut written = 0;
-    loop {
-        let read = recording::next(part, taken);
-        match read {
-            Read::Ended(ending) => {
-                return Played {
-                    mailbox: Mailbox { state, message },
-                    taken,
-                    written,
-                    stop: Stop::Ended(ending),
-                };
-            }
-            Read::Found { record, next } => {
-                let step = step_of(state, record);
-                let answer = step.answer;
-                let line = line_after(step.state, answer);
-                if out.len() - written < line.len {
-                    return Played {
-                        mailbox: Mailbox { state, message },
-                        taken,
-                        written,
-                        stop: Stop::Full,
-                    };
-                }
-                put(out, written, line);
-                let effect = step.effect;
-                settle_zeros(&mut message, effect);
-                state = step.state;
-                taken = next;
-                written += line.len;
-            }
+    let stop = loop {
+        let found = match recording::next(part, taken) {
+            Ok(found) => found,
+            Err(ending) => break Stop::Ended(ending),
+        };
+        let step = step_of(state, found.record);
+        let line = line_after(step.state, step.answer);
+        if out.len() - written < line.len {
+            break Stop::Full;
         }
+        put(out, written, line);
+        settle_zeros(&mut message, step.effect);
+        state = step.state;
+        taken = found.next;
+        written += line.len;
+    };
+    Played {
+        mailbox: Mailbox { state, message },
+        taken,
+        written,
+        stop,
     }
 }
 

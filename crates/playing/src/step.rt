@@ -1,8 +1,7 @@
 // What a record decides, the line that it prints, and MESSAGE_IN after it, in its place: no record copies those 256 bytes.
 ghost use Rattle.std.specs.Prelude.{◌≡◌, []};
-ghost use Rattle.recording.specs.Record.{control_bytes};
 ghost use Rattle.mailbox_rules.specs.MessageIn.{settled_of};
-ghost use Rattle.mailbox_rules.specs.Events.{write_step_of, event_step_of};
+ghost use Rattle.mailbox_rules.specs.Events.{event_step_of};
 ghost use Rattle.playing.specs.Turn.{event_in};
 ghost use Rattle.playing.specs.Step.{zeroed_of, line_after};
 
@@ -10,25 +9,18 @@ use mailbox_state::answer::Answer;
 use mailbox_state::state::State;
 use mailbox_state::step::{MessageEffect, Step};
 use printing::{Line, line_of};
-use recording::{ControlBytes, Record};
+use recording::Record;
 
 #[tactic(auto, unfolding(crate::specs::Turn::event_in))]
 pub(crate) fn step_of(state: State, record: Record) -> Step
     ensures { result ≡ event_step_of state (event_in «record») }
 {
     match record {
-        Record::Control(control) => write(state, control),
+        Record::Control(control) => mailbox::write_step(state, &control),
         Record::Change { connector, reason } => mailbox_decide::change(state, connector, reason),
-        Record::Success { length } => mailbox_decide::succeed(state, length as usize),
+        Record::Success { length } => mailbox_decide::succeed(state, usize::from(length)),
         Record::Failure => mailbox_decide::fail(state),
     }
-}
-
-fn write(state: State, control: ControlBytes) -> Step
-    ensures { result ≡ write_step_of state (control_bytes control) }
-{
-    let bytes = control.bytes();
-    mailbox::write_step(state, &bytes)
 }
 
 pub(crate) fn line_after(state: State, answer: Answer) -> Line
@@ -50,10 +42,7 @@ fn zeroed(effect: MessageEffect) -> MessageEffect
     ensures { result ≡ zeroed_of effect }
 {
     match effect {
-        MessageEffect::Kept => MessageEffect::Kept,
-        MessageEffect::ZeroedAtReset => MessageEffect::ZeroedAtReset,
-        MessageEffect::ZeroedAtCancel => MessageEffect::ZeroedAtCancel,
-        MessageEffect::ZeroedAtCompletion => MessageEffect::ZeroedAtCompletion,
         MessageEffect::Filled => MessageEffect::ZeroedAtCompletion,
+        other => other,
     }
 }

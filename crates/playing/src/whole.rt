@@ -1,7 +1,6 @@
 // How a whole recording begins, and the line that it ends with.
 ghost use Rattle.std.specs.Prelude.{◌≡◌};
-ghost use Rattle.printing.specs.Line.{line_in};
-ghost use Rattle.playing.specs.Replay.{begun, closing_text};
+ghost use Rattle.playing.specs.Replay.{begun};
 ghost use Rattle.playing.specs.Part.{closing_of};
 
 use crate::part::Stop;
@@ -25,17 +24,7 @@ pub fn closing(stop: Stop) -> Line
     ensures { result ≡ closing_of stop }
 {
     match stop {
-        Stop::Ended(ending) => last(ending),
-        Stop::Full => printing::none(),
-    }
-}
-
-fn last(ending: Ending) -> Line
-    ensures { result ≡ line_in (closing_text ending) }
-{
-    match ending {
-        Ending::Whole => printing::none(),
-        Ending::Cut => printing::stop(),
-        Ending::UnknownKind => printing::stop(),
+        Stop::Ended(Ending::Whole) | Stop::Full => printing::none(),
+        Stop::Ended(Ending::Cut | Ending::UnknownKind) => printing::stop(),
     }
 }

@@ -8,7 +8,7 @@ use Rattle.recording.specs.declared.record.Record.{Record}
 use Rattle.recording.specs.declared.record.Record.TheVariants.{Control, Change, Success, Failure}
 
 abbrev control : ℕ → ℕ → ℕ → Record
-control code low high = Control (record { first = code; second = 0; third = low; fourth = high; fifth = 0; sixth = 0; seventh = 0; eighth = 0 })
+control code low high = Control (code ∷ 0 ∷ low ∷ high ∷ 0 ∷ 0 ∷ 0 ∷ 0 ∷ [])
 
 -- The records of the paper's whole case.
 pub whole_case_bytes : written_of (control 0x05 0xFF 0xFF ∷ control 0x04 0x02 0x00 ∷ Change 2 0x0002 ∷ control 0x12 0x02 0x00 ∷ Success 9 ∷ control 0x04 0x03 0x00 ∷ [])
@@ -22,7 +22,7 @@ unfolding record_bytes_of
 whole_case_bytes = refl
 
 -- CONTROL's bytes are written in their order.
-pub control_in_order : record_bytes_of (Control (record { first = 0x11; second = 0x22; third = 0x33; fourth = 0x44; fifth = 0x55; sixth = 0x66; seventh = 0x77; eighth = 0x88 }))
+pub control_in_order : record_bytes_of (Control (0x11 ∷ 0x22 ∷ 0x33 ∷ 0x44 ∷ 0x55 ∷ 0x66 ∷ 0x77 ∷ 0x88 ∷ []))
     ≡ 0x01 ∷ 0x11 ∷ 0x22 ∷ 0x33 ∷ 0x44 ∷ 0x55 ∷ 0x66 ∷ 0x77 ∷ 0x88 ∷ []
 unfolding record_bytes_of
 control_in_order = refl

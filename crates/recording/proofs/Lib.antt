@@ -7,4 +7,3 @@ pub mod Sizes
 pub mod TakenApart
 pub mod Unique
 pub mod WriteLaws
-pub mod Wrote

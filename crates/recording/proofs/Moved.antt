@@ -1,5 +1,5 @@
 -- What is read at a place depends neither on the bytes before the place nor on those after the record.
-use Prim.Native.Nat.{ℕ, ◌+◌, ◌-◌, ◌<◌}
+use Prim.Native.Nat.{ℕ, ◌+◌, ◌-◌, ◌<◌, ◌≤◌}
 use mathlib.Core.Bool.{Bool, true, false}
 use mathlib.Core.Path.{◌≡◌, refl, sym, ◌∙◌, ap, subst}
 use mathlib.Core.List.{List, ◌++◌}
@@ -7,33 +7,35 @@ use native.Mathlib.Nat.{add_assoc, add-zero, sub-zero}
 use native.Mathlib.Omega.{arith}
 use borrow.Author.Tests.{le-leb, lt-leb, leb-true, leb-false}
 use lib.Dec.{eqb, ltb, leb}
-use lib.ListN.{length, drop, length-drop, length-append, get_or-append}
-use lib.Seq.{get_or-drop}
+use lib.ListN.{length, take, drop, length-drop, length-append, get_or-append}
+use lib.Seq.{get_or-drop, drop-drop, drop-append-le, take-append-le}
 use Rattle.basis.specs.Pick.{pick}
+use Rattle.basis.specs.Lists.{tail_all}
 use Rattle.basis.specs.Bytes.{byte_at}
-use Rattle.recording.specs.Reading.{control_at, change_at, next_record_of}
+use Rattle.recording.specs.Reading.{found, control_at, change_at, next_record_of}
 use Rattle.recording.proofs.Cases.{next_all}
 use Rattle.recording.proofs.ByKind.{kind_1, kind_2, kind_3, kind_4, kind_unknown}
 use Rattle.recording.specs.declared.record.Record.{Record}
 use Rattle.recording.specs.declared.record.Record.TheVariants.{Control, Success, Failure}
-use Rattle.recording.specs.declared.reader.Read.{Read}
-use Rattle.recording.specs.declared.reader.Read.TheVariants.{Found, Ended}
 use Rattle.recording.specs.declared.reader.Ending.TheVariants.{Whole, Cut, UnknownKind}
+use Rattle.std.specs.Prelude.{Result, Ok, Err}
+use Rattle.recording.specs.declared.reader.Found.{Found}
+use Rattle.recording.specs.declared.reader.Ending.{Ending}
 
 -- The same record, with the place after it moved by n.
-abbrev pub moved : ℕ → Read → Read
-moved by (Found r next) = Found r (by + next)
-moved by (Ended e) = Ended e
+abbrev pub moved : ℕ → Result Found Ending → Result Found Ending
+moved by (Ok f) = found f.«record» (by + f.next)
+moved by (Err e) = Err e
 
 -- What is read, one test after the other: at the end, of each of the four kinds, and cut for the first three.
-rows : Bool → Bool → Bool → Bool → Bool → Bool → Bool → Bool → ℕ → Record → Record → Record → Read
+rows : Bool → Bool → Bool → Bool → Bool → Bool → Bool → Bool → ℕ → Record → Record → Record → Result Found Ending
 rows end one two three four cut-one cut-two cut-three at x y z =
-    pick end (Ended Whole)
-    (pick one (pick cut-one (Ended Cut) (Found x (at + 9)))
-    (pick two (pick cut-two (Ended Cut) (Found y (at + 4)))
-    (pick three (pick cut-three (Ended Cut) (Found z (at + 2)))
-    (pick four (Found Failure (at + 1))
-    (Ended UnknownKind)))))
+    pick end (Err Whole)
+    (pick one (pick cut-one (Err Cut) (found x (at + 9)))
+    (pick two (pick cut-two (Err Cut) (found y (at + 4)))
+    (pick three (pick cut-three (Err Cut) (found z (at + 2)))
+    (pick four (found Failure (at + 1))
+    (Err UnknownKind)))))
 
 moved_rows : (e a b c d f g h : Bool) (at : ℕ) (x y z : Record) → moved at (rows e a b c d f g h 0 x y z) ≡ rows e a b c d f g h at x y z
 unfolding rows pick
@@ -62,7 +64,7 @@ module _ (s : List ℕ) (at : ℕ) where
   further i j = byte_moved (i + j) ∙ ap (byte_at s) (sym (add_assoc at i j))
 
   control_moved : control_at (drop at s) 1 ≡ control_at s (at + 1)
-  control_moved = rw (byte_moved 1, further 1 1, further 1 2, further 1 3, further 1 4, further 1 5, further 1 6, further 1 7)
+  control_moved = ap (λ (l : List ℕ). Control (take 8 l)) (drop-drop 1 at s)
 
   change_moved : change_at (drop at s) 1 ≡ change_at s (at + 1)
   change_moved = rw (byte_moved 1, further 1 1, further 1 2)
@@ -75,43 +77,43 @@ module _ (s : List ℕ) (at : ℕ) where
       sym (rw (end_moved, first, left, control_moved, change_moved, byte_moved 1)
       (moved_rows (leb (length s) at) (eqb (byte_at s at) 1) (eqb (byte_at s at) 2) (eqb (byte_at s at) 3) (eqb (byte_at s at) 4)
       (ltb (length s - at) 9) (ltb (length s - at) 4) (ltb (length s - at) 2) at
-      (Control (control_at s (at + 1))) (change_at s (at + 1)) (Success (byte_at s (at + 1)))))
+      (control_at s (at + 1)) (change_at s (at + 1)) (Success (byte_at s (at + 1)))))
+
+-- Read at the start of the bytes from the place on.
+pub next_from : (s rest : List ℕ) (at : ℕ) → rest ≡ take (length s - at) (drop at s) → (x : Result Found Ending) → x ≡ next_record_of rest 0 → moved at x ≡ next_record_of s at
+next_from s rest at r x e = sym (next_drop s at ∙ ap (moved at) (ap (λ (l : List ℕ). next_record_of l 0) (sym (r ∙ tail_all at s)) ∙ sym e))
 
 -- A record that is found is found there whatever follows, and an unknown kind stays unknown.
 module _ (s t : List ℕ) (at : ℕ) where
-  Stays : Read → Type 0
-  Stays (Found r next) = next_record_of (s ++ t) at ≡ Found r next
-  Stays (Ended Whole) = Unit
-  Stays (Ended Cut) = Unit
-  Stays (Ended UnknownKind) = next_record_of (s ++ t) at ≡ Ended UnknownKind
+  Stays : Result Found Ending → Type 0
+  Stays (Ok f) = next_record_of (s ++ t) at ≡ Ok f
+  Stays (Err Whole) = Unit
+  Stays (Err Cut) = Unit
+  Stays (Err UnknownKind) = next_record_of (s ++ t) at ≡ Err UnknownKind
 
   same : (i : ℕ) → i < length s → byte_at (s ++ t) i ≡ byte_at s i
   same i h = get_or-append s t 0 i h
+
+  eight : at + 9 ≤ length s → take 8 (drop (at + 1) (s ++ t)) ≡ take 8 (drop (at + 1) s)
+  eight h =
+      let l = length-drop (at + 1) s in
+      ap (take 8) (drop-append-le (at + 1) s t (omega arith)) ∙ take-append-le 8 (drop (at + 1) s) t (omega arith)
 
   next_stays : Stays (next_record_of s at)
   unfolding Stays
   next_stays = next_all Stays s at (λ _. tt) (λ _ _. tt)
       (λ h k. kind_unknown (s ++ t) at (simp length-append (omega arith)) (rw (same at h) k))
       (λ k h. kind_1 (s ++ t) at (same at (omega arith) ∙ k) (simp length-append (omega arith))
-      ∙ rw (
-        same (at + 1) (omega arith),
-        same (at + 1 + 1) (omega arith),
-        same (at + 1 + 2) (omega arith),
-        same (at + 1 + 3) (omega arith),
-        same (at + 1 + 4) (omega arith),
-        same (at + 1 + 5) (omega arith),
-        same (at + 1 + 6) (omega arith),
-        same (at + 1 + 7) (omega arith),
-      ))
+      ∙ ap (λ (c : List ℕ). found (Control c) (at + 9)) (eight h))
       (λ k h. kind_2 (s ++ t) at (same at (omega arith) ∙ k) (simp length-append (omega arith))
       ∙ rw (same (at + 1) (omega arith), same (at + 1 + 1) (omega arith), same (at + 1 + 2) (omega arith)))
       (λ k h. kind_3 (s ++ t) at (same at (omega arith) ∙ k) (simp length-append (omega arith)) ∙ rw (same (at + 1) (omega arith)))
       (λ k h. kind_4 (s ++ t) at (same at (omega arith) ∙ k) (simp length-append (omega arith)))
 
-  pub found_stays : (r : Record) (next : ℕ) → next_record_of s at ≡ Found r next → next_record_of (s ++ t) at ≡ Found r next
+  pub found_stays : (r : Record) (next : ℕ) → next_record_of s at ≡ found r next → next_record_of (s ++ t) at ≡ found r next
   unfolding Stays
   found_stays r next e = subst Stays e next_stays
 
-  pub unknown_stays : next_record_of s at ≡ Ended UnknownKind → next_record_of (s ++ t) at ≡ Ended UnknownKind
+  pub unknown_stays : next_record_of s at ≡ Err UnknownKind → next_record_of (s ++ t) at ≡ Err UnknownKind
   unfolding Stays
   unknown_stays e = subst Stays e next_stays

@@ -7,6 +7,7 @@ use native.Mathlib.Omega.{arith}
 use lib.ListN.{length, drop, length-drop}
 use lib.Seq.{drop-append_seam, drop-drop, get_or-drop}
 use Rattle.recording.specs.Reading.{next_record_of}
+use Rattle.recording.specs.Record.{AllEight}
 use Rattle.recording.specs.Writing.{record_bytes_of}
 use Rattle.recording.specs.Apart.{Apart, apart, onward, turns, apart_of, written_of}
 use Rattle.recording.proofs.ByKind.{nothing_there}
@@ -15,14 +16,15 @@ use Rattle.recording.proofs.Cases.{Past, next_past}
 use Rattle.basis.specs.Bytes.{Bytes}
 use Rattle.recording.proofs.RoundTrip.{read_back, Consumes, consumed}
 use Rattle.recording.specs.declared.record.Record.{Record}
-use Rattle.recording.specs.declared.reader.Read.{Read}
-use Rattle.recording.specs.declared.reader.Read.TheVariants.{Found, Ended}
 use Rattle.recording.specs.declared.reader.Ending.TheVariants.{Whole}
+use Rattle.std.specs.Prelude.{Result, Ok, Err}
+use Rattle.recording.specs.declared.reader.Found.{Found}
+use Rattle.recording.specs.declared.reader.Ending.{Ending}
 
 -- Two ways to take the rest apart that agree on it agree on a record and the rest.
-rest_same : (f g : List ℕ → Apart) (s : List ℕ) (x : Read) → Past s 0 x → ((t : List ℕ) → length t < length s → f t ≡ g t) → onward f s x ≡ onward g s x
-rest_same f g s (Found r next) p e = rw (e (drop next s) (simp length-drop (omega (arith, p))))
-rest_same f g s (Ended ending) p e = refl
+rest_same : (f g : List ℕ → Apart) (s : List ℕ) (x : Result Found Ending) → Past s 0 x → ((t : List ℕ) → length t < length s → f t ≡ g t) → onward f s x ≡ onward g s x
+rest_same f g s (Ok t) p e = rw (e (drop t.next s) (simp length-drop (omega (arith, p))))
+rest_same f g s (Err ending) p e = refl
 
 -- More turns than bytes change nothing.
 enough : (j k : ℕ) (s : List ℕ) → length s ≤ j → length s ≤ k → turns j s ≡ turns k s
@@ -43,34 +45,34 @@ apart_step s =
 pub apart_at : (s : List ℕ) (at : ℕ) → apart_of (drop at s) ≡ onward apart_of s (next_record_of s at)
 apart_at s at = apart_step (drop at s) ∙ further (next_record_of (drop at s) 0) ∙ ap (onward apart_of s) (sym (next_drop s at))
   where
-    further : (x : Read) → onward apart_of (drop at s) x ≡ onward apart_of s (moved at x)
-    further (Found r next) = rw (drop-drop next at s)
-    further (Ended ending) = refl
+    further : (x : Result Found Ending) → onward apart_of (drop at s) x ≡ onward apart_of s (moved at x)
+    further (Ok f) = rw (drop-drop f.next at s)
+    further (Err ending) = refl
 
 -- A recording of written records reads as those records, whatever follows them.
-pub apart_written : (rs : List Record) (rest : List ℕ) → apart_of (written_of rs ++ rest) ≡ apart (rs ++ (apart_of rest).records) (apart_of rest).ending
-apart_written [] rest = refl
-apart_written (r ∷ rs) rest =
+pub apart_written : (rs : List Record) → AllEight rs → (rest : List ℕ) → apart_of (written_of rs ++ rest) ≡ apart (rs ++ (apart_of rest).records) (apart_of rest).ending
+apart_written [] eights rest = refl
+apart_written (r ∷ rs) (eight, eights) rest =
     ap apart_of (append_assoc (record_bytes_of r) (written_of rs) rest)
     ∙ apart_step (record_bytes_of r ++ (written_of rs ++ rest))
-    ∙ ap (onward apart_of (record_bytes_of r ++ (written_of rs ++ rest))) (read_back r (written_of rs ++ rest))
-    ∙ rw (drop-append_seam (record_bytes_of r) (written_of rs ++ rest), apart_written rs rest)
+    ∙ ap (onward apart_of (record_bytes_of r ++ (written_of rs ++ rest))) (read_back r eight (written_of rs ++ rest))
+    ∙ rw (drop-append_seam (record_bytes_of r) (written_of rs ++ rest), apart_written rs eights rest)
 
-pub written_apart : (rs : List Record) → apart_of (written_of rs) ≡ apart rs Whole
+pub written_apart : (rs : List Record) → AllEight rs → apart_of (written_of rs) ≡ apart rs Whole
 unfolding apart_of turns
-written_apart rs = ap apart_of (sym (append-nil (written_of rs))) ∙ apart_written rs [] ∙ ap (λ (l : List Record). apart l Whole) (append-nil rs)
+written_apart rs eights = ap apart_of (sym (append-nil (written_of rs))) ∙ apart_written rs eights [] ∙ ap (λ (l : List Record). apart l Whole) (append-nil rs)
 
 -- There is no record at the start.
 abbrev pub NoRecord : List ℕ → Type 0
 NoRecord rest = (apart_of rest).records ≡ []
 
 -- A recording is taken apart in only one way: into records and a rest that begins with no record.
-pub one_way : (rs rs' : List Record) (rest rest' : List ℕ) → NoRecord rest → NoRecord rest' → written_of rs ++ rest ≡ written_of rs' ++ rest' → (rs ≡ rs') × (rest ≡ rest')
-one_way rs rs' rest rest' b b' e =
+pub one_way : (rs rs' : List Record) (rest rest' : List ℕ) → AllEight rs → AllEight rs' → NoRecord rest → NoRecord rest' → written_of rs ++ rest ≡ written_of rs' ++ rest' → (rs ≡ rs') × (rest ≡ rest')
+one_way rs rs' rest rest' eights eights' b b' e =
     let same : rs ≡ rs' =
-    sym (ap (λ (a : Apart). a.records) (apart_written rs rest) ∙ ap (λ (l : List Record). rs ++ l) b ∙ append-nil rs)
+    sym (ap (λ (a : Apart). a.records) (apart_written rs eights rest) ∙ ap (λ (l : List Record). rs ++ l) b ∙ append-nil rs)
     ∙ ap (λ (s : List ℕ). (apart_of s).records) e
-    ∙ ap (λ (a : Apart). a.records) (apart_written rs' rest') ∙ ap (λ (l : List Record). rs' ++ l) b' ∙ append-nil rs' in (
+    ∙ ap (λ (a : Apart). a.records) (apart_written rs' eights' rest') ∙ ap (λ (l : List Record). rs' ++ l) b' ∙ append-nil rs' in (
       same,
       sym (drop-append_seam (written_of rs) rest)
           ∙ ap (λ (s : List ℕ). drop (length (written_of rs)) s) e
@@ -82,17 +84,17 @@ one_way rs rs' rest rest' b b' e =
 pub record Rebuilt (s : List ℕ) (a : Apart) : Type 0 where
   pub rest : List ℕ
   pub whole : s ≡ written_of a.records ++ rest
-  pub ended : next_record_of rest 0 ≡ Ended a.ending
+  pub ended : next_record_of rest 0 ≡ Err a.ending
 
 -- The first record has been read, and the rest is rebuilt.
 again : (bytes : ℕ) → ((t : List ℕ) → length t ≤ bytes → Bytes t → Rebuilt t (apart_of t))
-    → (s : List ℕ) → length s ≤ suc bytes → Bytes s → (x : Read) → next_record_of s 0 ≡ x → Past s 0 x → Consumes s 0 x → Rebuilt s (onward apart_of s x)
-again bytes ih s h b (Ended ending) e past eats = record { rest = s; whole = refl; ended = e }
-again bytes ih s h b (Found r next) e past eats =
-    let t = ih (drop next s) (simp length-drop (omega (arith, past))) (λ i. rw (get_or-drop next s i 0) (b (next + i))) in
+    → (s : List ℕ) → length s ≤ suc bytes → Bytes s → (x : Result Found Ending) → next_record_of s 0 ≡ x → Past s 0 x → Consumes s 0 x → Rebuilt s (onward apart_of s x)
+again bytes ih s h b (Err ending) e past eats = record { rest = s; whole = refl; ended = e }
+again bytes ih s h b (Ok f) e past eats =
+    let t = ih (drop f.next s) (simp length-drop (omega (arith, past))) (λ i. rw (get_or-drop f.next s i 0) (b (f.next + i))) in
     record {
       rest = t.rest;
-      whole = eats ∙ ap (λ (l : List ℕ). record_bytes_of r ++ l) t.whole ∙ sym (append_assoc (record_bytes_of r) (written_of (apart_of (drop next s)).records) t.rest);
+      whole = eats ∙ ap (λ (l : List ℕ). record_bytes_of f.«record» ++ l) t.whole ∙ sym (append_assoc (record_bytes_of f.«record») (written_of (apart_of (drop f.next s)).records) t.rest);
       ended = t.ended;
     }
 

@@ -3,10 +3,10 @@ use Rattle.std.specs.Prelude.{ℕ, zero, suc, List, [], ◌∷◌, ◌++◌, len
 use Rattle.recording.specs.Reading.{next_record_of}
 use Rattle.recording.specs.Writing.{record_bytes_of}
 use Rattle.recording.specs.declared.record.Record.{Record}
-use Rattle.recording.specs.declared.reader.Read.{Read}
-use Rattle.recording.specs.declared.reader.Read.TheVariants.{Found, Ended}
 use Rattle.recording.specs.declared.reader.Ending.{Ending}
 use Rattle.recording.specs.declared.reader.Ending.TheVariants.{Whole}
+use Rattle.std.specs.Prelude.{Result, Ok, Err}
+use Rattle.recording.specs.declared.reader.Found.{Found}
 
 pub record Apart : Type 0 where
   pub records : List Record
@@ -16,9 +16,9 @@ abbrev pub apart : List Record → Ending → Apart
 apart records ending = record { records = records; ending = ending }
 
 -- A record that was read at the start comes first, and `rest` takes the rest apart; where none is found it ends.
-abbrev pub onward : (List ℕ → Apart) → List ℕ → Read → Apart
-onward rest s (Found r next) = apart (r ∷ (rest (drop next s)).records) (rest (drop next s)).ending
-onward rest s (Ended ending) = apart [] ending
+abbrev pub onward : (List ℕ → Apart) → List ℕ → Result Found Ending → Apart
+onward rest s (Ok f) = apart (f.«record» ∷ (rest (drop f.next s)).records) (rest (drop f.next s)).ending
+onward rest s (Err ending) = apart [] ending
 
 -- One record a turn. A record has at least one byte, so that as many turns as there are bytes are enough.
 unfoldable pub turns : ℕ → List ℕ → Apart

@@ -1,7 +1,15 @@
--- The bytes of a CONTROL record's body.
-use Rattle.std.specs.Prelude.{ℕ, List, [], ◌∷◌}
-use Rattle.recording.specs.declared.record.ControlBytes.{ControlBytes}
+-- A record's array (01, Replay program).
+use Rattle.std.specs.Prelude.{List, [], ◌∷◌, ◌≡◌, length}
+use Rattle.recording.specs.declared.record.Record.{Record}
+use Rattle.recording.specs.declared.record.Record.TheVariants.{Control, Change, Success, Failure}
 
-abbrev pub control_bytes : ControlBytes → List ℕ
-control_bytes c =
-    c.first ∷ c.second ∷ c.third ∷ c.fourth ∷ c.fifth ∷ c.sixth ∷ c.seventh ∷ c.eighth ∷ []
+-- CONTROL has eight bytes, as every value of the type has: they are an array of eight.
+abbrev pub Eight : Record → Type 0
+Eight (Control c) = length c ≡ 8
+Eight (Change connector reason) = Unit
+Eight (Success length) = Unit
+Eight Failure = Unit
+
+abbrev pub AllEight : List Record → Type 0
+AllEight [] = Unit
+AllEight (r ∷ rs) = Eight r × AllEight rs

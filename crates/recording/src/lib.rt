@@ -6,6 +6,6 @@ mod reader;
 mod record;
 mod writer;
 
-pub use reader::{Ending, Read, next};
-pub use record::{ControlBytes, Record};
-pub use writer::{Written, write};
+pub use reader::{Ending, Found, next};
+pub use record::Record;
+pub use writer::{TooShort, write};

@@ -7,10 +7,9 @@ use native.Mathlib.Omega.{arith}
 use lib.ListN.{length}
 use lib.Seq.{drop-append_seam}
 use Rattle.basis.specs.Bytes.{byte_at}
-use Rattle.recording.specs.Reading.{next_record_of}
+use Rattle.recording.specs.Reading.{found, next_record_of}
 use Rattle.recording.specs.declared.record.Record.{Record}
 use Rattle.recording.specs.declared.record.Record.TheVariants.{Control, Change, Success, Failure}
-use Rattle.recording.specs.declared.reader.Read.TheVariants.{Found}
 use Rattle.recording.proofs.ByKind.{cut_1, cut_2, cut_3, kind_1, kind_2, kind_3, kind_4, kind_unknown, nothing_there}
 use Rattle.recording.proofs.Moved.{moved, next_drop}
 use Rattle.recording_c.specs.Layout.{harsolvek_recording_layout}
@@ -23,7 +22,7 @@ pub zeros_are : zeros ≡ 0 ∷ 0 ∷ 0 ∷ 0 ∷ 0 ∷ 0 ∷ 0 ∷ 0 ∷ []
 zeros_are = refl
 
 -- What is found at the start of a part of a recording is found where that part begins.
-found_behind : (before s : List ℕ) (r : Record) (size : ℕ) → next_record_of s 0 ≡ Found r size
+found_behind : (before s : List ℕ) (r : Record) (size : ℕ) → next_record_of s 0 ≡ found r size
     → harsolvek_record_read (before ++ s) (length before) ≡ reading 0 (numbers_of r) (length before + size)
 unfolding reading_of
 found_behind before s r size found =
@@ -40,7 +39,7 @@ module _ (before behind : List ℕ) where
   unfolding numbers_of
   control_read a b c d e f g h =
       found_behind before (1 ∷ a ∷ b ∷ c ∷ d ∷ e ∷ f ∷ g ∷ h ∷ behind)
-      (Control (record { first = a; second = b; third = c; fourth = d; fifth = e; sixth = f; seventh = g; eighth = h })) 9
+      (Control (a ∷ b ∷ c ∷ d ∷ e ∷ f ∷ g ∷ h ∷ [])) 9
       (kind_1 (1 ∷ a ∷ b ∷ c ∷ d ∷ e ∷ f ∷ g ∷ h ∷ behind) 0 refl (omega arith))
 
   pub change_read : (connector low high : ℕ)

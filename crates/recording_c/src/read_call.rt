@@ -1,12 +1,12 @@
 // The record at a place of a recording, for C.
 ghost use Rattle.std.specs.Prelude.{◌≡◌};
-ghost use Rattle.recording_c.specs.Reads.{numbers, no_numbers, numbers_of, ending_number_of, reading, reading_of, harsolvek_record_read};
+ghost use Rattle.recording_c.specs.Reads.{numbers, numbers_of, ending_number_of, reading, reading_of, harsolvek_record_read};
 
 use crate::kinds;
-use recording::{Ending, Read, Record};
+use recording::{Ending, Found, Record};
 
 // A record as C has it, struct harsolvek_record.
-#[derive(Clone, Copy)]
+#[derive(Clone, Copy, Default)]
 struct Numbers {
     kind: u32,
     reason: u16,
@@ -48,28 +48,22 @@ pub extern "C" fn harsolvek_record_read_raw(
     reading.number
 }
 
+// Where no record is found, the next is looked for at the same place.
 #[tactic(auto, unfolding(crate::specs::Reads::reading_of))]
-fn reading_of(read: Read, at: usize) -> Reading
+fn reading_of(read: Result<Found, Ending>, at: usize) -> Reading
     ensures { result ≡ reading_of at read }
 {
     match read {
-        Read::Found { record, next } => {
-            let numbers = numbers_of(record);
-            Reading {
-                number: 0,
-                numbers,
-                next,
-            }
-        }
-        Read::Ended(ending) => {
-            let number = ending_number(ending);
-            let numbers = no_numbers();
-            Reading {
-                number,
-                numbers,
-                next: at,
-            }
-        }
+        Ok(found) => Reading {
+            number: 0,
+            numbers: numbers_of(found.record),
+            next: found.next,
+        },
+        Err(ending) => Reading {
+            number: ending_number(ending),
+            numbers: Numbers::default(),
+            next: at,
+        },
     }
 }
 
@@ -83,54 +77,31 @@ fn ending_number(ending: Ending) -> u64
     }
 }
 
-fn no_numbers() -> Numbers
-    ensures { result ≡ no_numbers }
-{
-    Numbers {
-        kind: 0,
-        reason: 0,
-        connector: 0,
-        length: 0,
-        control: [0; 8],
-    }
-}
-
 // What the kind does not have is 0.
 #[tactic(auto, unfolding(crate::specs::Reads::numbers_of))]
 fn numbers_of(record: Record) -> Numbers
     ensures { result ≡ numbers_of «record» }
 {
     match record {
-        Record::Control(control) => {
-            let bytes = control.bytes();
-            Numbers {
-                kind: kinds::CONTROL,
-                reason: 0,
-                connector: 0,
-                length: 0,
-                control: bytes,
-            }
-        }
+        Record::Control(control) => Numbers {
+            kind: kinds::CONTROL,
+            control,
+            ..Numbers::default()
+        },
         Record::Change { connector, reason } => Numbers {
             kind: kinds::CHANGE,
             reason,
             connector,
-            length: 0,
-            control: [0; 8],
+            ..Numbers::default()
         },
         Record::Success { length } => Numbers {
             kind: kinds::SUCCESS,
-            reason: 0,
-            connector: 0,
             length,
-            control: [0; 8],
+            ..Numbers::default()
         },
         Record::Failure => Numbers {
             kind: kinds::FAILURE,
-            reason: 0,
-            connector: 0,
-            length: 0,
-            control: [0; 8],
+            ..Numbers::default()
         },
     }
 }

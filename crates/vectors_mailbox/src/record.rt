@@ -1,13 +1,13 @@
 // A record that is read at a place of a recording, and written again (01, Replay program).
 use crate::ending;
-use recording::{Read, Record};
+use numbers::Numbered;
+use recording::{Found, Record};
 use saying::Said;
 
 pub(crate) fn show(recording: &[u8], at: usize, buffer: &mut [u8]) -> Said {
-    let read = recording::next(recording, at);
-    match read {
-        Read::Ended(ending) => ending::add(Said::nothing(), ending),
-        Read::Found { record, next } => {
+    match recording::next(recording, at) {
+        Err(ending) => ending::add(Said::nothing(), ending),
+        Ok(Found { record, next }) => {
             let said = read_text(record).text(b" :").number(next as u64);
             write(said, record, buffer)
         }
@@ -17,7 +17,7 @@ pub(crate) fn show(recording: &[u8], at: usize, buffer: &mut [u8]) -> Said {
 fn read_text(record: Record) -> Said {
     let said = Said::nothing();
     match record {
-        Record::Control(control) => said.text(b" Control").all(&control.bytes()),
+        Record::Control(control) => said.text(b" Control").all(&control),
         Record::Change { connector, reason } => said
             .text(b" Change")
             .number(connector as u64)

@@ -5,37 +5,37 @@ use Rattle.playing.proofs.Mid.{mid_done, mid_full, mid_turn, line_len, line_fits
 use Rattle.playing.proofs.Steps.{turn_is}
 use Rattle.playing.proofs.part.play.Goals as goal
 
-pub returns-in-Ended : goal.returns-in-Ended
-returns-in-Ended c =
+pub returns-in-Err : goal.returns-in-Err
+returns-in-Err c =
     let g = c.args in
-    let l = c.loop-ending in
-    mid_done g.mailbox g.part.now g.out.now (mailbox l.state l.message) l.taken l.written l.out l.invariant _ (sym c.in-Ended.ensures)
+    let l = c.loop-found in
+    mid_done g.mailbox g.part.now g.out.now (mailbox l.state l.message) l.taken l.written l.out l.invariant _ (sym c.in-Err.ensures)
 
 pub returns-then-out-written : goal.returns-then-out-written
 returns-then-out-written c =
     let g = c.args in
-    let l = c.loop-ending in
+    let l = c.loop-found in
     let s = c.step_of-step in
     let turn = turn_is (mailbox l.state l.message) _ s.result s.ensures _ _ c.line_after-line.ensures refl in
     let len = line_len _ _ _ turn in
-    mid_full g.mailbox g.part.now g.out.now (mailbox l.state l.message) l.taken l.written l.out l.invariant _ _ (sym c.in-Found.ensures) (omega (arith, c.if-out-written.true, len))
+    mid_full g.mailbox g.part.now g.out.now (mailbox l.state l.message) l.taken l.written l.out l.invariant _ _ (sym c.in-Ok.ensures) (omega (arith, c.if-out-written.true, len))
 
 pub put-requires-clause-len_le_line_longest : goal.put-requires-clause-len_le_line_longest
 put-requires-clause-len_le_line_longest c =
-    let l = c.loop-ending in
+    let l = c.loop-found in
     let s = c.step_of-step in
     let turn = turn_is (mailbox l.state l.message) _ s.result s.ensures _ _ c.line_after-line.ensures refl in
     line_fits _ _ _ turn
 
-pub loop-ending-smaller : goal.loop-ending-smaller
-loop-ending-smaller c =
-    let past = found_past c.args.part.now c.loop-ending.taken _ _ (sym c.in-Found.ensures) in
+pub loop-found-smaller : goal.loop-found-smaller
+loop-found-smaller c =
+    let past = found_past c.args.part.now c.loop-found.taken _ _ (sym c.in-Ok.ensures) in
     omega (arith, past)
 
-pub loop-ending-preserved : goal.loop-ending-preserved
-loop-ending-preserved c =
+pub loop-found-preserved : goal.loop-found-preserved
+loop-found-preserved c =
     let g = c.args in
-    let l = c.loop-ending in
+    let l = c.loop-found in
     let s = c.step_of-step in
     let turn = turn_is (mailbox l.state l.message) _ s.result s.ensures _ _ c.line_after-line.ensures c.settle_zeros.ensures in
-    mid_turn g.mailbox g.part.now g.out.now (mailbox l.state l.message) l.taken l.written l.out l.invariant _ _ _ _ (sym c.in-Found.ensures) turn c.if-out-written.false c.put.ensures
+    mid_turn g.mailbox g.part.now g.out.now (mailbox l.state l.message) l.taken l.written l.out l.invariant _ _ _ _ (sym c.in-Ok.ensures) turn c.if-out-written.false c.put.ensures

@@ -1,19 +1,25 @@
-use Rattle.std.proofs.Common.{rules, ◌≡◌, length, arith, sym}
-use Rattle.std.proofs.Math.Seq.{length-take-le}
-use Rattle.recording.proofs.Wrote.{nine_fits, wrote}
+use Rattle.std.proofs.Common.{rules, refl, sym, ap, ◌∙◌, List, ℕ, ◌∷◌, ◌≡◌, length}
+use Rattle.basis.specs.Lists.{spell, spelled_all}
+use Rattle.recording.specs.Writing.{record_bytes_of}
+use Rattle.recording.specs.declared.record.Record.TheVariants.{Control, Change, Success, Failure}
+use Rattle.recording.proofs.WriteLaws.{fitted}
 use Rattle.recording.proofs.writer.write.Goals as goal
 
-pub slice_bounds-bytes-end : goal.slice_bounds-bytes-end
-slice_bounds-bytes-end c =
-    let f = nine_fits c.args.«record» c.nine_of-nine.result c.nine_of-nine.ensures in
-    let room : length c.nine_of-nine.result.bytes ≡ 9 = search rules in
-    omega arith
+pub returns-in-Control : goal.returns-in-Control
+unfolding record_bytes_of spell
+returns-in-Control c =
+    let control = c.in-Control.control in
+    let eight : length control ≡ 8 = search rules in
+    rw c.in-Control.is (c.fit.ensures ∙ fitted (Control control) eight _ _ (ap (λ (l : List ℕ). 1 ∷ l) (sym (spelled_all 0 8 control eight))) c.if-out-lt-ROOM_LEAST.false)
 
-pub slice_bounds-put-end : goal.slice_bounds-put-end
-slice_bounds-put-end c =
-    let f = nine_fits c.args.«record» c.nine_of-nine.result c.nine_of-nine.ensures in
-    let room : length c.nine_of-nine.result.bytes ≡ 9 = search rules in
-    sym (length-take-le _ _ (omega arith))
+pub returns-in-Change : goal.returns-in-Change
+unfolding record_bytes_of
+returns-in-Change c = rw c.in-Change.is (c.fit-in-Change.ensures ∙ fitted (Change c.in-Change.connector c.in-Change.reason) tt _ _ (search rules) c.if-out-lt-ROOM_LEAST.false)
 
-pub returns : goal.returns
-returns c = wrote c.args.«record» c.nine_of-nine.result c.nine_of-nine.ensures _ _ _ (search rules) c.put.ensures
+pub returns-in-Success : goal.returns-in-Success
+unfolding record_bytes_of
+returns-in-Success c = rw c.in-Success.is (c.fit-in-Success.ensures ∙ fitted (Success c.in-Success.length) tt _ _ refl c.if-out-lt-ROOM_LEAST.false)
+
+pub returns-in-Failure : goal.returns-in-Failure
+unfolding record_bytes_of
+returns-in-Failure c = rw c.in-Failure.is (c.fit-in-Failure.ensures ∙ fitted Failure tt _ _ refl c.if-out-lt-ROOM_LEAST.false)

@@ -1,5 +1,5 @@
-use Rattle.std.proofs.Common.{rules, sym}
-use Rattle.recording_c.proofs.Wrote.{wrote_known, wrote_no_kind}
+use Rattle.std.proofs.Common.{rules, sym, ◌∙◌}
+use Rattle.recording_c.proofs.Wrote.{counted, wrote_known, wrote_no_kind}
 use Rattle.recording_c.proofs.write_call.harsolvek_record_write_raw.Goals as goal
 
 pub returns-in_default : goal.returns-in_default
@@ -9,5 +9,5 @@ returns-in_default c =
 
 pub returns : goal.returns
 returns c =
-    rw (c.wide.ensures, c.number.ensures, c.count.ensures)
-    (wrote_known _ _ _ _ _ _ (search rules) _ _ _ (sym c.in-Known.ensures) c.write-done.ensures)
+    rw (c.from.ensures, c.number.ensures, c.unwrap_or.ensures ∙ counted c.write-done.result)
+    (wrote_known _ _ _ _ _ _ (search rules) _ _ _ (sym c.in-Some.ensures) c.write-done.ensures)
