@@ -8,6 +8,7 @@ use denote.Enum.Declared.{tag_of}
 use types.Run.{OneOf, miss}
 use lib.Dec.{eqb, ltb}
 use lib.ListN.{length, take, length-take}
+use Rattle.std.proofs.Common.{Ok, Err}
 use Rattle.basis.specs.Pick.{pick, pick_all}
 use Rattle.basis.specs.Left.{Left, left}
 use Rattle.silence.specs.Settings.{settings_of}
@@ -34,9 +35,8 @@ use Rattle.line.specs.Line as line
 use Rattle.clean.specs.Run.{clean_carried_of, clean_begun_of}
 use Rattle.clean.specs.Turn.{ends_underway}
 use Rattle.clean.specs.On.{clean_world, On}
-use Rattle.clean.specs.declared.ran.Ran.TheVariants.{FileSize}
+use Rattle.clean.specs.declared.ran.NotRun.TheVariants.{FileSize}
 use Rattle.clean.proofs.On.{one_goes}
-use Rattle.std.specs.Prelude.{Ok, Err}
 
 made_checked : (identity : Identity) (capacity : ℕ) (r : Receiver) (x : Checked) → receiver_fresh_of x identity capacity ≡ Rec.Made r → (s : Settings) × (x ≡ Ok s)
 unfolding receiver_fresh_of
@@ -57,7 +57,7 @@ NotMade x = OneOf (1 ∷ 2 ∷ 3 ∷ []) (tag_of the_type x)
 
 module _ (release : Release) (identity : Identity) (file up memory : List ℕ) (room : 260 ≤ length up) where
   abbrev Refuses : Left Started → Type 0
-  Refuses x = NotMade x.answer → left FileSize memory ≡ clean_begun_of release identity file memory
+  Refuses x = NotMade x.answer → left (Err FileSize) memory ≡ clean_begun_of release identity file memory
 
   begin_refuses : (s : Settings) → Refuses (indoor_begin_of s release file up)
   unfolding indoor_begin_of clean_begun_of pick
@@ -71,7 +71,7 @@ module _ (release : Release) (identity : Identity) (file up memory : List ℕ) (
   module _ (limit resends : ℕ) (r : Receiver) (made : receiver_start_of limit resends r.identity (length memory) ≡ Rec.Made r) where
     -- With settings that made a receiver and a buffer of 260 bytes, the start refuses nothing but the file's length (46).
     pub start_refuses : (x : Started) (up' : List ℕ) → left x up' ≡ indoor_start_of limit resends release file up → NotMade x
-        → left FileSize memory ≡ clean_begun_of release identity file memory
+        → left (Err FileSize) memory ≡ clean_begun_of release identity file memory
     unfolding indoor_started_of
     start_refuses x up' e =
         let s = made_settings limit resends r.identity (length memory) r made in

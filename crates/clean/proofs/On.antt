@@ -1,13 +1,13 @@
 -- A turn of the code stays on the clean line, and the line has come to rest when nothing is on its way.
-use Prim.Native.Nat.{ℕ, suc, ◌+◌, ◌-◌, ◌≤◌, ◌<◌}
+use Prim.Native.Nat.{ℕ, suc, ◌+◌, ◌≤◌}
 use mathlib.Core.Bool.{Bool, true, false}
-use mathlib.Core.Logic.{◌⊎◌, inl, inr}
 use mathlib.Core.Path.{◌≡◌, refl, sym, ◌∙◌, ap, subst}
 use mathlib.Core.List.{List, [], ◌∷◌, ◌++◌}
 use native.Mathlib.Omega.{arith}
 use borrow.Author.Tests.{eq-eqb, ne_eqb, le-ltb, eqb-true, eqb-false, ltb-true, ltb-false}
 use lib.Dec.{eqb, ltb}
 use lib.ListN.{length, take, drop, take-append-drop}
+use Rattle.std.proofs.Common.{Ok}
 use Rattle.basis.specs.Pick.{pick, pick_yes, pick_no, pick_all}
 use Rattle.basis.specs.Left.{Left, left}
 use Rattle.lent.specs.Written.{written_into}
@@ -30,12 +30,10 @@ use Rattle.line.proofs.Course.{safe}
 use Rattle.line.proofs.Sent.{sent_length}
 use Rattle.line.proofs.Rest.{most_requests, rests_done, rests_42, rests_43}
 use Rattle.line.proofs.Demand3.{demand3}
-use Rattle.clean.specs.Run.{transferred_of, clean_carried_of}
+use Rattle.clean.specs.Run.{Ran, ended, transferred_of, clean_carried_of}
 use Rattle.clean.specs.Turn.{ends_underway, Answered, answered, answer_of, Turned, turned, delivered_of, clean_turn_of}
 use Rattle.clean.specs.On.{turns_most, clean_line_of, On}
 use Rattle.clean.specs.declared.ends.Ends.{Ends}
-use Rattle.clean.specs.declared.ran.Ran.{Ran}
-use Rattle.clean.specs.declared.ran.Ran.TheVariants.{Ended}
 
 pub one_goes : (written : ℕ) (out : List ℕ) → (written ≡ 0 → ⊥) → with_sent written out [] ≡ take written out ∷ []
 one_goes written out some = pick_no (eqb written 0) [] (take written out ∷ []) (ne_eqb written 0 some)
@@ -138,12 +136,12 @@ module _ (file memory : List ℕ) (release : Release) (identity : Identity) (e :
     all_delivered = on.count ∙ ap (λ (m : List (List ℕ)). delivered + length m) (none_goes e.underway upper none) ∙ omega arith
 
     abbrev Is : Left Ran → Type 0
-    Is r = left (Ended e.indoor.state.phase delivered) image ≡ r
+    Is r = left (Ok (ended e.indoor.state.phase delivered)) image ≡ r
 
-    same : (phase : Phase) (requests : ℕ) (lies : List ℕ) → e.indoor.state.phase ≡ phase → length on.requests ≡ requests → image ≡ lies → Is (left (Ended phase requests) lies)
+    same : (phase : Phase) (requests : ℕ) (lies : List ℕ) → e.indoor.state.phase ≡ phase → length on.requests ≡ requests → image ≡ lies → Is (left (Ok (ended phase requests)) lies)
     same phase requests lies p n i = rw (p, ← n, ← all_delivered, i)
 
-    done : newer_of release identity ≡ true → length file ≤ length memory → Is (left (Ended Done (blocks_of (length file) + 4)) (written_into file memory))
+    done : newer_of release identity ≡ true → length file ≤ length memory → Is (left (Ok (ended Done (blocks_of (length file) + 4))) (written_into file memory))
     done new fits =
         let r = rests_done file memory release identity on.wide on.clean rest new fits in
         let d = demand3 file memory release identity on.wide in
@@ -168,31 +166,30 @@ module _ (file memory : List ℕ) (release : Release) (identity : Identity) (e :
         let r = rests_42 file memory release identity on.wide on.clean rest f in
         same (Failed NotNewer) 1 memory r.1.in_phase r.1.requests r.0)
 
--- What holds at each test of the loop, with `remaining` turns left.
-pub record Mid (file memory : List ℕ) (release : Release) (identity : Identity) (e : Ends) (image upper lower : List ℕ) (remaining : ℕ) : Type 0 where
-  pub on : On file memory release identity e image upper (turns_most - remaining)
-  pub bound : remaining ≤ turns_most
+-- What holds at each turn, after so many.
+pub record Mid (file memory : List ℕ) (release : Release) (identity : Identity) (e : Ends) (image upper lower : List ℕ) (delivered : ℕ) : Type 0 where
+  pub on : On file memory release identity e image upper delivered
   pub room : length lower ≡ 260
 
-module _ (file memory : List ℕ) (release : Release) (identity : Identity) (e : Ends) (image upper lower : List ℕ) (remaining : ℕ) (mid : Mid file memory release identity e image upper lower remaining) where
-  pub mid_turn : 0 < remaining → (e.underway ≡ 0 → ⊥) → (e' : Ends) (image' upper' lower' : List ℕ) → turned e' image' upper' lower' ≡ clean_turn_of e file image upper lower
-      → Mid file memory release identity e' image' upper' lower' (remaining - 1)
-  mid_turn more some e' image' upper' lower' did =
-      let bound = mid.bound in
+module _ (file memory : List ℕ) (release : Release) (identity : Identity) (e : Ends) (image upper lower : List ℕ) (delivered : ℕ) (mid : Mid file memory release identity e image upper lower delivered) where
+  pub mid_turn : (e.underway ≡ 0 → ⊥) → (e' : Ends) (image' upper' lower' : List ℕ) → turned e' image' upper' lower' ≡ clean_turn_of e file image upper lower
+      → Mid file memory release identity e' image' upper' lower' (delivered + 1)
+  mid_turn some e' image' upper' lower' did =
       let room = mid.room in
-      let count : turns_most - remaining + 1 ≡ turns_most - (remaining - 1) = omega arith in
       record {
-        on = subst (On file memory release identity e' image' upper') count
-            (turn_on file memory release identity e image upper lower (turns_most - remaining) mid.on some (omega arith) e' image' upper' lower' did);
-        bound = omega arith;
-        room = turn_room file memory release identity e image upper lower (turns_most - remaining) mid.on some (omega arith) e' image' upper' lower' did ∙ room;
+        on = turn_on file memory release identity e image upper lower delivered mid.on some (omega arith) e' image' upper' lower' did;
+        room = turn_room file memory release identity e image upper lower delivered mid.on some (omega arith) e' image' upper' lower' did ∙ room;
       }
 
   -- No turn makes the image longer or shorter.
   pub mid_size : length image ≡ length memory
   mid_size = (safe file memory release identity mid.on.wide mid.on.clean).size
 
-  -- The loop ends with no turn left or with nothing on its way, and its result is the definition's.
-  pub mid_rests : (remaining ≡ 0) ⊎ (e.underway ≡ 0) → left (Ended e.indoor.state.phase (turns_most - remaining)) image ≡ clean_carried_of release identity file memory
-  mid_rests (inl none) = ran file memory release identity e image upper (turns_most - remaining) mid.on (turns_suffice file memory release identity e image upper (turns_most - remaining) mid.on (omega arith))
-  mid_rests (inr none) = ran file memory release identity e image upper (turns_most - remaining) mid.on none
+  -- The loop ends with nothing on its way or with the last turn, and its result is the definition's.
+  pub mid_rests : e.underway ≡ 0 → left (Ok (ended e.indoor.state.phase delivered)) image ≡ clean_carried_of release identity file memory
+  mid_rests none = ran file memory release identity e image upper delivered mid.on none
+
+  pub mid_ends : delivered ≡ turns_most → left (Ok (ended e.indoor.state.phase turns_most)) image ≡ clean_carried_of release identity file memory
+  mid_ends last =
+      rw (← last)
+      (mid_rests (turns_suffice file memory release identity e image upper delivered mid.on (omega arith)))

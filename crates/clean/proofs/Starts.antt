@@ -5,6 +5,7 @@ use mathlib.Core.Path.{◌≡◌, refl, sym, ◌∙◌, ap}
 use mathlib.Core.List.{List}
 use lib.Dec.{ltb}
 use lib.ListN.{length}
+use Rattle.std.proofs.Common.{Ok, Err}
 use Rattle.basis.specs.Pick.{pick}
 use Rattle.basis.specs.Left.{left}
 use Rattle.silence.specs.Settings.{settings_of}
@@ -17,22 +18,21 @@ use Rattle.receiver_state.specs.declared.session.Started.TheVariants.{Made, Refu
 use Rattle.receiver_rules.proofs.Fresh.{refused_made, start_fresh}
 use Rattle.indoor_state.specs.declared.plan.Release.{Release}
 use Rattle.clean.specs.Run.{clean_begun_of, checked_of, clean_run_of}
-use Rattle.clean.specs.declared.ran.Ran.TheVariants.{Settings}
-use Rattle.std.specs.Prelude.{Ok, Err}
+use Rattle.clean.specs.declared.ran.NotRun.TheVariants.{Settings}
 
 module _ (limit resends : ℕ) (identity : Identity) (release : Release) (file memory : List ℕ) where
-  checked_29 : (x : Checked) → receiver_fresh_of x identity (length memory) ≡ Refused → left Settings memory ≡ checked_of x release identity file memory
+  checked_29 : (x : Checked) → receiver_fresh_of x identity (length memory) ≡ Refused → left (Err Settings) memory ≡ checked_of x release identity file memory
   unfolding receiver_fresh_of checked_of
   checked_29 (Ok s) e = absurd (refused_made _ (sym e))
   checked_29 (Err refusal) e = refl
 
   tested_29 : (t : Bool) → ltb image_size_most (length memory) ≡ t → pick t Refused (receiver_fresh_of (settings_of limit resends) identity (length memory)) ≡ Refused
-      → left Settings memory ≡ clean_run_of limit resends identity release file memory
+      → left (Err Settings) memory ≡ clean_run_of limit resends identity release file memory
   unfolding clean_run_of pick
   tested_29 true t e = rw t
   tested_29 false t e = rw t (checked_29 (settings_of limit resends) e)
 
-  pub refused_29 : receiver_start_of limit resends identity (length memory) ≡ Refused → left Settings memory ≡ clean_run_of limit resends identity release file memory
+  pub refused_29 : receiver_start_of limit resends identity (length memory) ≡ Refused → left (Err Settings) memory ≡ clean_run_of limit resends identity release file memory
   unfolding receiver_start_of
   refused_29 = tested_29 (ltb image_size_most (length memory)) refl
 

@@ -1,7 +1,9 @@
 // Both ends and the request on its way, and one turn of the line: the request to the receiver, its answer to the indoor end.
 ghost use Rattle.std.specs.Prelude.{◌≡◌, ◌≤◌, length};
+ghost use Rattle.clean.specs.Run.{ended};
 ghost use Rattle.clean.specs.Turn.{turned, delivered_of, clean_turn_of, answered, answer_of};
 
+use crate::ran::Ended;
 use indoor_state::session::Indoor;
 use receiver_state::session::Receiver;
 use receiver_state::verdict::Verdict;
@@ -38,6 +40,15 @@ impl Ends {
         let session = heard.session;
         let written = heard.written;
         answer(session, indoor, file, up, down, written)
+    }
+
+    pub(crate) fn ended(self, requests: u16) -> Ended
+        ensures { result ≡ ended self.indoor.state.phase requests }
+    {
+        Ended {
+            phase: self.indoor.state.phase,
+            requests,
+        }
     }
 }
 

@@ -1,36 +1,43 @@
 // The result of a session.
 ghost use Rattle.std.specs.Prelude.{◌≡◌};
-ghost use Rattle.clean.specs.Run.{phase_number, clean_number_of};
+ghost use Rattle.clean.specs.Run.{ended_number_of, not_run_number_of};
 
 use indoor_state::phase::Phase;
+use numbers::Numbered;
 
-// `Settings` and `FileSize` are a refused start (29, 46). `Ended` has the indoor end's phase once nothing is on its way, and how many
-// requests were sent.
+// The indoor end's phase once nothing is on its way, and how many requests were sent.
 #[derive(Clone, Copy)]
-pub enum Ran {
-    Settings,
-    FileSize,
-    Ended { phase: Phase, requests: u16 },
+pub struct Ended {
+    pub phase: Phase,
+    pub requests: u16,
 }
 
-impl Ran {
-    // 01, Numbers we answer.
-    pub fn number(self) -> u8
-        ensures { result ≡ clean_number_of self }
-    {
-        match self {
-            Ran::Settings => 29,
-            Ran::FileSize => 46,
-            Ran::Ended { phase, requests: _ } => phase_number(phase),
+// Which start was refused: for its settings (29) or for the file's size (46).
+#[derive(Clone, Copy)]
+pub enum NotRun {
+    Settings,
+    FileSize,
+}
+
+// 01, Numbers we answer. A session that ends has the number of its phase, which is 0 but where the indoor end failed.
+impl Numbered for Ended {
+    ghost number_of = { ended_number_of };
+
+    fn number(self) -> u8 {
+        match self.phase {
+            Phase::Failed(reason) => indoor_decide::reason_number(reason),
+            _ => 0,
         }
     }
 }
 
-fn phase_number(phase: Phase) -> u8
-    ensures { result ≡ phase_number phase }
-{
-    let Phase::Failed(reason) = phase else {
-        return 0;
-    };
-    indoor_decide::reason_number(reason)
+impl Numbered for NotRun {
+    ghost number_of = { not_run_number_of };
+
+    fn number(self) -> u8 {
+        match self {
+            NotRun::Settings => 29,
+            NotRun::FileSize => 46,
+        }
+    }
 }

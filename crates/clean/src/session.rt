@@ -8,7 +8,7 @@ ghost use Rattle.clean.specs.Run.{clean_run_of, clean_begun_of, clean_carried_of
 ghost use Rattle.clean.specs.On.{On};
 
 use crate::ends::Ends;
-use crate::ran::Ran;
+use crate::ran::{Ended, NotRun};
 use indoor_state::plan::Release;
 use indoor_state::session::Started as Begun;
 use receiver_state::session::{Receiver, Started};
@@ -26,12 +26,12 @@ pub fn run(
     release: Release,
     file: &[u8],
     image: &mut [u8],
-) -> Ran
+) -> Result<Ended, NotRun>
     ensures { left result image.new ≡ clean_run_of limit resends identity release file.now image.old }
 {
     let started = receiver::start(limit, resends, identity, image.len());
     let Started::Made(receiver) = started else {
-        return Ran::Settings;
+        return Err(NotRun::Settings);
     };
     begin(receiver, limit, resends, release, file, image)
 }
@@ -44,7 +44,7 @@ fn begin(
     release: Release,
     file: &[u8],
     image: &mut [u8],
-) -> Ran
+) -> Result<Ended, NotRun>
     requires image_value { receiver_start_of limit resends receiver.identity (length image.old) ≡ Made receiver }
     requires wide { Wide release receiver.identity }
     ensures { left result image.new ≡ clean_begun_of release receiver.identity file.now image.old }
@@ -52,7 +52,7 @@ fn begin(
     let mut up = [0u8; codes::LONGEST];
     let begun = indoor::start(limit, resends, release, file, &mut up);
     let Begun::Made { session, written } = begun else {
-        return Ran::FileSize;
+        return Err(NotRun::FileSize);
     };
     let ends = Ends {
         receiver,
@@ -62,25 +62,17 @@ fn begin(
     carry(ends, file, image, &mut up)
 }
 
-fn carry(begun: Ends, file: &[u8], image: &mut [u8], up: &mut [u8]) -> Ran
+fn carry(begun: Ends, file: &[u8], image: &mut [u8], up: &mut [u8]) -> Result<Ended, NotRun>
     requires { On file.now image.old begun.indoor.plan.release begun.receiver.identity begun image.old up.old 0 }
     ensures { left result image.new ≡ clean_carried_of begun.indoor.plan.release begun.receiver.identity file.now image.old }
 {
     let mut down = [0u8; codes::LONGEST];
     let mut ends = begun;
-    let mut left = TURNS_MOST;
-    while 0 < left {
+    for requests in 0..TURNS_MOST {
         if ends.underway == 0 {
-            break;
+            return Ok(ends.ended(requests));
         }
         ends = ends.turn(file, image, up, &mut down);
-        left -= 1;
     }
-    let indoor = ends.indoor;
-    let state = indoor.state;
-    let phase = state.phase;
-    Ran::Ended {
-        phase,
-        requests: TURNS_MOST - left,
-    }
+    Ok(ends.ended(TURNS_MOST))
 }

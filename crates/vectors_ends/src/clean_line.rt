@@ -1,8 +1,9 @@
 // A whole session of both ends over a clean line, on the image and the file that the sessions of one end borrow too.
 use crate::release::Offered;
 use crate::{bench, indoor_phase, release, session};
-use clean::Ran;
+use clean::{Ended, NotRun};
 use indoor_state::plan::Release;
+use numbers::Numbered;
 use saying::Said;
 use script::Field;
 
@@ -48,15 +49,17 @@ fn carried(limit: u16, resends: u8, release: Release, file: &[u8], image: &mut [
     said.text(b" : no file")
 }
 
-fn run_text(ran: Ran) -> Said {
-    let number = ran.number();
-    let said = Said::nothing().number(number as u64);
+fn run_text(ran: Result<Ended, NotRun>) -> Said {
     match ran {
-        Ran::Settings => said,
-        Ran::FileSize => said,
-        Ran::Ended { phase, requests } => indoor_phase::add(said.text(b" :"), phase)
-            .text(b" :")
-            .number(requests as u64),
+        Err(refusal) => Said::nothing().number(u64::from(refusal.number())),
+        Ok(ended) => {
+            let said = Said::nothing()
+                .number(u64::from(ended.number()))
+                .text(b" :");
+            indoor_phase::add(said, ended.phase)
+                .text(b" :")
+                .number(u64::from(ended.requests))
+        }
     }
 }
 
