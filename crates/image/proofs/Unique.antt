@@ -1,10 +1,10 @@
 -- Each public contract leaves one answer and one state of the lent memory. Written from the contracts by tools/contracts.
-use Rattle.std.specs.Prelude.{ℕ, ◌≡◌, Bool, List, take}
+use Rattle.std.specs.Prelude.{ℕ, ◌≡◌, Bool, List, Result, ⊤, take}
 use Rattle.basis.specs.Left.{left}
 use Rattle.basis.specs.Only.{only}
 use Rattle.image.specs.Blocks.{blocks_of, place_of, block_passes_of, put_block_of, block_at}
 use Rattle.image.specs.Sum.{sum_of}
-use Rattle.lent.specs.Put.{Placed}
+use Rattle.lent.specs.declared.placing.NoRoom.{NoRoom}
 
 pub one_blocks_in : (len r r' : ℕ)
     → r ≡ blocks_of len
@@ -24,7 +24,7 @@ pub one_passes : (number size capacity : ℕ) (r r' : Bool)
     → r ≡ r'
 one_passes number size capacity r r' is is' = only is is'
 
-pub one_put_block : (image : List ℕ) (number : ℕ) (block : List ℕ) (r r' : Placed) (image_left image_left' : List ℕ)
+pub one_put_block : (image : List ℕ) (number : ℕ) (block : List ℕ) (r r' : Result ⊤ NoRoom) (image_left image_left' : List ℕ)
     → left r image_left ≡ put_block_of image number block
     → left r' image_left' ≡ put_block_of image number block
     → left r image_left ≡ left r' image_left'

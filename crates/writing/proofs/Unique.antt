@@ -1,14 +1,15 @@
 -- Each public contract leaves one answer and one state of the lent memory. Written from the contracts by tools/contracts.
-use Rattle.std.specs.Prelude.{List, ℕ, ◌≡◌}
+use Rattle.std.specs.Prelude.{List, ℕ, Result, ◌≡◌}
 use Rattle.basis.specs.Left.{left}
 use Rattle.basis.specs.Only.{only}
 use Rattle.wire.specs.Written.{request_bytes, response_bytes}
 use Rattle.wire.specs.declared.request.Request.{Request}
 use Rattle.wire.specs.declared.response.Response.{Response}
-use Rattle.writing.specs.Message.{Sent, send_of, message_of}
+use Rattle.writing.specs.Message.{send_of, message_of}
 use Rattle.writing.specs.declared.message.Message.{Message}
+use Rattle.writing.specs.declared.message.TooShort.{TooShort}
 
-pub one_send : (self : Message) (out : List ℕ) (r r' : Sent) (out_left out_left' : List ℕ)
+pub one_send : (self : Message) (out : List ℕ) (r r' : Result ℕ TooShort) (out_left out_left' : List ℕ)
     → left r out_left ≡ send_of self out
     → left r' out_left' ≡ send_of self out
     → left r out_left ≡ left r' out_left'
