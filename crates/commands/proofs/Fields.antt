@@ -11,8 +11,8 @@ use lib.ListN.{length}
 use Rattle.basis.specs.Pick.{pick_yes, pick_no, pick_all, eq_differ, ne_differ}
 use Rattle.commands.specs.Control.{field, is_set, fields_of, control_of}
 use Rattle.commands.specs.declared.control.Control.{Control}
-use Rattle.commands.specs.declared.control.Parsed.{Parsed}
-use Rattle.commands.specs.declared.control.Parsed.TheVariants.{Fields, WrongLength}
+use Rattle.commands.specs.declared.control.WrongLength.{WrongLength}
+use Rattle.std.specs.Prelude.{Result, Ok, Err}
 
 abbrev control : ℕ → ℕ → ℕ → ℕ → Bool → Bool → Control
 control code connector type mask change completed =
@@ -22,7 +22,7 @@ alike : {a b d e a' b' d' e' : ℕ} {f f' g : Bool} → a ≡ a' → b ≡ b' �
 alike p q r s t = cc
 
 abbrev pub in_bytes : ℕ → ℕ → ℕ → Control
-in_bytes code low high = control code (low % 128) (low / 128) (low + 256 * high) (eqb (low % 2) 1) (eqb (low / 2 % 2) 1)
+in_bytes code low high = control code (low % 128) (low / 128) (low + high * 256) (eqb (low % 2) 1) (eqb (low / 2 % 2) 1)
 
 -- The bits of a byte, one by one, and what is above them.
 module _ (n t : ℕ) (h : n < 256) where
@@ -94,19 +94,20 @@ in_bytes_lem code any low high rest hc hl hh =
     let p : code ≡ field b 0 8 = sym (byte code 0 hc ∙ add-zero code) in
     let q : low % 128 ≡ field b 16 7 = sym (seven low) in
     let r : low / 128 ≡ field b 23 1 = sym (highest low hl) in
-    let s : low + 256 * high ≡ field b 16 16 = sym (byte low (field b 24 8) hl ∙ ap (λ (t : ℕ). low + 256 * t) above) in
+    let m : low + high * 256 ≡ low + 256 * high = omega arith in
+    let s : low + high * 256 ≡ field b 16 16 = m ∙ sym (byte low (field b 24 8) hl ∙ ap (λ (t : ℕ). low + 256 * t) above) in
     let u : eqb (low % 2) 1 ≡ is_set b 16 = ap (λ (n : ℕ). eqb n 1) (sym (lowest low)) in
     alike p q r s u
 
 -- Every CONTROL of 8 bytes is taken apart, and no other.
-pub eight_read : (b : List ℕ) → length b ≡ 8 → control_of b ≡ Fields (fields_of b)
+pub eight_read : (b : List ℕ) → length b ≡ 8 → control_of b ≡ Ok (fields_of b)
 unfolding control_of
 eight_read b e = pick_no _ _ _ (eq_differ (length b) 8 e)
 
-pub others_not : (b : List ℕ) → (length b ≡ 8 → ⊥) → control_of b ≡ WrongLength
+pub others_not : (b : List ℕ) → (length b ≡ 8 → ⊥) → control_of b ≡ Err (record {})
 unfolding control_of
 others_not b h = pick_yes _ _ _ (ne_differ (length b) 8 h)
 
-pub eight_or_not : (b : List ℕ) → (control_of b ≡ Fields (fields_of b)) ⊎ (control_of b ≡ WrongLength)
+pub eight_or_not : (b : List ℕ) → (control_of b ≡ Ok (fields_of b)) ⊎ (control_of b ≡ Err (record {}))
 unfolding control_of
-eight_or_not b = pick_all (λ (p : Parsed). (p ≡ Fields (fields_of b)) ⊎ (p ≡ WrongLength)) _ _ _ (λ y. inr refl) (λ n. inl refl)
+eight_or_not b = pick_all (λ (p : Result Control WrongLength). (p ≡ Ok (fields_of b)) ⊎ (p ≡ Err (record {}))) _ _ _ (λ y. inr refl) (λ n. inl refl)

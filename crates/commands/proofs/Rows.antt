@@ -1,9 +1,19 @@
 -- The table in the codes of 002 (Table A-1), and every code that is not in it by itself (01, The mailbox).
 use Prim.Native.Nat.{ℕ, ◌≤◌}
-use mathlib.Core.Bool.{true, false}
-use mathlib.Core.Path.{◌≡◌, refl}
+use mathlib.Core.Bool.{Bool, true, false}
+use mathlib.Core.Path.{◌≡◌, refl, ◌∙◌, sym}
 use mathlib.Core.Logic.{◌⊎◌, inl, inr}
-use borrow.Author.Tests.{eqb-true}
+use borrow.Author.Tests.{eqb-true, ltb-true, ltb-false}
+use lib.Dec.{ltb}
+use lib.ListN.{get_or}
+use denote.Bor.{Bor}
+use Rattle.std.specs.Option.{option_copied}
+use Rattle.std.specs.Prelude.{Option, unwrap_or, slice_get}
+use Rattle.std.specs.Slice.{IsItemAt}
+use Rattle.std.proofs.Common.{rules, List, ap}
+use Rattle.std.proofs.lemmas.List.{get_or_past}
+use Rattle.std.proofs.lemmas.Option.{gets, unwrap_or-slice_get}
+use Rattle.basis.specs.Table.{tabulate, at}
 use native.Mathlib.Omega.{arith}
 use Rattle.basis.specs.Pick.{pick, pick_all, tests}
 use Rattle.commands.specs.Table.{entry, entry_of}
@@ -71,3 +81,21 @@ named code =
     pick_all (NamedBy code) _ _ _ (λ y. inl (inl (eqb-true code 0x03 y))) (λ n3.
     pick_all (NamedBy code) _ _ _ (λ y. inr (inl (eqb-true code 0x07 y))) (λ n7.
     pick_all (NamedBy code) _ _ _ (λ y. inr (inr (eqb-true code 0x12 y))) (λ n12. tt))))))))
+
+-- The rule at each code of 002's table; above it no code is named.
+abbrev pub table : List Entry
+table = tabulate entry_of 0 30
+
+read : (code : ℕ) → get_or table code (entry NotSupported false) ≡ entry_of code
+read code =
+    pick_all (λ (t : Bool). get_or table code (entry NotSupported false) ≡ entry_of code) (ltb code 30) true false
+    (λ y. at entry_of _ 30 code (ltb-true code 30 y))
+    (λ n. get_or_past table code _ (ltb-false code 30 n) ∙ sym (above code (ltb-false code 30 n)))
+
+found : (entries : List Entry) (place : ℕ) (r : Option (Bor Entry)) (d : Entry) → IsItemAt entries place r → unwrap_or (option_copied r) d ≡ get_or entries place d
+found entries place r d h =
+    let got : option_copied r ≡ slice_get entries place = search (rules, gets) in
+    ap (λ (x : Option Entry). unwrap_or x d) got ∙ unwrap_or-slice_get entries place d
+
+pub looked : (code : ℕ) (r : Option (Bor Entry)) → IsItemAt table code r → unwrap_or (option_copied r) (entry NotSupported false) ≡ entry_of code
+looked code r h = found table code r _ h ∙ read code

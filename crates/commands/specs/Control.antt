@@ -1,9 +1,8 @@
 -- CONTROL as 000 prints it: each field by its offset and its size in bits (000 T3-3, T4-5, T4-7, T4-9).
-use Rattle.std.specs.Prelude.{ℕ, zero, suc, ◌+◌, ◌*◌, ◌/◌, ◌%◌, ◌^◌, List, Bool, length, get_or, eqb}
+use Rattle.std.specs.Prelude.{ℕ, zero, suc, ◌+◌, ◌*◌, ◌/◌, ◌%◌, ◌^◌, List, Bool, length, get_or, eqb, Result, Ok, Err}
 use Rattle.basis.specs.Pick.{pick, differ}
 use Rattle.commands.specs.declared.control.Control.{Control}
-use Rattle.commands.specs.declared.control.Parsed.{Parsed}
-use Rattle.commands.specs.declared.control.Parsed.TheVariants.{Fields, WrongLength}
+use Rattle.commands.specs.declared.control.WrongLength.{WrongLength}
 
 -- 000 T3-1: 64 bits.
 abbrev pub control_size : ℕ
@@ -33,5 +32,5 @@ fields_of b =
       completed = is_set b 17;
     }
 
-unfoldable pub control_of : List ℕ → Parsed
-control_of b = pick (differ (length b) control_size) WrongLength (Fields (fields_of b))
+unfoldable pub control_of : List ℕ → Result Control WrongLength
+control_of b = pick (differ (length b) control_size) (Err (record {})) (Ok (fields_of b))

@@ -20,23 +20,22 @@ pub struct Control {
     pub completed: bool,
 }
 
+// A CONTROL that is not 8 bytes.
 #[derive(Clone, Copy)]
-pub enum Parsed {
-    Fields(Control),
-    WrongLength,
-}
+pub struct WrongLength;
 
 #[tactic(auto, using(basis::specs::Pick::tests), unfolding(crate::specs::Control::control_of, crate::specs::Control::fields_of))]
-pub fn take_apart(control: &[u8]) -> Parsed
+pub fn take_apart(control: &[u8]) -> Result<Control, WrongLength>
     ensures { result ≡ control_of control.now }
 {
     if control.len() != CONTROL_SIZE {
-        return Parsed::WrongLength;
+        return Err(WrongLength);
     }
-    Parsed::Fields(fields(control[0], control[2], control[3]))
+    Ok(fields(control[0], control[2], control[3]))
 }
 
 // Bits 0 to 7 are the first byte, and 16 to 31 the third and the fourth.
+#[tactic(auto, using(crate::proofs::Fields::in_bytes_lem))]
 fn fields(code: u8, low: u8, high: u8) -> Control
     ensures { result ≡ fields_of (code ∷ 0 ∷ low ∷ high ∷ []) }
 {
@@ -44,7 +43,7 @@ fn fields(code: u8, low: u8, high: u8) -> Control
         code,
         connector: low % 128,
         reset_type: low / 128,
-        mask: low as u16 + 256 * (high as u16),
+        mask: u16::from_le_bytes([low, high]),
         change: low % 2 == 1,
         completed: low / 2 % 2 == 1,
     }

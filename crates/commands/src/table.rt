@@ -2,7 +2,7 @@
 ghost use Rattle.std.specs.Prelude.{◌≡◌};
 ghost use Rattle.commands.specs.Table.{entry_of};
 
-#[derive(Clone, Copy)]
+#[derive(Clone, Copy, PartialEq, Eq)]
 pub enum Class {
     // PPM_RESET, CANCEL, ACK_CC_CI and SET_NOTIFICATION_ENABLE.
     Reset,
@@ -23,6 +23,7 @@ pub struct Entry {
 
 const CODES: usize = 30;
 
+// Each kind of entry has a name, so that a code takes one line of the table: a constant may call no function that would make one.
 const RESET: Entry = Entry {
     class: Class::Reset,
     connector: false,
@@ -97,9 +98,8 @@ const ENTRIES: [Entry; CODES] = [
 pub fn look(code: u8) -> Entry
     ensures { result ≡ entry_of code }
 {
-    let place = code as usize;
-    if place < CODES {
-        return ENTRIES[place];
-    }
-    NOT_SUPPORTED
+    ENTRIES
+        .get(usize::from(code))
+        .copied()
+        .unwrap_or(NOT_SUPPORTED)
 }

@@ -1,10 +1,9 @@
--- The table is the rule at each of its codes, by computation; above it no code is named.
-use Rattle.std.proofs.Common.{arith}
+-- The table is the rule at each of its codes, by computation.
 use Rattle.basis.specs.Pick.{pick}
-use Rattle.basis.specs.Table.{at}
 use Rattle.commands.specs.Table.{entry_of}
+use Rattle.commands.proofs.Rows.{looked}
 use Rattle.commands.proofs.table.look.Goals as goal
 
-pub returns-then-place-lt-CODES : goal.returns-then-place-lt-CODES
+pub returns : goal.returns
 unfolding entry_of pick
-returns-then-place-lt-CODES c = at entry_of _ 30 c.args.code (omega arith)
+returns c = cc (looked c.from.result c.get.result c.get.ensures.lookup)
