@@ -1,10 +1,10 @@
 -- Each public contract leaves one answer and one state of the lent memory. Written from the contracts by tools/contracts.
-use Rattle.std.specs.Prelude.{List, ℕ, ◌≡◌}
+use Rattle.std.specs.Prelude.{List, ℕ, ◌≡◌, Result}
 use Rattle.basis.specs.Only.{only}
 use Rattle.mailbox_rules.specs.Events.{event_of, writes, succeeds, fails, changes, write_step_of}
 use Rattle.mailbox_rules.specs.Mailbox.{mailbox_fresh_of, mailbox_cci_of, message_in_of}
 use Rattle.mailbox_rules.specs.MessageIn.{settled_of}
-use Rattle.mailbox_state.specs.declared.mailbox.Fresh.{Fresh}
+use Rattle.mailbox_state.specs.declared.mailbox.NoMailbox.{NoMailbox}
 use Rattle.mailbox_state.specs.declared.mailbox.Mailbox.{Mailbox}
 use Rattle.mailbox_state.specs.declared.mailbox.Outcome.{Outcome}
 use Rattle.mailbox_state.specs.declared.state.State.{State}
@@ -41,7 +41,7 @@ pub one_write_step : (state : State) (control : List ℕ) (r r' : Step)
     → r ≡ r'
 one_write_step state control r r' is is' = only is is'
 
-pub one_fresh : (count : ℕ) (r r' : Fresh)
+pub one_fresh : (count : ℕ) (r r' : Result Mailbox NoMailbox)
     → r ≡ mailbox_fresh_of count
     → r' ≡ mailbox_fresh_of count
     → r ≡ r'

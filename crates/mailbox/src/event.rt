@@ -3,9 +3,9 @@ ghost use Rattle.std.specs.Prelude.{◌≡◌};
 ghost use Rattle.mailbox_rules.specs.Events.{writes, succeeds, fails, changes, write_step_of, step_returns, event_of};
 
 use crate::settle_call::settle;
-use commands::control::{Parsed, take_apart};
+use commands::control::take_apart;
 use mailbox_decide::refused;
-use mailbox_state::answer::Answer;
+use mailbox_state::answer::Refusal;
 use mailbox_state::mailbox::{Mailbox, Outcome};
 use mailbox_state::state::State;
 use mailbox_state::step::Step;
@@ -13,32 +13,27 @@ use mailbox_state::step::Step;
 pub fn write(mailbox: Mailbox, control: &[u8]) -> Outcome
     ensures { result ≡ event_of mailbox (writes control.now) }
 {
-    let state = mailbox.state;
-    let step = write_step(state, control);
-    settled(mailbox, step, b"")
+    settled(mailbox, write_step(mailbox.state, control), b"")
 }
 
 pub fn report_success(mailbox: Mailbox, bytes: &[u8]) -> Outcome
     ensures { result ≡ event_of mailbox (succeeds bytes.now) }
 {
-    let state = mailbox.state;
-    let step = mailbox_decide::succeed(state, bytes.len());
+    let step = mailbox_decide::succeed(mailbox.state, bytes.len());
     settled(mailbox, step, bytes)
 }
 
 pub fn report_failure(mailbox: Mailbox) -> Outcome
     ensures { result ≡ event_of mailbox fails }
 {
-    let state = mailbox.state;
-    let step = mailbox_decide::fail(state);
+    let step = mailbox_decide::fail(mailbox.state);
     settled(mailbox, step, b"")
 }
 
 pub fn change(mailbox: Mailbox, connector: u8, reason: u16) -> Outcome
     ensures { result ≡ event_of mailbox (changes connector reason) }
 {
-    let state = mailbox.state;
-    let step = mailbox_decide::change(state, connector, reason);
+    let step = mailbox_decide::change(mailbox.state, connector, reason);
     settled(mailbox, step, b"")
 }
 
@@ -47,23 +42,22 @@ pub fn change(mailbox: Mailbox, connector: u8, reason: u16) -> Outcome
 pub fn write_step(state: State, control: &[u8]) -> Step
     ensures { result ≡ write_step_of state control.now }
 {
-    let parsed = take_apart(control);
-    let Parsed::Fields(fields) = parsed else {
-        return refused(state, Answer::ControlLength);
-    };
-    mailbox_decide::write(state, fields)
+    match take_apart(control) {
+        Ok(fields) => mailbox_decide::write(state, fields),
+        Err(_) => refused(state, Refusal::ControlLength),
+    }
 }
 
 fn settled(mailbox: Mailbox, step: Step, bytes: &[u8]) -> Outcome
     ensures { result ≡ step_returns mailbox step bytes.now }
 {
     let mut message = mailbox.message;
-    let state = step.state;
-    let answer = step.answer;
-    let effect = step.effect;
-    settle(&mut message, effect, bytes);
+    settle(&mut message, step.effect, bytes);
     Outcome {
-        mailbox: Mailbox { state, message },
-        answer,
+        mailbox: Mailbox {
+            state: step.state,
+            message,
+        },
+        answer: step.answer,
     }
 }

@@ -2,22 +2,16 @@
 ghost use Rattle.std.specs.Prelude.{◌≡◌};
 ghost use Rattle.mailbox_rules.specs.Mailbox.{fresh_mailbox, mailbox_fresh_of, message_in_of, mailbox_cci_of};
 
-use mailbox_state::mailbox::{Fresh, Mailbox};
+use mailbox_state::mailbox::{Mailbox, NoMailbox};
 use mailbox_state::state::{Changes, Notifications, State};
 use mailbox_state::status::CommandStatus;
 
-// 29 for a count that no mailbox has (01, The mailbox); what is returned beside it has no connector.
-#[tactic(auto, using(basis::specs::Pick::tests), unfolding(mailbox_rules::specs::Mailbox::mailbox_fresh_of))]
-pub fn fresh(count: u8) -> Fresh
+// 29 for a count that no mailbox has (01, The mailbox).
+#[tactic(auto, unfolding(mailbox_rules::specs::Mailbox::mailbox_fresh_of))]
+pub fn fresh(count: u8) -> Result<Mailbox, NoMailbox>
     ensures { result ≡ mailbox_fresh_of count }
 {
-    let number = mailbox_decide::connectors_number(count);
-    if number != 0 {
-        let mailbox = with_connectors(0);
-        return Fresh { mailbox, number };
-    }
-    let mailbox = with_connectors(count);
-    Fresh { mailbox, number: 0 }
+    mailbox_decide::count(count).map(with_connectors)
 }
 
 // CCI 0, notifications off, none shown, nothing running.
@@ -25,16 +19,15 @@ pub fn fresh(count: u8) -> Fresh
 fn with_connectors(count: u8) -> Mailbox
     ensures { result ≡ fresh_mailbox count }
 {
-    let changes = Changes {
-        shown: 0,
-        waiting: [false; 8],
-    };
     Mailbox {
         state: State {
             connectors: count,
             notifications: Notifications::Off,
             status: CommandStatus::Nothing,
-            changes,
+            changes: Changes {
+                shown: 0,
+                waiting: [false; 8],
+            },
         },
         message: [0; 256],
     }
@@ -44,8 +37,7 @@ pub fn cci(mailbox: Mailbox) -> u32
     ensures { result ≡ mailbox_cci_of mailbox }
 {
     let state = mailbox.state;
-    let status = state.status;
-    mailbox_decide::cci(status, state.changes.shown)
+    mailbox_decide::cci(state.status, state.changes.shown)
 }
 
 pub fn message_in(mailbox: Mailbox) -> [u8; 256]

@@ -1,32 +1,31 @@
 -- The mailbox for C keeps step with the proved one: on a mailbox's words a call is the mailbox's own, and other words get 29. A refusal keeps
 -- every word and byte. What a start that is taken makes, and what any call leaves of a mailbox, is a mailbox; every state that comes of such
 -- a start is one that events lead to from a fresh one.
-use Prim.Native.Nat.{ℕ}
+use Prim.Native.Nat.{ℕ, ◌≤◌}
 use mathlib.Core.Bool.{true, false}
 use mathlib.Core.List.{List}
 use mathlib.Core.Path.{◌≡◌, refl, sym, ◌∙◌, ap, subst}
+use native.Mathlib.Omega.{arith}
 use lib.ListN.{length}
 use Rattle.basis.specs.Pick.{pick_yes, pick_no, not_yes, not_no}
 use Rattle.mailbox_state.specs.Answer.{mailbox_number_of}
-use Rattle.mailbox_state.specs.declared.mailbox.Mailbox.{Mailbox}
 use Rattle.mailbox_state.specs.declared.mailbox.Outcome.{Outcome}
 use Rattle.mailbox_state.specs.declared.state.State.{State}
 use Rattle.mailbox_rules.specs.Cci.{cci_bits_of}
 use Rattle.mailbox_rules.specs.Events as event
 use Rattle.mailbox_rules.specs.Events.{Event, event_of}
 use Rattle.mailbox_rules.specs.History.{Reached}
-use Rattle.mailbox_rules.specs.Mailbox.{mailbox, mailbox_fresh_of}
+use Rattle.mailbox_rules.specs.Mailbox.{mailbox, fresh_mailbox}
 use Rattle.mailbox_rules.specs.WellFormed.{WellFormed}
-use Rattle.mailbox_rules.proofs.Laws.{refused_keeps}
-use Rattle.mailbox_rules.proofs.Reached.{made, reached_fresh, reached_next}
+use Rattle.mailbox_rules.proofs.Laws.{refused_keeps, fresh_made, fresh_all}
+use Rattle.mailbox_rules.proofs.Reached.{reached_fresh, reached_next}
 use Rattle.mailbox_rules.proofs.Steps.{event_connectors}
 use Rattle.mailbox_rules.proofs.WellFormed.{fresh_formed, event_formed}
 use Rattle.mailbox_c.specs.Words.{state_at, mailbox_at, words_of, is_mailbox}
 use Rattle.mailbox_c.specs.Fits.{Fits}
-use Rattle.mailbox_c.specs.Calls.{MailboxCalled, mailbox_called, outcome_leaves, event_called, cci_read, harsolvek_mailbox_fresh, harsolvek_mailbox_cci}
+use Rattle.mailbox_c.specs.Calls.{MailboxCalled, mailbox_called, fresh_leaves, outcome_leaves, event_called, cci_read, harsolvek_mailbox_fresh, harsolvek_mailbox_cci}
 use Rattle.mailbox_c.specs.Handed.{HandedMailbox, starts, writes, succeeds, fails, changes}
 use Rattle.mailbox_c.proofs.Fitting.{event_fits, fresh_fits}
-use Rattle.mailbox_c.proofs.Fresh.{fresh_mailbox_lem}
 use Rattle.mailbox_c.proofs.Inverse.{laid_kept, words_say, words_mailbox, laid_words, mailbox_formed, mailbox_fits, mailbox_connectors}
 
 -- Each of the four calls that take an event is `event_called`.
@@ -88,19 +87,23 @@ module _ (count : ℕ) where
     pub is : is_mailbox w ≡ true
     pub reached : Reached count (mailbox_at w message)
 
-  begins : (harsolvek_mailbox_fresh count).number ≡ 0 → Reaches (harsolvek_mailbox_fresh count).words (harsolvek_mailbox_fresh count).message
+  made_reaches : 1 ≤ count → count ≤ 8 → Reaches (words_of (fresh_mailbox count).state) (fresh_mailbox count).message
   unfolding words_of
-  begins e =
-      let m = made count e in
-      let formed : WellFormed (mailbox_fresh_of count).mailbox.state = subst (λ (x : Mailbox). WellFormed x.state) (sym m.fresh) (fresh_formed count m.low m.high) in
-      let fits : Fits (mailbox_fresh_of count).mailbox.state = subst (λ (x : Mailbox). Fits x.state) (sym m.fresh) (fresh_fits count) in
+  made_reaches low high =
+      let formed = fresh_formed count low high in
+      let fits = fresh_fits count in
       record {
         ten = refl;
-        is = fresh_mailbox_lem count e;
+        is = words_mailbox (fresh_mailbox count).state formed fits;
         reached =
-            subst (λ (s : State). Reached count (mailbox s (mailbox_fresh_of count).mailbox.message)) (sym (words_say (mailbox_fresh_of count).mailbox.state formed fits))
-            (reached_fresh count e);
+            subst (λ (s : State). Reached count (mailbox s (fresh_mailbox count).message)) (sym (words_say (fresh_mailbox count).state formed fits))
+            (reached_fresh count (fresh_mailbox count) (fresh_made count low high));
       }
+
+  begins : (harsolvek_mailbox_fresh count).number ≡ 0 → Reaches (harsolvek_mailbox_fresh count).words (harsolvek_mailbox_fresh count).message
+  begins =
+      fresh_all count (λ r. (fresh_leaves r).number ≡ 0 → Reaches (fresh_leaves r).words (fresh_leaves r).message) (λ e. absurd (omega arith))
+      (λ low high e. made_reaches low high)
 
   goes_on : (w message : List ℕ) (e : Event) → Reaches w message → Reaches (event_called w message e).words (event_called w message e).message
   goes_on w message e r =

@@ -9,7 +9,8 @@ use Rattle.basis.specs.Pick.{pick_all}
 use Rattle.commands.specs.Control.{bit, field, fields_of, control_of}
 use Rattle.commands.specs.Table.{entry_of}
 use Rattle.commands.specs.declared.control.Control.{Control}
-use Rattle.commands.specs.declared.control.Parsed.{Parsed}
+use Rattle.commands.specs.declared.control.WrongLength.{WrongLength}
+use Rattle.std.specs.Prelude.{Result}
 use Rattle.commands.specs.declared.table.Class.{Class}
 use Rattle.commands.specs.declared.table.Class.TheVariants as class
 use Rattle.mailbox_state.specs.declared.state.State.{State}
@@ -21,7 +22,8 @@ use Rattle.mailbox_rules.specs.Mailbox.{mailbox, fresh_mailbox}
 use Rattle.mailbox_rules.specs.MessageIn.{zero_message_in}
 use Rattle.mailbox_rules.specs.Report.{success_step_of, failure_step_of}
 use Rattle.mailbox_rules.specs.WellFormed.{LengthFits}
-use Rattle.mailbox_rules.specs.Write.{starts_command, taken_step_of, judged_step_of}
+use Rattle.mailbox_rules.specs.Write.{starts_command, taken_step_of}
+use Rattle.mailbox_rules.proofs.Command.{judged_all}
 use Rattle.mailbox_rules.proofs.Noted.{change_alters}
 use Rattle.mailbox_rules.proofs.Sizes.{event_sizes, fresh_sizes}
 use Rattle.mailbox_c.specs.Notifying.{mask_of}
@@ -65,11 +67,11 @@ module _ (state : State) (h : Wide state) where
     taken_wide class.NotSupported needs = record { mask = h.mask; type = omega arith }
 
   write_wide : (b : List ℕ) → WideStep (parsed_step_of state (control_of b))
-  unfolding control_of parsed_step_of judged_step_of fields_of
+  unfolding control_of parsed_step_of fields_of
   write_wide b =
-      pick_all (λ (parsed : Parsed). WideStep (parsed_step_of state parsed)) _ _ _ (λ wrong. h)
+      pick_all (λ (parsed : Result Control WrongLength). WideStep (parsed_step_of state parsed)) _ _ _ (λ wrong. h)
       (λ right.
-      pick_all WideStep _ _ _ (λ refused. h) (λ taken. taken_wide (fields_of b) (mask_most _ (field_small b 16 16)) (type_most _ (field_small b 1 23)) (entry_of (fields_of b).code).class _))
+      judged_all WideStep state (entry_of (fields_of b).code) (fields_of b) _ (λ refusal e. h) (λ taken. taken_wide (fields_of b) (mask_most _ (field_small b 16 16)) (type_most _ (field_small b 1 23)) (entry_of (fields_of b).code).class _))
 
   event_wide : (e : Event) → WideStep (event_step_of state e)
   unfolding success_step_of failure_step_of

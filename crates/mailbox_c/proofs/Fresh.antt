@@ -1,15 +1,16 @@
 -- A count of 1 to 8 makes the words of a fresh mailbox; any other is 29, and every word and MESSAGE_IN are then zero.
 use Prim.Native.Nat.{ℕ, ◌≤◌, ◌<◌}
 use mathlib.Core.Bool.{true}
+use native.Mathlib.Omega.{arith}
 use mathlib.Core.List.{[], ◌∷◌}
 use mathlib.Core.Path.{◌≡◌, refl, sym, ◌∙◌, ap}
 use lib.ListN.{replicate, set}
-use Rattle.basis.specs.Pick.{pick, ne_differ, eq_differ}
-use Rattle.mailbox_state.specs.Connectors.{connectors_number_of}
+use Rattle.std.specs.Prelude.{Result, Ok, Err}
+use Rattle.mailbox_state.specs.Connectors.{no_mailbox_number_of, connectors_of}
+use Rattle.mailbox_state.specs.declared.mailbox.NoMailbox.{NoMailbox}
 use Rattle.mailbox_rules.specs.Mailbox.{fresh_mailbox, mailbox_fresh_of}
 use Rattle.mailbox_rules.specs.MessageIn.{zero_message_in}
-use Rattle.mailbox_rules.proofs.Laws.{fresh_made, fresh_29_zero, fresh_29_above}
-use Rattle.mailbox_rules.proofs.Reached.{made}
+use Rattle.mailbox_rules.proofs.Laws.{fresh_made, fresh_29_zero, fresh_29_above, fresh_all}
 use Rattle.mailbox_rules.proofs.WellFormed.{fresh_formed}
 use Rattle.mailbox_c.specs.Waiting.{bits_of}
 use Rattle.width.specs.Narrow.{at_most}
@@ -27,17 +28,17 @@ fresh_message : (count : ℕ) → (fresh_mailbox count).message ≡ replicate 25
 unfolding fresh_mailbox zero_message_in
 fresh_message count = refl
 
-module _ (count number : ℕ) (is : number ≡ connectors_number_of (at_most 255 count)) where
-  counted : connectors_number_of count ≡ number
-  counted = sym (is ∙ count_narrow count)
+module _ (count : ℕ) (counted : Result ℕ NoMailbox) (is : counted ≡ connectors_of (at_most 255 count)) where
+  same : connectors_of count ≡ counted
+  same = sym (is ∙ count_narrow count)
 
-  pub fresh_refuses : (number ≡ 0 → ⊥) → mailbox_called number (replicate 10 0) (replicate 256 0) ≡ harsolvek_mailbox_fresh count
-  unfolding mailbox_fresh_of pick
-  fresh_refuses not = sym (rw (counted, ne_differ number 0 not, fresh_words 0, fresh_message 0))
+  pub fresh_refuses : (none : NoMailbox) → counted ≡ Err none → mailbox_called (no_mailbox_number_of none) (replicate 10 0) (replicate 256 0) ≡ harsolvek_mailbox_fresh count
+  unfolding mailbox_fresh_of zero_message_in
+  fresh_refuses none e = sym (rw (same, e))
 
-  pub fresh_makes : number ≡ 0 → mailbox_called 0 (set (replicate 10 0) 0 count) (replicate 256 0) ≡ harsolvek_mailbox_fresh count
-  unfolding mailbox_fresh_of pick
-  fresh_makes zero = sym (rw (counted, eq_differ number 0 zero, fresh_words count, fresh_message count))
+  pub fresh_makes : (n : ℕ) → counted ≡ Ok n → mailbox_called 0 (set (replicate 10 0) 0 n) (replicate 256 0) ≡ harsolvek_mailbox_fresh count
+  unfolding mailbox_fresh_of
+  fresh_makes n e = sym (rw (same, e, fresh_words n, fresh_message n))
 
 module _ (count : ℕ) where
   pub fresh_taken : 1 ≤ count → count ≤ 8
@@ -45,13 +46,14 @@ module _ (count : ℕ) where
   fresh_taken low high = ap fresh_leaves (fresh_made count low high) ∙ rw (fresh_words count, fresh_message count)
 
   pub fresh_refused_zero : count ≡ 0 → harsolvek_mailbox_fresh count ≡ mailbox_called 29 (replicate 10 0) (replicate 256 0)
-  fresh_refused_zero e = ap fresh_leaves (fresh_29_zero count e) ∙ rw (fresh_words 0, fresh_message 0)
+  unfolding zero_message_in
+  fresh_refused_zero e = ap fresh_leaves (fresh_29_zero count e)
 
   pub fresh_refused_above : 8 < count → harsolvek_mailbox_fresh count ≡ mailbox_called 29 (replicate 10 0) (replicate 256 0)
-  fresh_refused_above h = ap fresh_leaves (fresh_29_above count h) ∙ rw (fresh_words 0, fresh_message 0)
+  unfolding zero_message_in
+  fresh_refused_above h = ap fresh_leaves (fresh_29_above count h)
 
   pub fresh_mailbox_lem : (harsolvek_mailbox_fresh count).number ≡ 0 → is_mailbox (harsolvek_mailbox_fresh count).words ≡ true
-  fresh_mailbox_lem e =
-      let m = made count e in
-      ap (λ x. is_mailbox (words_of x.state)) m.fresh
-      ∙ words_mailbox (fresh_mailbox count).state (fresh_formed count m.low m.high) (fresh_fits count)
+  fresh_mailbox_lem =
+      fresh_all count (λ r. (fresh_leaves r).number ≡ 0 → is_mailbox (fresh_leaves r).words ≡ true) (λ e. absurd (omega arith))
+      (λ low high e. words_mailbox (fresh_mailbox count).state (fresh_formed count low high) (fresh_fits count))

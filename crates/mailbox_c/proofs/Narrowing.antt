@@ -7,8 +7,8 @@ use native.Mathlib.Omega.{arith}
 use borrow.Author.Tests.{ltb-true}
 use lib.Dec.{ltb}
 use Rattle.basis.specs.Pick.{pick_all}
-use Rattle.mailbox_state.specs.Connectors.{connectors_number_of}
-use Rattle.mailbox_state.proofs.Numbers.{many_29}
+use Rattle.mailbox_state.specs.Connectors.{connectors_of}
+use Rattle.mailbox_state.proofs.Numbers.{many_refused}
 use Rattle.mailbox_state.specs.declared.state.State.{State}
 use Rattle.mailbox_rules.specs.Change.{change_step_of}
 use Rattle.mailbox_rules.proofs.Noted.{change_9_above}
@@ -16,11 +16,11 @@ use Rattle.width.specs.Narrow.{at_most}
 use Rattle.mailbox_c.specs.Words.{state_at, is_mailbox}
 use Rattle.mailbox_c.proofs.Inverse.{mailbox_formed}
 
-pub count_narrow : (count : ℕ) → connectors_number_of (at_most 255 count) ≡ connectors_number_of count
+pub count_narrow : (count : ℕ) → connectors_of (at_most 255 count) ≡ connectors_of count
 unfolding at_most
 count_narrow count =
-    pick_all (λ n. connectors_number_of n ≡ connectors_number_of count) (ltb 255 count) 255 count
-    (λ t. let many = ltb-true 255 count t in many_29 255 (omega arith) ∙ sym (many_29 count (omega arith)))
+    pick_all (λ n. connectors_of n ≡ connectors_of count) (ltb 255 count) 255 count
+    (λ t. let many = ltb-true 255 count t in many_refused 255 (omega arith) ∙ sym (many_refused count (omega arith)))
     (λ _. refl)
 
 module _ (state : State) (few : state.connectors ≤ 8) (connector reason : ℕ) where

@@ -1,13 +1,16 @@
 -- What the mailbox's calls for C answer and leave: what the mailbox's own do, on the state that the words say. Words that are no mailbox's
 -- are answered 29.
-use Rattle.std.specs.Prelude.{ℕ, not, List}
+use Rattle.std.specs.Prelude.{ℕ, not, List, replicate, Result, Ok, Err}
 use Rattle.basis.specs.Pick.{pick}
 use Rattle.mailbox_state.specs.Answer.{mailbox_number_of}
-use Rattle.mailbox_state.specs.declared.mailbox.Fresh.{Fresh}
+use Rattle.mailbox_state.specs.Connectors.{no_mailbox_number_of}
+use Rattle.mailbox_state.specs.declared.mailbox.Mailbox.{Mailbox}
+use Rattle.mailbox_state.specs.declared.mailbox.NoMailbox.{NoMailbox}
 use Rattle.mailbox_state.specs.declared.mailbox.Outcome.{Outcome}
 use Rattle.mailbox_state.specs.declared.step.Step.{Step}
 use Rattle.mailbox_rules.specs.Cci.{cci_bits_of}
 use Rattle.mailbox_rules.specs.Mailbox.{mailbox_fresh_of}
+use Rattle.mailbox_rules.specs.MessageIn.{zero_message_in}
 use Rattle.mailbox_rules.specs.Events.{Event, writes, succeeds, fails, changes, step_returns, event_of}
 use Rattle.mailbox_c.specs.Words.{state_at, mailbox_at, words_of, laid, is_mailbox}
 
@@ -24,10 +27,11 @@ pub record MailboxCalled : Type 0 where
 abbrev pub mailbox_called : ℕ → List ℕ → List ℕ → MailboxCalled
 mailbox_called number words message = record { number = number; words = words; message = message }
 
-abbrev pub fresh_leaves : Fresh → MailboxCalled
-fresh_leaves f = mailbox_called f.number (words_of f.mailbox.state) f.mailbox.message
-
 -- Beside a 29 every word and MESSAGE_IN are zero.
+abbrev pub fresh_leaves : Result Mailbox NoMailbox → MailboxCalled
+fresh_leaves (Ok m) = mailbox_called 0 (words_of m.state) m.message
+fresh_leaves (Err none) = mailbox_called (no_mailbox_number_of none) (replicate 10 0) zero_message_in
+
 abbrev pub harsolvek_mailbox_fresh : ℕ → MailboxCalled
 harsolvek_mailbox_fresh count = fresh_leaves (mailbox_fresh_of count)
 

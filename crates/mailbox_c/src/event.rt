@@ -9,6 +9,7 @@ use crate::test::is_mailbox;
 use crate::words::{state_at, store};
 use mailbox_state::state::State;
 use mailbox_state::step::Step;
+use numbers::Numbered;
 
 // The one end of every event. A refused step stores what stood there.
 pub(crate) fn event<F: FnOnce(State) -> Step>(
@@ -27,5 +28,5 @@ pub(crate) fn event<F: FnOnce(State) -> Step>(
     let step = decide(state_at(words));
     store(words, step.state);
     mailbox::settle(message_in, step.effect, bytes);
-    u64::from(mailbox_decide::answer_number(step.answer))
+    u64::from(step.answer.number())
 }

@@ -3,6 +3,7 @@ ghost use Rattle.std.specs.Prelude.{◌≡◌};
 ghost use Rattle.mailbox_c.specs.Calls.{harsolvek_mailbox_layout1, mailbox_called, harsolvek_mailbox_fresh};
 
 use crate::place;
+use numbers::Numbered;
 use width::to_byte;
 
 const WORDS: u64 = 10;
@@ -25,10 +26,11 @@ pub extern "C" fn harsolvek_mailbox_fresh_raw(
 {
     *words = [0; 10];
     *message_in = [0; 256];
-    let number = mailbox_decide::connectors_number(to_byte(connectors));
-    if number != 0 {
-        return u64::from(number);
+    match mailbox_decide::count(to_byte(connectors)) {
+        Ok(count) => {
+            words[place::CONNECTORS] = u32::from(count);
+            0
+        }
+        Err(refusal) => u64::from(refusal.number()),
     }
-    words[place::CONNECTORS] = connectors;
-    0
 }

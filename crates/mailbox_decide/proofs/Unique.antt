@@ -1,24 +1,18 @@
 -- Each public contract leaves one answer and one state of the lent memory. Written from the contracts by tools/contracts.
-use Rattle.std.specs.Prelude.{ℕ, ◌≡◌}
+use Rattle.std.specs.Prelude.{ℕ, ◌≡◌, Result}
 use Rattle.basis.specs.Only.{only}
 use Rattle.commands.specs.declared.control.Control.{Control}
 use Rattle.mailbox_rules.specs.Cci.{cci_bits_of}
 use Rattle.mailbox_rules.specs.Change.{change_step_of}
 use Rattle.mailbox_rules.specs.Report.{success_step_of, failure_step_of}
 use Rattle.mailbox_rules.specs.Write.{control_step_of}
-use Rattle.mailbox_state.specs.Answer.{mailbox_number_of}
-use Rattle.mailbox_state.specs.Connectors.{connectors_number_of}
+use Rattle.mailbox_state.specs.Connectors.{connectors_of}
 use Rattle.mailbox_state.specs.Step.{refused}
-use Rattle.mailbox_state.specs.declared.answer.Answer.{Answer}
+use Rattle.mailbox_state.specs.declared.answer.Refusal.{Refusal}
+use Rattle.mailbox_state.specs.declared.mailbox.NoMailbox.{NoMailbox}
 use Rattle.mailbox_state.specs.declared.state.State.{State}
 use Rattle.mailbox_state.specs.declared.status.CommandStatus.{CommandStatus}
 use Rattle.mailbox_state.specs.declared.step.Step.{Step}
-
-pub one_answer_number : (answer : Answer) (r r' : ℕ)
-    → r ≡ mailbox_number_of answer
-    → r' ≡ mailbox_number_of answer
-    → r ≡ r'
-one_answer_number answer r r' is is' = only is is'
 
 pub one_cci : (status : CommandStatus) (shown r r' : ℕ)
     → r ≡ cci_bits_of status shown
@@ -32,11 +26,11 @@ pub one_write : (state : State) (control : Control) (r r' : Step)
     → r ≡ r'
 one_write state control r r' is is' = only is is'
 
-pub one_connectors_number : (count r r' : ℕ)
-    → r ≡ connectors_number_of count
-    → r' ≡ connectors_number_of count
+pub one_count : (connectors : ℕ) (r r' : Result ℕ NoMailbox)
+    → r ≡ connectors_of connectors
+    → r' ≡ connectors_of connectors
     → r ≡ r'
-one_connectors_number count r r' is is' = only is is'
+one_count connectors r r' is is' = only is is'
 
 pub one_change : (state : State) (connector reason : ℕ) (r r' : Step)
     → r ≡ change_step_of state connector reason
@@ -56,8 +50,8 @@ pub one_fail : (state : State) (r r' : Step)
     → r ≡ r'
 one_fail state r r' is is' = only is is'
 
-pub one_refused : (state : State) (answer : Answer) (r r' : Step)
-    → r ≡ refused state answer
-    → r' ≡ refused state answer
+pub one_refused : (state : State) (refusal : Refusal) (r r' : Step)
+    → r ≡ refused state refusal
+    → r' ≡ refused state refusal
     → r ≡ r'
-one_refused state answer r r' is is' = only is is'
+one_refused state refusal r r' is is' = only is is'

@@ -35,7 +35,9 @@ pub fn cci(status: CommandStatus, shown: u8) -> u32
         CommandStatus::Nothing => connector,
         CommandStatus::ResetDone => RESET_DONE + connector,
         CommandStatus::Busy(_) => BUSY,
-        CommandStatus::Completed { length } => COMPLETE + (length as u32) * DATA_LENGTH + connector,
+        CommandStatus::Completed { length } => COMPLETE
+            + u32::from(length) * DATA_LENGTH
+            + connector,
         CommandStatus::Failed => COMPLETE + ERROR + connector,
         CommandStatus::NotSupported => COMPLETE + NOT_SUPPORTED + connector,
         CommandStatus::Cancelled => COMPLETE + CANCEL_DONE + connector,
@@ -46,5 +48,5 @@ pub fn cci(status: CommandStatus, shown: u8) -> u32
 fn shown_bits(shown: u8) -> u32
     ensures { result ≡ shown_bits shown }
 {
-    (shown % CONNECTORS) as u32 * CONNECTOR
+    u32::from(shown % CONNECTORS) * CONNECTOR
 }

@@ -4,24 +4,20 @@ ghost use Rattle.mailbox_rules.specs.Changes.{lowest_of, marked_of, noted_of, ne
 
 use mailbox_state::state::Changes;
 
-const PLACES: usize = 8;
-
 // A change that is recorded is shown where none is, and else waits.
 #[tactic(auto, using(basis::specs::Pick::tests), unfolding(mailbox_rules::specs::Changes::noted_of))]
 pub(crate) fn noted(changes: Changes, connector: u8) -> Changes
     ensures { result ≡ noted_of changes connector }
 {
-    let shown = changes.shown;
-    let waiting = changes.waiting;
-    if shown == 0 {
+    if changes.shown == 0 {
         return Changes {
             shown: connector,
-            waiting,
+            ..changes
         };
     }
     Changes {
-        shown,
-        waiting: marked(waiting, connector, true),
+        waiting: marked(changes.waiting, connector, true),
+        ..changes
     }
 }
 
@@ -41,27 +37,19 @@ pub(crate) fn next(changes: Changes) -> Changes
 fn lowest(waiting: [bool; 8]) -> u8
     ensures { result ≡ lowest_of waiting }
 {
-    let mut place: usize = 0;
-    while place < PLACES {
-        if waiting[place] {
-            return place as u8 + 1;
-        }
-        place += 1;
+    match waiting.iter().position(|waits| *waits) {
+        Some(place) => place as u8 + 1,
+        None => 0,
     }
-    0
 }
 
+#[tactic(auto, using(basis::specs::Pick::tests), unfolding(mailbox_rules::specs::Changes::marked_of))]
 fn marked(waiting: [bool; 8], connector: u8, waits: bool) -> [bool; 8]
     ensures { result ≡ marked_of waiting connector waits }
 {
     let mut after = waiting;
-    let count = connector as usize;
-    if count == 0 {
-        return after;
+    if (1..=8).contains(&connector) {
+        after[usize::from(connector) - 1] = waits;
     }
-    if PLACES < count {
-        return after;
-    }
-    after[count - 1] = waits;
     after
 }

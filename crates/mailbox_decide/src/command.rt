@@ -1,19 +1,16 @@
 // One write of CONTROL (01, The mailbox).
-ghost use Rattle.std.specs.Prelude.{◌≡◌};
+ghost use Rattle.std.specs.Prelude.{◌≡◌, Ok};
 ghost use Rattle.basis.specs.Pick.{pick};
 ghost use Rattle.mailbox_rules.specs.Changes.{next_shown_of};
 ghost use Rattle.mailbox_rules.specs.Write.{with_status, resets, acknowledges, enables, command_of, starts_command, taken_step_of, control_step_of};
 ghost use Rattle.mailbox_state.specs.Step.{mailbox_step};
-ghost use Rattle.mailbox_state.specs.declared.answer.Answer.TheVariants.{Taken};
 
-use crate::answer::answer_number;
 use crate::changes::next;
 use crate::notice::there;
 use crate::refusal::{refusal, situation};
 use crate::step::refused;
 use commands::control::Control;
-use commands::table::{Class, look};
-use mailbox_state::answer::Answer;
+use commands::table::{Class, Entry, look};
 use mailbox_state::state::{Changes, Notifications, State};
 use mailbox_state::status::{Command, CommandStatus};
 use mailbox_state::step::{MessageEffect, Step};
@@ -21,24 +18,22 @@ use mailbox_state::step::{MessageEffect, Step};
 // 002, Table A-1.
 const CONNECTOR_RESET: u8 = 0x03;
 
-#[tactic(auto, using(basis::specs::Pick::tests), unfolding(mailbox_rules::specs::Write::judged_step_of))]
+#[tactic(auto, unfolding(mailbox_rules::specs::Write::judged_step_of))]
 pub fn write(state: State, control: Control) -> Step
     ensures { result ≡ control_step_of state control }
 {
     let entry = look(control.code);
-    let class = entry.class;
-    let answer = refusal(class, situation(state, control));
-    if answer_number(answer) != 0 {
-        return refused(state, answer);
+    match refusal(entry.class, situation(state, control)) {
+        Ok(()) => taken(state, entry, control),
+        Err(refusal) => refused(state, refusal),
     }
-    taken(state, class, entry.connector, control)
 }
 
 #[tactic(auto, unfolding(mailbox_rules::specs::Write::taken_step_of))]
-fn taken(state: State, class: Class, needs: bool, control: Control) -> Step
-    ensures { result ≡ taken_step_of state class needs control }
+fn taken(state: State, entry: Entry, control: Control) -> Step
+    ensures { result ≡ taken_step_of state entry.class entry.connector control }
 {
-    match class {
+    match entry.class {
         Class::Reset => reset(state),
         Class::Cancel => with_status(
             state,
@@ -47,7 +42,7 @@ fn taken(state: State, class: Class, needs: bool, control: Control) -> Step
         ),
         Class::Acknowledge => acknowledge(state, control.change),
         Class::Enable => enable(state, control.mask),
-        Class::Run => start(state, needs, control),
+        Class::Run => start(state, entry.connector, control),
         Class::NotSupported => with_status(
             state,
             CommandStatus::NotSupported,
@@ -58,18 +53,11 @@ fn taken(state: State, class: Class, needs: bool, control: Control) -> Step
 
 // A taken event that changes nothing but the status.
 pub(crate) fn with_status(state: State, status: CommandStatus, effect: MessageEffect) -> Step
-    ensures { result ≡ mailbox_step (with_status state status) Taken effect }
+    ensures { result ≡ mailbox_step (with_status state status) (Ok tt) effect }
 {
-    let notifications = state.notifications;
-    let changes = state.changes;
     Step {
-        state: State {
-            connectors: state.connectors,
-            notifications,
-            status,
-            changes,
-        },
-        answer: Answer::Taken,
+        state: State { status, ..state },
+        answer: Ok(()),
         effect,
     }
 }
@@ -77,18 +65,17 @@ pub(crate) fn with_status(state: State, status: CommandStatus, effect: MessageEf
 fn reset(state: State) -> Step
     ensures { result ≡ resets state }
 {
-    let changes = Changes {
-        shown: 0,
-        waiting: [false; 8],
-    };
     Step {
         state: State {
-            connectors: state.connectors,
             notifications: Notifications::Off,
             status: CommandStatus::ResetDone,
-            changes,
+            changes: Changes {
+                shown: 0,
+                waiting: [false; 8],
+            },
+            ..state
         },
-        answer: Answer::Taken,
+        answer: Ok(()),
         effect: MessageEffect::ZeroedAtReset,
     }
 }
@@ -96,16 +83,13 @@ fn reset(state: State) -> Step
 fn acknowledge(state: State, change: bool) -> Step
     ensures { result ≡ acknowledges state change }
 {
-    let notifications = state.notifications;
-    let changes = state.changes;
     Step {
         state: State {
-            connectors: state.connectors,
-            notifications,
             status: CommandStatus::Acknowledged,
-            changes: after(changes, change),
+            changes: after(state.changes, change),
+            ..state
         },
-        answer: Answer::Taken,
+        answer: Ok(()),
         effect: MessageEffect::Kept,
     }
 }
@@ -115,24 +99,19 @@ fn acknowledge(state: State, change: bool) -> Step
 fn after(changes: Changes, change: bool) -> Changes
     ensures { result ≡ pick change (next_shown_of changes) changes }
 {
-    if change {
-        return next(changes);
-    }
-    changes
+    if change { next(changes) } else { changes }
 }
 
 fn enable(state: State, mask: u16) -> Step
     ensures { result ≡ enables state mask }
 {
-    let changes = state.changes;
     Step {
         state: State {
-            connectors: state.connectors,
             notifications: Notifications::On { mask },
             status: CommandStatus::Completed { length: 0 },
-            changes,
+            ..state
         },
-        answer: Answer::Taken,
+        answer: Ok(()),
         effect: MessageEffect::ZeroedAtCompletion,
     }
 }
@@ -166,11 +145,9 @@ fn command(needs: bool, control: Control) -> Command
     }
 }
 
+#[tactic(auto, using(basis::specs::Pick::tests))]
 fn where_needed(needed: bool, field: u8) -> u8
     ensures { result ≡ pick needed field 0 }
 {
-    if needed {
-        return field;
-    }
-    0
+    if needed { field } else { 0 }
 }

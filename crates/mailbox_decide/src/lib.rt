@@ -1,7 +1,6 @@
 // What the mailbox decides on a write, on a report of the port and on a change, and what CCI then says. Nothing here touches memory (01, The mailbox).
 #![tactic(auto)]
 
-mod answer;
 mod bits;
 mod changes;
 mod command;
@@ -12,10 +11,9 @@ mod report;
 mod status;
 mod step;
 
-pub use answer::answer_number;
 pub use bits::cci;
 pub use command::write;
-pub use connectors::connectors_number;
+pub use connectors::count;
 pub use notice::change;
 pub use report::{fail, succeed};
 pub use step::refused;

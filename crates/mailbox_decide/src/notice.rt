@@ -5,7 +5,7 @@ ghost use Rattle.mailbox_rules.specs.Write.{connector_there};
 
 use crate::changes::noted;
 use crate::step::refused;
-use mailbox_state::answer::Answer;
+use mailbox_state::answer::Refusal;
 use mailbox_state::state::{Notifications, State};
 use mailbox_state::step::{MessageEffect, Step};
 
@@ -14,7 +14,7 @@ pub fn change(state: State, connector: u8, reason: u16) -> Step
     ensures { result ≡ change_step_of state connector reason }
 {
     if !there(connector, state.connectors) {
-        return refused(state, Answer::NoSuchConnector);
+        return refused(state, Refusal::NoSuchConnector);
     }
     present(state, connector, reason)
 }
@@ -24,11 +24,10 @@ pub fn change(state: State, connector: u8, reason: u16) -> Step
 fn present(state: State, connector: u8, reason: u16) -> Step
     ensures { result ≡ present_step_of state connector reason }
 {
-    let notifications = state.notifications;
-    if !heard(notifications, reason) {
+    if !heard(state.notifications, reason) {
         return Step {
             state,
-            answer: Answer::Taken,
+            answer: Ok(()),
             effect: MessageEffect::Kept,
         };
     }
@@ -46,6 +45,7 @@ fn heard(notifications: Notifications, reason: u16) -> bool
 }
 
 // A bit in common outside bit 0.
+#[tactic(auto, unfolding(mailbox_rules::specs::Change::meets_of))]
 fn meets(reason: u16, mask: u16) -> bool
     ensures { result ≡ meets_of reason mask }
 {
@@ -55,24 +55,20 @@ fn meets(reason: u16, mask: u16) -> bool
 fn note(state: State, connector: u8) -> Step
     ensures { result ≡ records_change state connector }
 {
-    let notifications = state.notifications;
-    let status = state.status;
-    let changes = state.changes;
     Step {
         state: State {
-            connectors: state.connectors,
-            notifications,
-            status,
-            changes: noted(changes, connector),
+            changes: noted(state.changes, connector),
+            ..state
         },
-        answer: Answer::Taken,
+        answer: Ok(()),
         effect: MessageEffect::Kept,
     }
 }
 
 // A connector number from 1 to the count.
+#[tactic(auto, unfolding(mailbox_rules::specs::Write::connector_there))]
 pub(crate) fn there(connector: u8, count: u8) -> bool
     ensures { result ≡ connector_there connector count }
 {
-    (1 <= connector) & (connector <= count)
+    (1..=count).contains(&connector)
 }

@@ -10,16 +10,7 @@ use mailbox_state::status::CommandStatus;
 pub(crate) fn runs(status: CommandStatus) -> bool
     ensures { result ≡ runs_of status }
 {
-    match status {
-        CommandStatus::Nothing => false,
-        CommandStatus::ResetDone => false,
-        CommandStatus::Busy(_) => true,
-        CommandStatus::Completed { length: _ } => false,
-        CommandStatus::Failed => false,
-        CommandStatus::NotSupported => false,
-        CommandStatus::Cancelled => false,
-        CommandStatus::Acknowledged => false,
-    }
+    matches!(status, CommandStatus::Busy(_))
 }
 
 // Every completion and cancel waits for ACK_CC_CI with bit 17 set.
@@ -27,24 +18,18 @@ pub(crate) fn runs(status: CommandStatus) -> bool
 pub(crate) fn due(status: CommandStatus) -> bool
     ensures { result ≡ due_of status }
 {
-    match status {
-        CommandStatus::Nothing => false,
-        CommandStatus::ResetDone => false,
-        CommandStatus::Busy(_) => false,
-        CommandStatus::Completed { length: _ } => true,
-        CommandStatus::Failed => true,
-        CommandStatus::NotSupported => true,
-        CommandStatus::Cancelled => true,
-        CommandStatus::Acknowledged => false,
-    }
+    matches!(
+        status,
+        CommandStatus::Completed { .. }
+            | CommandStatus::Failed
+            | CommandStatus::NotSupported
+            | CommandStatus::Cancelled
+    )
 }
 
 #[tactic(auto, unfolding(mailbox_state::specs::State::off_of))]
 pub(crate) fn off(notifications: Notifications) -> bool
     ensures { result ≡ off_of notifications }
 {
-    match notifications {
-        Notifications::Off => true,
-        Notifications::On { mask: _ } => false,
-    }
+    matches!(notifications, Notifications::Off)
 }

@@ -2,16 +2,16 @@
 ghost use Rattle.std.specs.Prelude.{◌≡◌};
 ghost use Rattle.mailbox_state.specs.Step.{refused};
 
-use mailbox_state::answer::Answer;
+use mailbox_state::answer::Refusal;
 use mailbox_state::state::State;
 use mailbox_state::step::{MessageEffect, Step};
 
-pub fn refused(state: State, answer: Answer) -> Step
-    ensures { result ≡ refused state answer }
+pub fn refused(state: State, refusal: Refusal) -> Step
+    ensures { result ≡ refused state refusal }
 {
     Step {
         state,
-        answer,
+        answer: Err(refusal),
         effect: MessageEffect::Kept,
     }
 }

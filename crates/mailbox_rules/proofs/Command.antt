@@ -1,20 +1,20 @@
 -- What a write owes, whatever it is (01, The mailbox).
 use mathlib.Core.Bool.{Bool, true}
 use mathlib.Core.Logic.{◌⊎◌, inl, inr}
-use mathlib.Core.Path.{◌≡◌, refl, ap}
-use native.Mathlib.Omega.{arith}
-use Rattle.basis.specs.Pick.{pick, pick_all, differ_true, differ_false}
+use mathlib.Core.Path.{◌≡◌, refl, sym, ◌∙◌, ap, subst}
+use Rattle.std.specs.Prelude.{Ok, Err}
+use Rattle.basis.specs.Pick.{pick, pick_all}
 use Rattle.commands.specs.Table.{entry_of}
 use Rattle.commands.proofs.Rows.{Named, named}
 use Rattle.commands.specs.declared.table.Class.{Class}
 use Rattle.commands.specs.declared.table.Class.TheVariants as class
+use Rattle.commands.specs.declared.table.Entry.{Entry}
 use Rattle.commands.specs.declared.control.Control.{Control}
-use Rattle.mailbox_state.specs.Answer.{mailbox_number_of}
+use Rattle.mailbox_state.specs.Answer.{Answer}
+use Rattle.mailbox_state.specs.declared.answer.Refusal.{Refusal}
 use Rattle.mailbox_state.specs.Status.{runs_of}
 use Rattle.mailbox_state.specs.State.{no_changes}
 use Rattle.mailbox_state.specs.Step.{refused}
-use Rattle.mailbox_state.specs.declared.answer.Answer.{Answer}
-use Rattle.mailbox_state.specs.declared.answer.Answer.TheVariants as answer
 use Rattle.mailbox_state.specs.declared.status.CommandStatus.{CommandStatus}
 use Rattle.mailbox_state.specs.declared.status.CommandStatus.TheVariants.{Nothing, ResetDone, Busy, Completed, Failed, NotSupported, Cancelled, Acknowledged}
 use Rattle.mailbox_state.specs.declared.state.Changes.{Changes}
@@ -26,24 +26,18 @@ use Rattle.mailbox_rules.specs.Changes.{next_shown_of}
 use Rattle.mailbox_rules.specs.Refusal.{situation_of, refusal_of}
 use Rattle.mailbox_rules.specs.Write.{starts_command, taken_step_of, judged_step_of, control_step_of}
 
--- 0 is Taken alone.
-pub zero_taken : (a : Answer) → mailbox_number_of a ≡ 0 → a ≡ answer.Taken
-zero_taken answer.Taken e = refl
-zero_taken answer.ControlLength e = absurd (omega arith)
-zero_taken answer.NotificationsOff e = absurd (omega arith)
-zero_taken answer.CommandRuns e = absurd (omega arith)
-zero_taken answer.AcknowledgementDue e = absurd (omega arith)
-zero_taken answer.NothingToClear e = absurd (omega arith)
-zero_taken answer.NothingToCancel e = absurd (omega arith)
-zero_taken answer.NothingRuns e = absurd (omega arith)
-zero_taken answer.DataTooLong e = absurd (omega arith)
-zero_taken answer.NoSuchConnector e = absurd (omega arith)
+-- What holds of a refused write, and of a taken one, holds of a judged one.
+pub judged_all : (P : Step → Type 0) (state : State) (entry : Entry) (control : Control) (answer : Answer) → ((refusal : Refusal) → answer ≡ Err refusal → P (refused state refusal))
+    → (answer ≡ Ok tt → P (taken_step_of state entry.class entry.connector control)) → P (judged_step_of state entry control answer)
+unfolding judged_step_of
+judged_all P state entry control (Ok taken) refuses takes = takes refl
+judged_all P state entry control (Err refusal) refuses takes = refuses refusal refl
 
 -- The shown connector and those that wait change by PPM_RESET, or by an accepted ACK with bit 16, and else stay.
 pub data ShownBy (control : Control) (a : Answer) (before after : Changes) : Type 0 where
   stays : after ≡ before → ShownBy control a before after
   reset : control.code ≡ 0x01 → after ≡ no_changes → ShownBy control a before after
-  acknowledged : control.code ≡ 0x04 → control.change ≡ true → a ≡ answer.Taken → after ≡ next_shown_of before → ShownBy control a before after
+  acknowledged : control.code ≡ 0x04 → control.change ≡ true → a ≡ Ok tt → after ≡ next_shown_of before → ShownBy control a before after
 
 -- The status after a write that is taken, by its class: a command completes or is cancelled, and then an acknowledgement is due, or it runs.
 abbrev pub StatusOf : Class → CommandStatus → Type 0
@@ -66,7 +60,7 @@ EffectOf Cancelled e = e ≡ effect.ZeroedAtCancel
 EffectOf Acknowledged e = e ≡ effect.Kept
 
 pub record Takes (state : State) (class : Class) (control : Control) (step : Step) : Type 0 where
-  pub answer : step.answer ≡ answer.Taken
+  pub answer : step.answer ≡ Ok tt
   pub connectors : step.state.connectors ≡ state.connectors
   pub status : StatusOf class step.state.status
   pub effect : EffectOf step.state.status step.effect
@@ -80,8 +74,8 @@ module _ (state : State) (control : Control) where
       (λ y. record { answer = refl; connectors = refl; status = inr refl; effect = refl; shown = stays refl })
       (λ n. record { answer = refl; connectors = refl; status = inl refl; effect = refl; shown = stays refl })
 
-  acked : control.code ≡ 0x04 → ShownBy control answer.Taken state.changes (pick control.change (next_shown_of state.changes) state.changes)
-  acked e = pick_all (ShownBy control answer.Taken state.changes) _ _ _ (λ y. acknowledged e y refl refl) (λ n. stays refl)
+  acked : control.code ≡ 0x04 → ShownBy control (Ok tt) state.changes (pick control.change (next_shown_of state.changes) state.changes)
+  acked e = pick_all (ShownBy control (Ok tt) state.changes) _ _ _ (λ y. acknowledged e y refl refl) (λ n. stays refl)
 
   pub taken_takes : (class : Class) (needs : Bool) → Named control.code class → Takes state class control (taken_step_of state class needs control)
   unfolding taken_step_of
@@ -99,22 +93,25 @@ module _ (state : State) (control : Control) where
   judged = refusal_of of_class (situation_of state control)
 
   -- A write that is taken does what its class says.
-  pub write_takes : judged ≡ answer.Taken → Takes state of_class control (control_step_of state control)
+  pub write_takes : judged ≡ Ok tt → Takes state of_class control (control_step_of state control)
   unfolding judged_step_of
   write_takes e =
-      pick_all (Takes state of_class control) _ _ _
-      (λ y. absurd (differ_true (mailbox_number_of judged) 0 y (ap mailbox_number_of e)))
-      (λ n. taken_takes of_class (entry_of control.code).connector (named control.code))
+      subst (λ (a : Answer). Takes state of_class control (judged_step_of state (entry_of control.code) control a)) (sym e)
+      (taken_takes of_class (entry_of control.code).connector (named control.code))
 
   -- A write that is refused keeps everything.
-  pub write_refused : (judged ≡ answer.Taken → ⊥) → control_step_of state control ≡ refused state judged
+  pub write_refused : (refusal : Refusal) → judged ≡ Err refusal → control_step_of state control ≡ refused state refusal
   unfolding judged_step_of
-  write_refused h =
-      pick_all (λ (s : Step). s ≡ refused state judged) _ _ _ (λ y. refl) (λ n. absurd (h (zero_taken judged (differ_false (mailbox_number_of judged) 0 n))))
+  write_refused refusal e = ap (judged_step_of state (entry_of control.code) control) e
+
+  -- A write is answered what it is judged.
+  pub write_answer : (control_step_of state control).answer ≡ judged
+  write_answer =
+      judged_all (λ (s : Step). s.answer ≡ judged) state (entry_of control.code) control judged (λ refusal e. sym e)
+      (λ e. (taken_takes of_class (entry_of control.code).connector (named control.code)).answer ∙ sym e)
 
   pub write_shown : ShownBy control (control_step_of state control).answer state.changes (control_step_of state control).state.changes
-  unfolding judged_step_of
   write_shown =
-      pick_all (λ (s : Step). ShownBy control s.answer state.changes s.state.changes) _ _ _
-      (λ y. stays refl)
-      (λ n. (taken_takes of_class (entry_of control.code).connector (named control.code)).shown)
+      judged_all (λ (s : Step). ShownBy control s.answer state.changes s.state.changes) state (entry_of control.code) control judged
+      (λ refusal e. stays refl)
+      (λ e. (taken_takes of_class (entry_of control.code).connector (named control.code)).shown)

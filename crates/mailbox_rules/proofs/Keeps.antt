@@ -2,37 +2,37 @@
 use Prim.Native.Nat.{ℕ}
 use lib.ListN.{length}
 use mathlib.Core.Path.{◌≡◌, refl, ap}
+use Rattle.std.specs.Prelude.{Result, Ok, Err}
 use Rattle.basis.specs.Pick.{pick_all}
 use Rattle.commands.specs.Table.{entry_of}
 use Rattle.commands.proofs.Rows.{named}
 use Rattle.commands.specs.Control.{control_of}
 use Rattle.commands.specs.declared.control.Control.{Control}
-use Rattle.commands.specs.declared.control.Parsed.{Parsed}
-use Rattle.commands.specs.declared.control.Parsed.TheVariants.{Fields, WrongLength}
+use Rattle.commands.specs.declared.control.WrongLength.{WrongLength}
 use Rattle.mailbox_state.specs.Answer.{mailbox_number_of}
-use Rattle.mailbox_state.specs.Step.{refused}
+use Rattle.mailbox_state.specs.Step.{mailbox_step}
+use Rattle.mailbox_state.specs.declared.step.MessageEffect.TheVariants.{Kept}
 use Rattle.mailbox_state.specs.declared.state.State.{State}
 use Rattle.mailbox_state.specs.declared.step.Step.{Step}
 use Rattle.mailbox_rules.specs.Change.{present_step_of, change_step_of}
 use Rattle.mailbox_rules.specs.Events.{Event, writes, succeeds, fails, changes, parsed_step_of, event_step_of}
 use Rattle.mailbox_rules.specs.Report.{success_step_of, failure_step_of}
-use Rattle.mailbox_rules.specs.Write.{judged_step_of, control_step_of}
-use Rattle.mailbox_rules.proofs.Command.{taken_takes}
+use Rattle.mailbox_rules.specs.Write.{control_step_of}
+use Rattle.mailbox_rules.proofs.Command.{judged_all, taken_takes}
 
 abbrev pub Keeps : State → Step → Type 0
-Keeps state step = (mailbox_number_of step.answer ≡ 0 → ⊥) → step ≡ refused state step.answer
+Keeps state step = (mailbox_number_of step.answer ≡ 0 → ⊥) → step ≡ mailbox_step state step.answer Kept
 
 module _ (state : State) where
   pub write_keeps : (control : Control) → Keeps state (control_step_of state control)
-  unfolding judged_step_of
   write_keeps control =
-      pick_all (Keeps state) _ _ _ (λ y h. refl)
-      (λ n h. absurd (h (ap mailbox_number_of (taken_takes state control (entry_of control.code).class (entry_of control.code).connector (named control.code)).answer)))
+      judged_all (Keeps state) state (entry_of control.code) control _ (λ refusal e h. refl)
+      (λ e h. absurd (h (ap mailbox_number_of (taken_takes state control (entry_of control.code).class (entry_of control.code).connector (named control.code)).answer)))
 
-  parsed_keeps : (parsed : Parsed) → Keeps state (parsed_step_of state parsed)
+  parsed_keeps : (parsed : Result Control WrongLength) → Keeps state (parsed_step_of state parsed)
   unfolding parsed_step_of
-  parsed_keeps (Fields control) = write_keeps control
-  parsed_keeps WrongLength = λ h. refl
+  parsed_keeps (Ok control) = write_keeps control
+  parsed_keeps (Err wrong) = λ h. refl
 
   success_keeps : (n : ℕ) → Keeps state (success_step_of state n)
   unfolding success_step_of

@@ -4,16 +4,18 @@ use mathlib.Core.Bool.{true, false}
 use mathlib.Core.List.{List, []}
 use mathlib.Core.Path.{◌≡◌, refl, sym, ◌∙◌, ap}
 use native.Mathlib.Omega.{arith}
+use borrow.Author.Tests.{ltb-false}
 use lib.ListN.{length, replicate}
-use Rattle.basis.specs.Pick.{pick, pick_all, differ}
+use Rattle.std.specs.Prelude.{Result, Ok, Err, IfOk, ltb}
+use Rattle.basis.specs.Pick.{pick_all}
 use Rattle.commands.specs.Control.{fields_of}
 use Rattle.commands.proofs.Fields.{eight_read, others_not}
-use Rattle.mailbox_state.specs.Answer.{mailbox_number_of}
+use Rattle.mailbox_state.specs.Answer.{Answer, mailbox_number_of}
+use Rattle.mailbox_state.specs.Connectors.{connectors_least, connectors_most, connectors_of}
 use Rattle.mailbox_state.specs.Status.{runs_of}
 use Rattle.mailbox_state.specs.Step.{refused}
-use Rattle.mailbox_state.proofs.Numbers.{none_29, many_29, counted_0}
-use Rattle.mailbox_state.specs.declared.answer.Answer.{Answer}
-use Rattle.mailbox_state.specs.declared.answer.Answer.TheVariants.{ControlLength, NoSuchConnector}
+use Rattle.mailbox_state.proofs.Numbers.{none_refused, many_refused, counted}
+use Rattle.mailbox_state.specs.declared.answer.Refusal.TheVariants.{ControlLength, NoSuchConnector}
 use Rattle.mailbox_state.specs.declared.state.Notifications.TheVariants.{Off}
 use Rattle.mailbox_state.specs.declared.state.State.{State}
 use Rattle.mailbox_state.specs.declared.status.CommandStatus.{CommandStatus}
@@ -21,13 +23,13 @@ use Rattle.mailbox_state.specs.declared.status.CommandStatus.TheVariants.{Nothin
 use Rattle.mailbox_state.specs.declared.step.Step.{Step}
 use Rattle.mailbox_state.specs.declared.mailbox.Mailbox.{Mailbox}
 use Rattle.mailbox_state.specs.declared.mailbox.Outcome.{Outcome}
-use Rattle.mailbox_state.specs.declared.mailbox.Fresh as start
+use Rattle.mailbox_state.specs.declared.mailbox.NoMailbox.{NoMailbox}
 use Rattle.mailbox_rules.specs.Cci.{cci_bits_of}
 use Rattle.mailbox_rules.specs.Change.{change_step_of}
 use Rattle.mailbox_rules.specs.Report.{success_step_of, failure_step_of}
 use Rattle.mailbox_rules.specs.Write.{control_step_of}
 use Rattle.mailbox_rules.specs.MessageIn.{zero_message_in, settled_of}
-use Rattle.mailbox_rules.specs.Mailbox.{mailbox, fresh_mailbox, start_returns, mailbox_fresh_of, mailbox_cci_of, mailbox_returns}
+use Rattle.mailbox_rules.specs.Mailbox.{mailbox, fresh_mailbox, counted_mailbox, mailbox_fresh_of, mailbox_cci_of, mailbox_returns}
 use Rattle.mailbox_rules.specs.Events.{Event, writes, succeeds, fails, changes, parsed_step_of, port_bytes, step_returns, event_of}
 use Rattle.mailbox_rules.proofs.Bits.{in_run_alone, outside_shows, others_stay, bit_0_clear}
 use Rattle.mailbox_rules.proofs.Keeps.{event_keeps}
@@ -56,7 +58,7 @@ module _ (m : Mailbox) where
   change_step c reason = refl
 
   -- 1 comes before everything, before PPM_RESET too.
-  pub control_1 : (control : List ℕ) → (length control ≡ 8 → ⊥) → event_of m (writes control) ≡ kept m ControlLength
+  pub control_1 : (control : List ℕ) → (length control ≡ 8 → ⊥) → event_of m (writes control) ≡ kept m (Err ControlLength)
   unfolding parsed_step_of settled_of
   control_1 control h = ap (λ p. step_returns m (parsed_step_of m.state p) []) (others_not control h)
 
@@ -115,35 +117,42 @@ pub record Fresh (m : Mailbox) : Type 0 where
   pub status : m.state.status ≡ Nothing
   pub changes : m.state.changes ≡ record { shown = 0; waiting = replicate 8 false }
 
-fresh : (count : ℕ) → Fresh (fresh_mailbox count)
+pub fresh : (count : ℕ) → Fresh (fresh_mailbox count)
 unfolding fresh_mailbox zero_message_in cci_bits_of
 fresh count = record { cci = refl; notifications = refl; message = refl; status = refl; changes = refl }
 
 -- A count from 1 to 8 makes a fresh mailbox with so many connectors.
 module _ (count : ℕ) where
-  pub fresh_made : 1 ≤ count → count ≤ 8 → mailbox_fresh_of count ≡ start_returns (fresh_mailbox count) 0
-  unfolding mailbox_fresh_of differ pick
-  fresh_made low high = rw (counted_0 count low high)
+  pub fresh_made : 1 ≤ count → count ≤ 8 → mailbox_fresh_of count ≡ Ok (fresh_mailbox count)
+  unfolding mailbox_fresh_of
+  fresh_made low high = ap counted_mailbox (counted count low high)
 
   pub fresh_counts : (fresh_mailbox count).state.connectors ≡ count
   unfolding fresh_mailbox
   fresh_counts = refl
 
-  -- Any other count is 29, and what is returned beside it has no connector.
-  pub fresh_29_above : 8 < count → mailbox_fresh_of count ≡ start_returns (fresh_mailbox 0) 29
-  unfolding mailbox_fresh_of differ pick
-  fresh_29_above h = rw (many_29 count h)
-
-  pub fresh_29_zero : count ≡ 0 → mailbox_fresh_of count ≡ start_returns (fresh_mailbox 0) 29
-  unfolding mailbox_fresh_of differ pick
-  fresh_29_zero e = rw (none_29 count e)
-
-  pub fresh_is : Fresh (mailbox_fresh_of count).mailbox
+  -- Any other count is 29, and no mailbox is made.
+  pub fresh_29_above : 8 < count → mailbox_fresh_of count ≡ Err (record {})
   unfolding mailbox_fresh_of
-  fresh_is = pick_all (λ (f : start.Fresh). Fresh f.mailbox) _ _ _ (λ y. fresh 0) (λ n. fresh count)
+  fresh_29_above h = ap counted_mailbox (many_refused count h)
+
+  pub fresh_29_zero : count ≡ 0 → mailbox_fresh_of count ≡ Err (record {})
+  unfolding mailbox_fresh_of
+  fresh_29_zero e = ap counted_mailbox (none_refused count e)
+
+  -- What holds where none is made, and of the fresh mailbox of a count from 1 to 8, holds of every start.
+  pub fresh_all : (P : Result Mailbox NoMailbox → Type 0) → P (Err (record {})) → (1 ≤ count → count ≤ 8 → P (Ok (fresh_mailbox count))) → P (mailbox_fresh_of count)
+  unfolding mailbox_fresh_of connectors_of
+  fresh_all P none made =
+      let Q : Result ℕ NoMailbox → Type 0 = λ r. P (counted_mailbox r) in
+      pick_all Q (ltb count connectors_least) _ _ (λ few. none)
+      (λ low. pick_all Q (ltb connectors_most count) _ _ (λ many. none) (λ high. made (ltb-false count connectors_least low) (ltb-false connectors_most count high)))
+
+  pub fresh_is : IfOk (mailbox_fresh_of count) Fresh
+  fresh_is = fresh_all (λ r. IfOk r Fresh) tt (λ low high. fresh count)
 
 -- In a mailbox that has no connector every change is refused with 9: none is answered 0 and lost.
-pub none_9 : (m : Mailbox) (c reason : ℕ) → m.state.connectors ≡ 0 → event_of m (changes c reason) ≡ kept m NoSuchConnector
+pub none_9 : (m : Mailbox) (c reason : ℕ) → m.state.connectors ≡ 0 → event_of m (changes c reason) ≡ kept m (Err NoSuchConnector)
 unfolding settled_of
 none_9 m c reason e = ap (λ (s : Step). step_returns m s []) (all_absent c)
   where

@@ -7,12 +7,12 @@ use mathlib.Core.Path.{◌≡◌, sym, ◌∙◌, ap, subst}
 use native.Mathlib.Nat.{sub-zero, suc-sub-suc, zero-sub}
 use native.Mathlib.Omega.{arith}
 use lib.ListN.{length, drop, replicate, length-replicate}
+use Rattle.std.specs.Prelude.{Ok}
 use Rattle.basis.specs.Left.{Left}
 use Rattle.lent.proofs.Laws.{put_leads}
 use Rattle.commands.specs.Control.{fields_of}
 use Rattle.commands.specs.Table.{entry_of}
 use Rattle.mailbox_state.specs.Status.{runs_of}
-use Rattle.mailbox_state.specs.declared.answer.Answer.TheVariants.{Taken}
 use Rattle.mailbox_state.specs.declared.status.CommandStatus.{CommandStatus}
 use Rattle.mailbox_state.specs.declared.status.CommandStatus.TheVariants.{Nothing, ResetDone, Busy, Completed, Failed, NotSupported, Cancelled, Acknowledged}
 use Rattle.mailbox_state.specs.declared.step.MessageEffect.{MessageEffect}
@@ -41,7 +41,7 @@ filled bytes few =
     ap (λ (x : Left Placed). x.memory) (put_leads bytes (replicate 256 0) (rw (length-replicate {A = ℕ} 256 0) few)) ∙ ap (λ (l : List ℕ). bytes ++ l) (dropped (length bytes) 256)
 
 module _ (m : Mailbox) (bytes : List ℕ) (r : runs_of m.state.status ≡ true) (few : length bytes ≤ 255) where
-  pub success_taken : event_of m (succeeds bytes) ≡ mailbox_returns (mailbox (with_status m.state (Completed (length bytes))) (filled_of bytes)) Taken
+  pub success_taken : event_of m (succeeds bytes) ≡ mailbox_returns (mailbox (with_status m.state (Completed (length bytes))) (filled_of bytes)) (Ok tt)
   unfolding settled_of
   success_taken = ap (λ (s : Step). step_returns m s bytes) (success_completes m.state (length bytes) r few)
 
@@ -79,7 +79,7 @@ module _ (m : Mailbox) (control : List ℕ) where
   abbrev step_of : Step
   step_of = control_step_of m.state (fields_of control)
 
-  pub write_message : length control ≡ 8 → refusal_of (entry_of (fields_of control).code).class (situation_of m.state (fields_of control)) ≡ Taken
+  pub write_message : length control ≡ 8 → refusal_of (entry_of (fields_of control).code).class (situation_of m.state (fields_of control)) ≡ Ok tt
       → After wrote.state.status (message_in_of m) (message_in_of wrote)
   write_message e t =
       subst (λ (o : Outcome). After o.mailbox.state.status m.message o.mailbox.message) (sym (write_step m control e))

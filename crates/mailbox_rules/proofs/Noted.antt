@@ -4,10 +4,11 @@ use mathlib.Core.Bool.{true, false}
 use mathlib.Core.Logic.{◌⊎◌, inl, inr}
 use mathlib.Core.Path.{◌≡◌, refl}
 use borrow.Author.Tests.{eq-eqb, ne_eqb, not-false}
+use Rattle.std.specs.Prelude.{Ok}
 use Rattle.basis.specs.Pick.{pick, pick_all}
 use Rattle.mailbox_state.specs.State.{changes, mailbox_state}
 use Rattle.mailbox_state.specs.Step.{mailbox_step, refused}
-use Rattle.mailbox_state.specs.declared.answer.Answer.TheVariants.{Taken, NoSuchConnector}
+use Rattle.mailbox_state.specs.declared.answer.Refusal.TheVariants.{NoSuchConnector}
 use Rattle.mailbox_state.specs.declared.state.Changes.{Changes}
 use Rattle.mailbox_state.specs.declared.state.Notifications.TheVariants.{Off, On}
 use Rattle.mailbox_state.specs.declared.state.State.{State}
@@ -32,15 +33,15 @@ module _ (state : State) (c reason : ℕ) where
   change_9_above h = rw (above_absent c state.connectors h)
 
   module _ (low : 1 ≤ c) (high : c ≤ state.connectors) where
-    pub change_off : state.notifications ≡ Off → change_step_of state c reason ≡ mailbox_step state Taken Kept
+    pub change_off : state.notifications ≡ Off → change_step_of state c reason ≡ mailbox_step state (Ok tt) Kept
     unfolding change_step_of present_step_of heard_of pick
     change_off e = rw (is_there c state.connectors low high, e)
 
-    pub change_dropped : (mask : ℕ) → state.notifications ≡ On mask → meets_of reason mask ≡ false → change_step_of state c reason ≡ mailbox_step state Taken Kept
+    pub change_dropped : (mask : ℕ) → state.notifications ≡ On mask → meets_of reason mask ≡ false → change_step_of state c reason ≡ mailbox_step state (Ok tt) Kept
     unfolding change_step_of present_step_of heard_of pick
     change_dropped mask e h = rw (is_there c state.connectors low high, e, h)
 
-    pub change_recorded : (mask : ℕ) → state.notifications ≡ On mask → meets_of reason mask ≡ true → change_step_of state c reason ≡ mailbox_step (altering state (noted_of state.changes c)) Taken Kept
+    pub change_recorded : (mask : ℕ) → state.notifications ≡ On mask → meets_of reason mask ≡ true → change_step_of state c reason ≡ mailbox_step (altering state (noted_of state.changes c)) (Ok tt) Kept
     unfolding change_step_of present_step_of heard_of pick
     change_recorded mask e h = rw (is_there c state.connectors low high, e, h)
 

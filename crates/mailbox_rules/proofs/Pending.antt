@@ -4,7 +4,7 @@ use mathlib.Core.Bool.{Bool, true, false}
 use mathlib.Core.Logic.{◌⊎◌, inl, inr}
 use mathlib.Core.Path.{◌≡◌, refl, sym, ◌∙◌, ap}
 use native.Mathlib.Omega.{arith}
-use Rattle.basis.specs.Pick.{pick_all, differ_false}
+use Rattle.std.specs.Prelude.{Ok}
 use Rattle.commands.specs.Table.{entry_of}
 use Rattle.commands.proofs.Rows.{Named, named}
 use Rattle.commands.specs.declared.table.Class.{Class}
@@ -12,7 +12,6 @@ use Rattle.commands.specs.declared.table.Class.TheVariants as class
 use Rattle.commands.specs.declared.control.Control.{Control}
 use Rattle.mailbox_state.specs.Answer.{mailbox_number_of}
 use Rattle.mailbox_state.specs.Status.{runs_of, due_of}
-use Rattle.mailbox_state.specs.declared.answer.Answer.TheVariants.{Taken}
 use Rattle.mailbox_state.specs.declared.situation.Situation.{Situation}
 use Rattle.mailbox_state.specs.declared.status.CommandStatus.{CommandStatus}
 use Rattle.mailbox_state.specs.declared.status.CommandStatus.TheVariants.{Nothing, ResetDone, Busy, Completed, Failed, NotSupported, Cancelled, Acknowledged}
@@ -20,9 +19,9 @@ use Rattle.mailbox_state.specs.declared.state.State.{State}
 use Rattle.mailbox_state.specs.declared.step.Step.{Step}
 use Rattle.mailbox_rules.specs.Refusal.{situation_of, refusal_of}
 use Rattle.mailbox_rules.specs.Until.{ResetOrAcknowledge, reset, acknowledged, ResetOrCancel, by_reset, by_cancel}
-use Rattle.mailbox_rules.specs.Write.{judged_step_of, control_step_of}
+use Rattle.mailbox_rules.specs.Write.{control_step_of}
 use Rattle.mailbox_rules.proofs.Answers.{off_2, running_3, due_4}
-use Rattle.mailbox_rules.proofs.Command.{StatusOf, zero_taken, write_takes}
+use Rattle.mailbox_rules.proofs.Command.{StatusOf, judged_all, write_takes}
 
 pub due_still : (status : CommandStatus) → due_of status ≡ true → runs_of status ≡ false
 unfolding due_of runs_of
@@ -36,7 +35,7 @@ due_still Cancelled e = refl
 due_still Acknowledged e = refl
 
 ending : (class : Class) (s : Situation) (off completed : Bool) (code : ℕ) → s.off ≡ off → s.completed ≡ completed → s.runs ≡ false → s.due ≡ true
-    → refusal_of class s ≡ Taken → Named code class → ResetOrAcknowledge code completed
+    → refusal_of class s ≡ Ok tt → Named code class → ResetOrAcknowledge code completed
 ending class.Reset s off completed code o c r d e h = reset h
 ending class.Acknowledge s true completed code o c r d e h = absurd (omega (arith, ap mailbox_number_of (sym (off_2 s o).acknowledge ∙ e)))
 ending class.Acknowledge s false true code o c r d e h = acknowledged h refl
@@ -60,17 +59,13 @@ module _ (state : State) (control : Control) where
   situation = situation_of state control
 
   pub due_stays : due_of state.status ≡ true → IsDue (control_step_of state control) ⊎ ResetOrAcknowledge control.code control.completed
-  unfolding judged_step_of
   due_stays h =
-      pick_all (λ (s : Step). IsDue s ⊎ ResetOrAcknowledge control.code control.completed) _ _ _
-      (λ y. inl h)
-      (λ n.
-      inr
-      (ending class_of situation _ _ control.code refl refl (due_still state.status h) h
-      (zero_taken _ (differ_false (mailbox_number_of (refusal_of class_of situation)) 0 n))
-      (named control.code)))
+      judged_all (λ (s : Step). IsDue s ⊎ ResetOrAcknowledge control.code control.completed) state (entry_of control.code) control
+      (refusal_of class_of situation)
+      (λ refusal e. inl h)
+      (λ e. inr (ending class_of situation _ _ control.code refl refl (due_still state.status h) h e (named control.code)))
 
-stopping : (class : Class) (s : Situation) (off : Bool) (code : ℕ) → s.off ≡ off → s.runs ≡ true → refusal_of class s ≡ Taken → Named code class → ResetOrCancel code
+stopping : (class : Class) (s : Situation) (off : Bool) (code : ℕ) → s.off ≡ off → s.runs ≡ true → refusal_of class s ≡ Ok tt → Named code class → ResetOrCancel code
 stopping class.Reset s off code o r e h = by_reset h
 stopping class.Cancel s off code o r e h = by_cancel h
 stopping class.Acknowledge s true code o r e h = absurd (omega (arith, ap mailbox_number_of (sym (off_2 s o).acknowledge ∙ e)))
@@ -82,15 +77,11 @@ stopping class.NotSupported s true code o r e h = absurd (omega (arith, ap mailb
 stopping class.NotSupported s false code o r e h = absurd (omega (arith, ap mailbox_number_of (sym ((running_3 s r).not_supported o) ∙ e)))
 
 pub run_stays : (state : State) (control : Control) → runs_of state.status ≡ true → ((control_step_of state control).state.status ≡ state.status) ⊎ ResetOrCancel control.code
-unfolding judged_step_of
 run_stays state control h =
-    pick_all (λ (s : Step). (s.state.status ≡ state.status) ⊎ ResetOrCancel control.code) _ _ _
-    (λ y. inl refl)
-    (λ n.
-    inr
-    (stopping (class_of state control) (situation state control) _ control.code refl h
-    (zero_taken _ (differ_false (mailbox_number_of (refusal_of (class_of state control) (situation state control))) 0 n))
-    (named control.code)))
+    judged_all (λ (s : Step). (s.state.status ≡ state.status) ⊎ ResetOrCancel control.code) state (entry_of control.code) control
+    (refusal_of (class_of state control) (situation state control))
+    (λ refusal e. inl refl)
+    (λ e. inr (stopping (class_of state control) (situation state control) _ control.code refl h e (named control.code)))
 
 -- Every completion and cancel leaves an acknowledgement due; what does not complete at once runs.
 abbrev pub Leaves : Class → CommandStatus → Type 0
@@ -111,5 +102,5 @@ leaves class.Run status (inl r) = inl r
 leaves class.Run status (inr e) = inr (ap due_of e)
 leaves class.NotSupported status e = ap due_of e
 
-pub write_leaves : (state : State) (control : Control) → refusal_of (entry_of control.code).class (situation_of state control) ≡ Taken → Leaves (entry_of control.code).class (control_step_of state control).state.status
+pub write_leaves : (state : State) (control : Control) → refusal_of (entry_of control.code).class (situation_of state control) ≡ Ok tt → Leaves (entry_of control.code).class (control_step_of state control).state.status
 write_leaves state control e = leaves (entry_of control.code).class (control_step_of state control).state.status (write_takes state control e).status

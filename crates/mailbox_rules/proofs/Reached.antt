@@ -5,15 +5,12 @@ use mathlib.Core.List.{List, [], ◌∷◌, ◌++◌}
 use mathlib.Core.Path.{◌≡◌, refl, sym, ◌∙◌, ap, subst}
 use native.Mathlib.Omega.{arith}
 use lib.ListN.{get_or}
-use Rattle.basis.specs.Pick.{pick_all, differ_true, differ_false}
+use Rattle.std.specs.Prelude.{Ok}
 use Rattle.mailbox_state.specs.Answer.{mailbox_number_of}
-use Rattle.mailbox_state.specs.Connectors.{connectors_number_of}
 use Rattle.mailbox_state.specs.Status.{runs_of}
-use Rattle.mailbox_state.proofs.Numbers.{counted_within}
 use Rattle.mailbox_state.specs.declared.status.CommandStatus.{CommandStatus}
 use Rattle.mailbox_state.specs.declared.status.CommandStatus.TheVariants.{Completed}
 use Rattle.mailbox_state.specs.declared.mailbox.Mailbox.{Mailbox}
-use Rattle.mailbox_state.specs.declared.mailbox.Fresh.{Fresh}
 use Rattle.mailbox_rules.specs.Changes.{marked_of}
 use Rattle.mailbox_rules.specs.Cci.{cci_bits_of}
 use Rattle.mailbox_rules.specs.Events.{Event, event_of}
@@ -22,7 +19,7 @@ use Rattle.mailbox_rules.specs.Mailbox.{fresh_mailbox, mailbox_fresh_of, mailbox
 use Rattle.mailbox_rules.specs.Says.{Says}
 use Rattle.mailbox_rules.specs.WellFormed.{WellFormed, Sizes}
 use Rattle.mailbox_rules.proofs.Bits.{cci_width, completed_says}
-use Rattle.mailbox_rules.proofs.Laws.{cci_outside, fresh_counts}
+use Rattle.mailbox_rules.proofs.Laws.{cci_outside, fresh_counts, fresh_all}
 use Rattle.mailbox_rules.proofs.Marked.{marked}
 use Rattle.mailbox_rules.proofs.Places.{Behind, none_behind, noted_behind, next_behind}
 use Rattle.mailbox_rules.proofs.Sizes.{fresh_sizes, event_sizes}
@@ -49,31 +46,28 @@ history_none m = refl
 pub reached_next : (count : ℕ) (m : Mailbox) (e : Event) → Reached count m → Reached count (event_of m e).mailbox
 reached_next count m e r =
     record {
+      start = r.start;
       made = r.made;
       events = r.events ++ e ∷ [];
       ending =
-          ap (λ (h : History). h.mailbox) (history_next (mailbox_fresh_of count).mailbox r.events e)
+          ap (λ (h : History). h.mailbox) (history_next r.start r.events e)
           ∙ ap (λ (x : Mailbox). (event_of x e).mailbox) r.ending;
     }
 
-pub reached_fresh : (count : ℕ) → (mailbox_fresh_of count).number ≡ 0 → Reached count (mailbox_fresh_of count).mailbox
+pub reached_fresh : (count : ℕ) (m : Mailbox) → mailbox_fresh_of count ≡ Ok m → Reached count m
 unfolding history_from
-reached_fresh count e = record { made = e; events = []; ending = refl }
+reached_fresh count m e = record { start = m; made = e; events = []; ending = refl }
 
--- A start that is answered 0 is that of a count from 1 to 8, and makes a fresh mailbox with so many connectors.
-pub record Made (count : ℕ) (f : Fresh) : Type 0 where
+-- A mailbox that a start makes is the fresh one of its count, which is from 1 to 8.
+pub record Made (count : ℕ) (m : Mailbox) : Type 0 where
   pub low : 1 ≤ count
   pub high : count ≤ 8
-  pub fresh : f.mailbox ≡ fresh_mailbox count
+  pub fresh : m ≡ fresh_mailbox count
 
-pub made : (count : ℕ) → (mailbox_fresh_of count).number ≡ 0 → Made count (mailbox_fresh_of count)
-unfolding mailbox_fresh_of
-made count =
-    pick_all (λ (f : Fresh). f.number ≡ 0 → Made count f) _ _ _
-    (λ y e. absurd (differ_true (connectors_number_of count) 0 y e))
-    (λ n e.
-    let within = counted_within count (differ_false (connectors_number_of count) 0 n) in
-    record { low = within.0; high = within.1; fresh = refl })
+pub made : (count : ℕ) (m : Mailbox) → mailbox_fresh_of count ≡ Ok m → Made count m
+made count m =
+    fresh_all count (λ r. r ≡ Ok m → Made count m) (λ e. cc)
+    (λ low high e. record { low = low; high = high; fresh = cc })
 
 -- What holds of a fresh mailbox and is kept by every event holds after any history.
 module _ (P : Mailbox → Type 0) (keeps : (m : Mailbox) (e : Event) → P m → P (event_of m e).mailbox) where
@@ -84,12 +78,12 @@ module _ (P : Mailbox → Type 0) (keeps : (m : Mailbox) (e : Event) → P m →
 
   pub after_any : {count : ℕ} {m : Mailbox} → P (fresh_mailbox count) → Reached count m → P m
   after_any {count} fresh r =
-      subst P r.ending (keeps_all_lem (mailbox_fresh_of count).mailbox r.events (subst P (sym (made count r.made).fresh) fresh))
+      subst P r.ending (keeps_all_lem r.start r.events (subst P (sym (made count r.start r.made).fresh) fresh))
 
 module _ {count : ℕ} {m : Mailbox} (r : Reached count m) where
   pub reached_formed : WellFormed m.state
   reached_formed =
-      after_any (λ x. WellFormed x.state) (λ x e. event_formed x.state e) (fresh_formed count (made count r.made).low (made count r.made).high) r
+      after_any (λ x. WellFormed x.state) (λ x e. event_formed x.state e) (fresh_formed count (made count r.start r.made).low (made count r.start r.made).high) r
 
   pub reached_sizes : Sizes m
   reached_sizes = after_any Sizes event_sizes (fresh_sizes count) r

@@ -4,11 +4,12 @@ use mathlib.Core.Bool.{true, false}
 use mathlib.Core.Path.{◌≡◌, refl}
 use native.Mathlib.Omega.{arith}
 use borrow.Author.Tests.{lt-ltb, le-ltb, ltb-false}
+use Rattle.std.specs.Prelude.{Ok}
 use Rattle.basis.specs.Pick.{pick, pick_all}
 use Rattle.mailbox_state.specs.Answer.{mailbox_number_of}
 use Rattle.mailbox_state.specs.Step.{mailbox_step, refused}
 use Rattle.mailbox_state.specs.Status.{runs_of}
-use Rattle.mailbox_state.specs.declared.answer.Answer.TheVariants.{Taken, NothingRuns, DataTooLong}
+use Rattle.mailbox_state.specs.declared.answer.Refusal.TheVariants.{NothingRuns, DataTooLong}
 use Rattle.mailbox_state.specs.declared.status.CommandStatus.TheVariants.{Completed, Failed}
 use Rattle.mailbox_state.specs.declared.state.State.{State}
 use Rattle.mailbox_state.specs.declared.step.MessageEffect.TheVariants.{ZeroedAtCompletion, Filled}
@@ -26,7 +27,7 @@ module _ (state : State) where
   unfolding success_step_of pick
   success_8 n e h = rw (e, lt-ltb 255 n h)
 
-  pub success_completes : (n : ℕ) → runs_of state.status ≡ true → n ≤ 255 → success_step_of state n ≡ mailbox_step (with_status state (Completed n)) Taken Filled
+  pub success_completes : (n : ℕ) → runs_of state.status ≡ true → n ≤ 255 → success_step_of state n ≡ mailbox_step (with_status state (Completed n)) (Ok tt) Filled
   unfolding success_step_of pick
   success_completes n e h = rw (e, le-ltb 255 n h)
 
@@ -34,7 +35,7 @@ module _ (state : State) where
   unfolding failure_step_of pick
   failure_7 e = rw e
 
-  pub failure_completes : runs_of state.status ≡ true → failure_step_of state ≡ mailbox_step (with_status state Failed) Taken ZeroedAtCompletion
+  pub failure_completes : runs_of state.status ≡ true → failure_step_of state ≡ mailbox_step (with_status state Failed) (Ok tt) ZeroedAtCompletion
   unfolding failure_step_of pick
   failure_completes e = rw e
 

@@ -3,15 +3,14 @@ use Prim.Native.Nat.{ℕ, zero, suc, ◌-◌, ◌≤◌, ◌<◌}
 use mathlib.Core.Bool.{true, false}
 use mathlib.Core.List.{List, [], ◌∷◌, ◌++◌}
 use mathlib.Core.Logic.{◌⊎◌, inl, inr}
-use mathlib.Core.Path.{◌≡◌, refl, ◌∙◌, ap, subst}
+use mathlib.Core.Path.{◌≡◌, refl, sym, ◌∙◌, ap, subst}
 use native.Mathlib.Omega.{arith}
 use lib.ListN.{length, get_or, replicate}
+use Rattle.std.specs.Prelude.{Ok, Err, IfOk, IsErr}
 use Rattle.mailbox_state.specs.Answer.{mailbox_number_of}
 use Rattle.mailbox_state.specs.State.{off_of}
 use Rattle.mailbox_state.specs.Status.{runs_of, due_of}
 use Rattle.mailbox_state.specs.Step.{mailbox_step}
-use Rattle.mailbox_state.specs.declared.answer.Answer.TheVariants.{Taken}
-use Rattle.mailbox_state.specs.declared.mailbox.Fresh as start
 use Rattle.mailbox_state.specs.declared.mailbox.Mailbox.{Mailbox}
 use Rattle.mailbox_state.specs.declared.mailbox.Outcome.{Outcome}
 use Rattle.mailbox_state.specs.declared.state.Changes.{Changes}
@@ -23,11 +22,11 @@ use Rattle.mailbox_rules.specs.Change.{meets_of, change_step_of}
 use Rattle.mailbox_rules.specs.Changes.{noted_of}
 use Rattle.mailbox_rules.specs.Events.{writes, succeeds, fails, changes, step_returns}
 use Rattle.mailbox_rules.specs.History.{Reached}
-use Rattle.mailbox_rules.specs.Mailbox.{fresh_mailbox, start_returns, mailbox_fresh_of}
+use Rattle.mailbox_rules.specs.Mailbox.{fresh_mailbox, start_number_of, mailbox_fresh_of, message_in_of, mailbox_cci_of}
 use Rattle.mailbox_rules.specs.MessageIn.{zero_message_in, settled_of}
-use Rattle.mailbox_rules.specs.Sentences.{answers, next, runs, shown, waits, NoChange, Completes, zeros, Start, Sentences, MailboxKeeps}
+use Rattle.mailbox_rules.specs.Sentences.{answers, next, off, runs, due, shown, waits, NoChange, Completes, zeros, Start, Sentences, MailboxKeeps}
 use Rattle.mailbox_rules.proofs.Bits.{completed_says, failed_says}
-use Rattle.mailbox_rules.proofs.Laws.{control_1, refused_keeps, cci_in_run, change_cci_high, change_cci_low, change_cci_in_run, change_altered, fresh_made, fresh_counts, fresh_29_zero, fresh_29_above, fresh_is}
+use Rattle.mailbox_rules.proofs.Laws.{control_1, refused_keeps, cci_in_run, change_cci_high, change_cci_low, change_cci_in_run, change_altered, fresh, fresh_made, fresh_29_zero, fresh_29_above, fresh_all}
 use Rattle.mailbox_rules.proofs.Marked.{marked_others}
 use Rattle.mailbox_rules.proofs.Message.{filled}
 use Rattle.mailbox_rules.proofs.Noted.{altering, change_9_zero, change_9_above, change_off, change_dropped, change_recorded, noted_none, noted_waits}
@@ -93,12 +92,12 @@ module _ {count : ℕ} {m : Mailbox} (r : Reached count m) where
       dropped h = (numbered m (changes c reason) _ (row h), ap (λ (s : Step). (step_returns m s []).mailbox) (row h))
         where
           row : (state.notifications ≡ Off) ⊎ ((state.notifications ≡ On mask) × (meets_of reason mask ≡ false))
-              → change_step_of state c reason ≡ mailbox_step state Taken Kept
+              → change_step_of state c reason ≡ mailbox_step state (Ok tt) Kept
           row (inl e) = change_off state c reason low connected e
           row (inr (e, unmet)) = change_dropped state c reason low connected mask e unmet
 
       module _ (on : state.notifications ≡ On mask) (met : meets_of reason mask ≡ true) where
-        recorded : change_step_of state c reason ≡ mailbox_step (altering state (noted_of state.changes c)) Taken Kept
+        recorded : change_step_of state c reason ≡ mailbox_step (altering state (noted_of state.changes c)) (Ok tt) Kept
         recorded = change_recorded state c reason low connected mask on met
 
         recorded_0 : answers m (changes c reason) ≡ 0
@@ -127,8 +126,8 @@ module _ {count : ℕ} {m : Mailbox} (r : Reached count m) where
   every : Sentences count m
   every =
       record {
-        low = (made count r.made).low;
-        high = (made count r.made).high;
+        low = (made count r.start r.made).low;
+        high = (made count r.start r.made).high;
         fixed = reached_count r;
         formed = reached_formed r;
         sizes = reached_sizes r;
@@ -180,18 +179,20 @@ start_keeps : (count : ℕ) → Start count
 unfolding off_of runs_of due_of
 start_keeps count =
     record {
-      counts = λ low high. ap (λ (f : start.Fresh). f.number) (fresh_made count low high);
-      others = λ h. (ap (λ (f : start.Fresh). f.number) (beside h), ap (λ (f : start.Fresh). f.mailbox.state.connectors) (beside h) ∙ fresh_counts 0);
-      cci = (fresh_is count).cci;
-      off = ap off_of (fresh_is count).notifications;
-      message_in = (fresh_is count).message;
-      still = (ap runs_of (fresh_is count).status, ap due_of (fresh_is count).status);
-      no_change = no_change_lem (mailbox_fresh_of count).mailbox (fresh_is count).changes;
+      counts = λ low high. ap start_number_of (fresh_made count low high);
+      others = λ h. (ap start_number_of (refused_start h), subst IsErr (sym (refused_start h)) refl);
+      cci = fresh_all count (λ r. IfOk r (λ m. mailbox_cci_of m ≡ 0)) tt (λ low high. (fresh count).cci);
+      off = fresh_all count (λ r. IfOk r (λ m. off m ≡ true)) tt (λ low high. ap off_of (fresh count).notifications);
+      message_in = fresh_all count (λ r. IfOk r (λ m. message_in_of m ≡ zeros)) tt (λ low high. (fresh count).message);
+      still =
+          fresh_all count (λ r. IfOk r (λ m. (runs m ≡ false) × (due m ≡ false))) tt
+          (λ low high. (ap runs_of (fresh count).status, ap due_of (fresh count).status));
+      no_change = fresh_all count (λ r. IfOk r NoChange) tt (λ low high. no_change_lem (fresh_mailbox count) (fresh count).changes);
     }
   where
-    beside : (count ≡ 0) ⊎ (8 < count) → mailbox_fresh_of count ≡ start_returns (fresh_mailbox 0) 29
-    beside (inl e) = fresh_29_zero count e
-    beside (inr h) = fresh_29_above count h
+    refused_start : (count ≡ 0) ⊎ (8 < count) → mailbox_fresh_of count ≡ Err (record {})
+    refused_start (inl e) = fresh_29_zero count e
+    refused_start (inr h) = fresh_29_above count h
 
 pub sentences : MailboxKeeps
 sentences count = (start_keeps count, λ m r. every r)

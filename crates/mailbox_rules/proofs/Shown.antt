@@ -7,13 +7,13 @@ use mathlib.Core.Logic.{◌⊎◌, inl, inr}
 use mathlib.Core.Path.{◌≡◌, refl, ap}
 use borrow.Author.Tests.{eqb-true}
 use lib.ListN.{length}
+use Rattle.std.specs.Prelude.{Ok, Result, Err}
 use Rattle.basis.specs.Pick.{pick_all}
 use Rattle.commands.specs.Control.{fields_of, control_of}
-use Rattle.commands.specs.declared.control.Parsed.{Parsed}
-use Rattle.commands.specs.declared.control.Parsed.TheVariants.{Fields, WrongLength}
+use Rattle.commands.specs.declared.control.Control.{Control}
+use Rattle.commands.specs.declared.control.WrongLength.{WrongLength}
 use Rattle.commands.proofs.Fields.{eight_or_not}
-use Rattle.mailbox_state.specs.declared.answer.Answer.{Answer}
-use Rattle.mailbox_state.specs.declared.answer.Answer.TheVariants.{Taken}
+use Rattle.mailbox_state.specs.Answer.{Answer}
 use Rattle.mailbox_state.specs.declared.state.Changes.{Changes}
 use Rattle.mailbox_rules.specs.Changes.{lowest_of, noted_of, next_shown_of}
 use Rattle.mailbox_rules.proofs.Command.{ShownBy, stays, reset, acknowledged, write_shown}
@@ -30,7 +30,7 @@ shown_of m = m.state.changes.shown
 pub data Shows (m : Mailbox) : Event → Answer → ℕ → Type 0 where
   as_before : {e : Event} {a : Answer} {shown : ℕ} → shown ≡ shown_of m → Shows m e a shown
   none : {control : List ℕ} {a : Answer} {shown : ℕ} → (fields_of control).code ≡ 0x01 → shown ≡ 0 → Shows m (writes control) a shown
-  next : {control : List ℕ} {a : Answer} {shown : ℕ} → (fields_of control).code ≡ 0x04 → (fields_of control).change ≡ true → a ≡ Taken → shown ≡ lowest_of m.state.changes.waiting → Shows m (writes control) a shown
+  next : {control : List ℕ} {a : Answer} {shown : ℕ} → (fields_of control).code ≡ 0x04 → (fields_of control).change ≡ true → a ≡ Ok tt → shown ≡ lowest_of m.state.changes.waiting → Shows m (writes control) a shown
   noticed : {c reason : ℕ} {a : Answer} {shown : ℕ} → shown_of m ≡ 0 → Recorded m.state c reason → shown ≡ c → Shows m (changes c reason) a shown
 
 abbrev Showing : Mailbox → Event → Outcome → Type 0
@@ -52,7 +52,7 @@ module _ (m : Mailbox) where
   by_noted c reason a after (inl e) = as_before (ap (λ (s : Changes). s.shown) e)
   by_noted c reason a after (inr (r, e)) = rw e (by_change c reason a r)
 
-  by_parsed : (control : List ℕ) (parsed : Parsed) → (parsed ≡ Fields (fields_of control)) ⊎ (parsed ≡ WrongLength)
+  by_parsed : (control : List ℕ) (parsed : Result Control WrongLength) → (parsed ≡ Ok (fields_of control)) ⊎ (parsed ≡ Err (record {}))
       → Shows m (writes control) (parsed_step_of m.state parsed).answer (parsed_step_of m.state parsed).state.changes.shown
   unfolding parsed_step_of
   by_parsed control parsed (inl e) = rw e (by_write control _ _ (write_shown m.state (fields_of control)))

@@ -7,12 +7,12 @@ use mathlib.Core.Path.{◌≡◌, refl, sym, ◌∙◌, ap, subst}
 use native.Mathlib.Omega.{arith}
 use borrow.Author.Tests.{ltb-false}
 use lib.ListN.{length, length-set, length-replicate}
+use Rattle.std.specs.Prelude.{Result, Ok, Err}
 use Rattle.basis.specs.Pick.{pick_all}
 use Rattle.commands.specs.Control.{control_of}
 use Rattle.commands.specs.Table.{entry_of}
 use Rattle.commands.specs.declared.control.Control.{Control}
-use Rattle.commands.specs.declared.control.Parsed.{Parsed}
-use Rattle.commands.specs.declared.control.Parsed.TheVariants.{Fields, WrongLength}
+use Rattle.commands.specs.declared.control.WrongLength.{WrongLength}
 use Rattle.commands.specs.declared.table.Class.{Class}
 use Rattle.commands.specs.declared.table.Class.TheVariants as class
 use Rattle.lent.proofs.Laws.{put_length}
@@ -30,7 +30,8 @@ use Rattle.mailbox_rules.specs.Mailbox.{fresh_mailbox}
 use Rattle.mailbox_rules.specs.MessageIn.{zero_message_in, filled_of, settled_of}
 use Rattle.mailbox_rules.specs.Report.{data_most, success_step_of, failure_step_of}
 use Rattle.mailbox_rules.specs.WellFormed.{LengthFits, Sizes}
-use Rattle.mailbox_rules.specs.Write.{starts_command, taken_step_of, judged_step_of}
+use Rattle.mailbox_rules.specs.Write.{starts_command, taken_step_of}
+use Rattle.mailbox_rules.proofs.Command.{judged_all}
 use Rattle.mailbox_rules.proofs.Noted.{change_alters}
 use Rattle.mailbox_rules.proofs.Steps.{event_changes}
 
@@ -94,10 +95,11 @@ module _ (state : State) where
   taken_short class.NotSupported needs control = short NotSupported (omega arith)
 
   module _ (h : LengthFits state.status) where
-    parsed_short : (parsed : Parsed) → Fits (parsed_step_of state parsed)
-    unfolding parsed_step_of judged_step_of
-    parsed_short (Fields control) = pick_all Fits _ _ _ (λ y. h) (λ n. taken_short (entry_of control.code).class _ control)
-    parsed_short WrongLength = h
+    parsed_short : (parsed : Result Control WrongLength) → Fits (parsed_step_of state parsed)
+    unfolding parsed_step_of
+    parsed_short (Ok control) =
+        judged_all Fits state (entry_of control.code) control _ (λ refusal e. h) (λ e. taken_short (entry_of control.code).class _ control)
+    parsed_short (Err wrong) = h
 
     success_short : (n : ℕ) → Fits (success_step_of state n)
     unfolding success_step_of

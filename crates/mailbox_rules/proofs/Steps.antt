@@ -3,23 +3,23 @@ use Prim.Native.Nat.{ℕ, ◌≤◌}
 use lib.ListN.{length}
 use mathlib.Core.Logic.{◌⊎◌, inl, inr}
 use mathlib.Core.Path.{◌≡◌, refl, sym, ap, subst}
+use Rattle.std.specs.Prelude.{Result, Ok, Err}
 use Rattle.basis.specs.Pick.{pick_all}
 use Rattle.commands.specs.Table.{entry_of}
 use Rattle.commands.proofs.Rows.{named}
 use Rattle.commands.specs.Control.{control_of}
 use Rattle.commands.specs.declared.control.Control.{Control}
-use Rattle.commands.specs.declared.control.Parsed.{Parsed}
-use Rattle.commands.specs.declared.control.Parsed.TheVariants.{Fields, WrongLength}
+use Rattle.commands.specs.declared.control.WrongLength.{WrongLength}
 use Rattle.mailbox_state.specs.State.{no_changes}
-use Rattle.mailbox_state.specs.declared.answer.Answer.{Answer}
+use Rattle.mailbox_state.specs.Answer.{Answer}
 use Rattle.mailbox_state.specs.declared.state.Changes.{Changes}
 use Rattle.mailbox_state.specs.declared.state.State.{State}
 use Rattle.mailbox_state.specs.declared.step.Step.{Step}
 use Rattle.mailbox_rules.specs.Changes.{noted_of, next_shown_of}
 use Rattle.mailbox_rules.specs.Events.{Event, writes, succeeds, fails, changes, parsed_step_of, event_step_of}
 use Rattle.mailbox_rules.specs.Report.{success_step_of, failure_step_of}
-use Rattle.mailbox_rules.specs.Write.{judged_step_of, control_step_of}
-use Rattle.mailbox_rules.proofs.Command.{ShownBy, stays, reset, acknowledged, taken_takes, write_shown}
+use Rattle.mailbox_rules.specs.Write.{control_step_of}
+use Rattle.mailbox_rules.proofs.Command.{ShownBy, stays, reset, acknowledged, judged_all, taken_takes, write_shown}
 use Rattle.mailbox_rules.proofs.Noted.{Recorded, change_alters}
 use Rattle.mailbox_rules.proofs.Report.{success_leaves, failure_leaves}
 
@@ -28,15 +28,14 @@ module _ (state : State) where
   Counts step = step.state.connectors ≡ state.connectors
 
   write_counts : (control : Control) → Counts (control_step_of state control)
-  unfolding judged_step_of
   write_counts control =
-      pick_all Counts _ _ _ (λ y. refl)
-      (λ n. (taken_takes state control (entry_of control.code).class (entry_of control.code).connector (named control.code)).connectors)
+      judged_all Counts state (entry_of control.code) control _ (λ refusal e. refl)
+      (λ e. (taken_takes state control (entry_of control.code).class (entry_of control.code).connector (named control.code)).connectors)
 
-  parsed_counts : (parsed : Parsed) → Counts (parsed_step_of state parsed)
+  parsed_counts : (parsed : Result Control WrongLength) → Counts (parsed_step_of state parsed)
   unfolding parsed_step_of
-  parsed_counts (Fields control) = write_counts control
-  parsed_counts WrongLength = refl
+  parsed_counts (Ok control) = write_counts control
+  parsed_counts (Err wrong) = refl
 
   success_counts : (n : ℕ) → Counts (success_step_of state n)
   unfolding success_step_of
@@ -66,10 +65,10 @@ module _
   by_write (reset h e) = subst P (sym e) none
   by_write (acknowledged h b t e) = subst P (sym e) (next now)
 
-  by_parsed : (parsed : Parsed) → P (parsed_step_of state parsed).state.changes
+  by_parsed : (parsed : Result Control WrongLength) → P (parsed_step_of state parsed).state.changes
   unfolding parsed_step_of
-  by_parsed (Fields control) = by_write (write_shown state control)
-  by_parsed WrongLength = now
+  by_parsed (Ok control) = by_write (write_shown state control)
+  by_parsed (Err wrong) = now
 
   by_change : {c reason : ℕ} {after : Changes} → (after ≡ state.changes) ⊎ (Recorded state c reason × (after ≡ noted_of state.changes c)) → P after
   by_change (inl e) = subst P (sym e) now

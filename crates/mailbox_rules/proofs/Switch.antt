@@ -5,12 +5,13 @@ use mathlib.Core.List.{List}
 use mathlib.Core.Logic.{◌⊎◌, inl, inr}
 use mathlib.Core.Path.{◌≡◌, refl, ap}
 use lib.ListN.{length}
+use Rattle.std.specs.Prelude.{Result}
 use Rattle.basis.specs.Pick.{pick_all, differ_false}
 use Rattle.commands.specs.Control.{fields_of, control_of}
 use Rattle.commands.specs.Table.{entry_of}
 use Rattle.commands.proofs.Rows.{Named, named}
 use Rattle.commands.specs.declared.control.Control.{Control}
-use Rattle.commands.specs.declared.control.Parsed.{Parsed}
+use Rattle.commands.specs.declared.control.WrongLength.{WrongLength}
 use Rattle.commands.specs.declared.table.Class.{Class}
 use Rattle.commands.specs.declared.table.Class.TheVariants as class
 use Rattle.mailbox_state.specs.declared.state.State.{State}
@@ -18,7 +19,8 @@ use Rattle.mailbox_state.specs.declared.step.Step.{Step}
 use Rattle.mailbox_rules.specs.Events.{Event, writes, succeeds, fails, changes, parsed_step_of, event_step_of}
 use Rattle.mailbox_rules.specs.Report.{success_step_of, failure_step_of}
 use Rattle.mailbox_rules.specs.Sentences.{MaySwitch}
-use Rattle.mailbox_rules.specs.Write.{starts_command, taken_step_of, judged_step_of, control_step_of}
+use Rattle.mailbox_rules.specs.Write.{starts_command, taken_step_of, control_step_of}
+use Rattle.mailbox_rules.proofs.Command.{judged_all}
 use Rattle.mailbox_rules.proofs.Noted.{change_alters}
 
 abbrev Leaves : State → Step → Type 0
@@ -47,15 +49,14 @@ module _ (state : State) where
     taken_mask class.NotSupported needs h = inl refl
 
     control_mask : Switches (control_step_of state control)
-    unfolding judged_step_of
     control_mask =
-        pick_all Switches _ _ _ (λ y. inl refl)
-        (λ n. taken_mask (entry_of control.code).class (entry_of control.code).connector (named control.code))
+        judged_all Switches state (entry_of control.code) control _ (λ refusal e. inl refl)
+        (λ e. taken_mask (entry_of control.code).class (entry_of control.code).connector (named control.code))
 
   write_mask : (control : List ℕ) → Leaves state (event_step_of state (writes control)) ⊎ MaySwitch (writes control)
   unfolding control_of parsed_step_of
   write_mask control =
-      pick_all (λ (p : Parsed). Leaves state (parsed_step_of state p) ⊎ MaySwitch (writes control)) _ _ _ (λ y. inl refl)
+      pick_all (λ (p : Result Control WrongLength). Leaves state (parsed_step_of state p) ⊎ MaySwitch (writes control)) _ _ _ (λ y. inl refl)
       (λ n. by (differ_false (length control) 8 n) (control_mask (fields_of control)))
     where
       by : length control ≡ 8 → {A : Type 0} → A ⊎ (((fields_of control).code ≡ 0x01) ⊎ ((fields_of control).code ≡ 0x05))

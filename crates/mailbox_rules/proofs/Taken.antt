@@ -2,16 +2,15 @@
 use Prim.Native.Nat.{ℕ, suc, ◌%◌}
 use mathlib.Core.Bool.{true}
 use mathlib.Core.List.{List}
-use mathlib.Core.Path.{◌≡◌, sym, ◌∙◌, ap, subst}
-use native.Mathlib.Omega.{arith}
+use mathlib.Core.Path.{◌≡◌, refl, sym, ◌∙◌, ap, subst}
 use lib.ListN.{length}
+use Rattle.std.specs.Prelude.{Ok}
 use Rattle.commands.specs.Control.{fields_of}
 use Rattle.commands.specs.Table.{entry_of}
 use Rattle.commands.proofs.Fields.{eight_read}
 use Rattle.mailbox_state.specs.Answer.{mailbox_number_of}
 use Rattle.mailbox_state.specs.Status.{due_of}
 use Rattle.mailbox_state.specs.Step.{mailbox_step}
-use Rattle.mailbox_state.specs.declared.answer.Answer.TheVariants.{Taken}
 use Rattle.mailbox_state.specs.declared.mailbox.Mailbox.{Mailbox}
 use Rattle.mailbox_state.specs.declared.state.State.{State}
 use Rattle.mailbox_state.specs.declared.step.MessageEffect.{MessageEffect}
@@ -26,7 +25,7 @@ use Rattle.mailbox_rules.specs.Says.{Says}
 use Rattle.mailbox_rules.specs.Sentences.{answers, next, Ready, Gives, Completes}
 use Rattle.mailbox_rules.specs.Write.{control_step_of}
 use Rattle.mailbox_rules.proofs.ByCode as code
-use Rattle.mailbox_rules.proofs.Command.{write_refused}
+use Rattle.mailbox_rules.proofs.Command.{write_answer}
 use Rattle.mailbox_rules.proofs.Reached.{reached_next, shown_fits}
 
 module _ (m : Mailbox) where
@@ -44,9 +43,7 @@ module _ (m : Mailbox) where
       → mailbox_number_of (refusal_of (entry_of (fields_of control).code).class (situation_of m.state (fields_of control))) ≡ suc n
       → answers m (writes control) ≡ suc n
   refuses control eight n e =
-      numbered (writes control) _
-      (write_row control eight _ (write_refused m.state (fields_of control) (λ t. let z = sym e ∙ ap mailbox_number_of t in omega (arith, z))))
-      ∙ e
+      numbered (writes control) _ (write_row control eight _ refl) ∙ ap mailbox_number_of (write_answer m.state (fields_of control)) ∙ e
 
   pub ready_state : Ready m → code.Ready m.state
   ready_state r = record { on = r.on; still = r.still; acknowledged = r.acknowledged }
@@ -56,7 +53,7 @@ module _ {count : ℕ} {m : Mailbox} (r : Reached count m) where
   state = m.state
 
   -- An event that is taken gives what CCI says of the status then.
-  pub gives : (e : Event) (after : State) (effect : MessageEffect) → event_step_of state e ≡ mailbox_step after Taken effect → {size : ℕ} {set : List ℕ}
+  pub gives : (e : Event) (after : State) (effect : MessageEffect) → event_step_of state e ≡ mailbox_step after (Ok tt) effect → {size : ℕ} {set : List ℕ}
       → Says (cci_bits_of after.status after.changes.shown) (after.changes.shown % 128) size set
       → Gives m e size set (settled_of m.message effect (port_bytes e))
   gives e after effect row {size} {set} says =
@@ -69,7 +66,7 @@ module _ {count : ℕ} {m : Mailbox} (r : Reached count m) where
       }
 
   -- An event that completes a command or cancels it.
-  pub completes : (e : Event) (after : State) (effect : MessageEffect) → event_step_of state e ≡ mailbox_step after Taken effect
+  pub completes : (e : Event) (after : State) (effect : MessageEffect) → event_step_of state e ≡ mailbox_step after (Ok tt) effect
       → due_of after.status ≡ true → after.changes ≡ state.changes → {size : ℕ} {set : List ℕ}
       → Says (cci_bits_of after.status after.changes.shown) (after.changes.shown % 128) size set
       → Completes m e size set (settled_of m.message effect (port_bytes e))

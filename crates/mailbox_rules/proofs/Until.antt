@@ -6,9 +6,10 @@ use mathlib.Core.List.{List}
 use mathlib.Core.Logic.{◌⊎◌, inl, inr}
 use mathlib.Core.Path.{◌≡◌, refl, ◌∙◌, ap}
 use lib.ListN.{length}
+use Rattle.std.specs.Prelude.{Result, Ok, Err}
 use Rattle.commands.specs.Control.{fields_of, control_of}
-use Rattle.commands.specs.declared.control.Parsed.{Parsed}
-use Rattle.commands.specs.declared.control.Parsed.TheVariants.{Fields, WrongLength}
+use Rattle.commands.specs.declared.control.Control.{Control}
+use Rattle.commands.specs.declared.control.WrongLength.{WrongLength}
 use Rattle.commands.proofs.Fields.{eight_or_not}
 use Rattle.mailbox_state.specs.Status.{runs_of, due_of}
 use Rattle.mailbox_state.specs.declared.state.State.{State}
@@ -32,7 +33,7 @@ module _ (m : Mailbox) (r : runs_of m.state.status ≡ true) where
   failure_due = rw (failure_completes m.state r)
 
 module _ (m : Mailbox) (d : IsDue m) where
-  due_parsed : (control : List ℕ) (parsed : Parsed) → (parsed ≡ Fields (fields_of control)) ⊎ (parsed ≡ WrongLength)
+  due_parsed : (control : List ℕ) (parsed : Result Control WrongLength) → (parsed ≡ Ok (fields_of control)) ⊎ (parsed ≡ Err (record {}))
       → (due_of (parsed_step_of m.state parsed).state.status ≡ true) ⊎ MayEndDue (writes control)
   unfolding parsed_step_of
   due_parsed control parsed (inl e) = rw e (due_stays m.state (fields_of control) d)
@@ -46,7 +47,7 @@ module _ (m : Mailbox) (d : IsDue m) where
 
 -- A command runs until the port reports, but for CANCEL and PPM_RESET.
 module _ (m : Mailbox) (r : runs_of m.state.status ≡ true) where
-  run_parsed : (control : List ℕ) (parsed : Parsed) → (parsed ≡ Fields (fields_of control)) ⊎ (parsed ≡ WrongLength)
+  run_parsed : (control : List ℕ) (parsed : Result Control WrongLength) → (parsed ≡ Ok (fields_of control)) ⊎ (parsed ≡ Err (record {}))
       → ((parsed_step_of m.state parsed).state.status ≡ m.state.status) ⊎ MayEndRun (writes control)
   unfolding parsed_step_of
   run_parsed control parsed (inl e) = rw e (run_stays m.state (fields_of control) r)

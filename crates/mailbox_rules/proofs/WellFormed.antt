@@ -5,18 +5,17 @@ use mathlib.Core.Path.{◌≡◌, refl, sym, ◌∙◌, ap, subst}
 use native.Mathlib.Omega.{arith}
 use borrow.Author.Tests.{not-false}
 use lib.ListN.{length}
-use Rattle.basis.specs.Pick.{pick, pick_all, differ_false}
+use Rattle.std.specs.Prelude.{Ok, Result, Err}
+use Rattle.basis.specs.Pick.{pick, pick_all}
 use Rattle.commands.specs.Control.{control_of}
 use Rattle.commands.specs.Table.{entry_of}
 use Rattle.commands.specs.declared.control.Control.{Control}
-use Rattle.commands.specs.declared.control.Parsed.{Parsed}
-use Rattle.commands.specs.declared.control.Parsed.TheVariants.{Fields, WrongLength}
+use Rattle.commands.specs.declared.control.WrongLength.{WrongLength}
 use Rattle.commands.specs.declared.table.Class.{Class}
 use Rattle.commands.specs.declared.table.Class.TheVariants as class
 use Rattle.mailbox_state.specs.Answer.{mailbox_number_of}
 use Rattle.mailbox_state.specs.State.{off_of}
 use Rattle.mailbox_state.specs.Status.{runs_of}
-use Rattle.mailbox_state.specs.declared.answer.Answer.TheVariants.{Taken}
 use Rattle.mailbox_state.specs.declared.state.State.{State}
 use Rattle.mailbox_state.specs.declared.status.Command.{Command}
 use Rattle.mailbox_state.specs.declared.status.CommandStatus.{CommandStatus}
@@ -27,10 +26,10 @@ use Rattle.mailbox_rules.specs.Mailbox.{fresh_mailbox}
 use Rattle.mailbox_rules.specs.Refusal.{situation_of, refusal_of}
 use Rattle.mailbox_rules.specs.Report.{success_step_of, failure_step_of}
 use Rattle.mailbox_rules.specs.WellFormed.{Within, MayRun, RunsWell, WellFormed}
-use Rattle.mailbox_rules.specs.Write.{connector_there, with_status, resets, cancels, acknowledges, enables, command_of, starts_command, unsupported, taken_step_of, judged_step_of, control_step_of}
+use Rattle.mailbox_rules.specs.Write.{connector_there, with_status, resets, cancels, acknowledges, enables, command_of, starts_command, unsupported, taken_step_of, control_step_of}
 use Rattle.mailbox_rules.proofs.Absent.{there_only}
 use Rattle.mailbox_rules.proofs.Answers.{off_2}
-use Rattle.mailbox_rules.proofs.Command.{zero_taken}
+use Rattle.mailbox_rules.proofs.Command.{judged_all}
 use Rattle.mailbox_rules.proofs.Noted.{change_alters}
 use Rattle.mailbox_rules.proofs.Places.{none_within, noted_within, next_within}
 use Rattle.mailbox_rules.proofs.Steps.{event_connectors, event_changes}
@@ -56,11 +55,11 @@ module _ (state : State) (control : Control) where
   may_run_lem false run there = record { class = run; there = omega arith }
 
   -- A command is refused with 2 while notifications are off.
-  not_off : refusal_of class.Run (situation_of state control) ≡ Taken → (off : Bool) → off_of state.notifications ≡ off → off ≡ false
+  not_off : refusal_of class.Run (situation_of state control) ≡ Ok tt → (off : Bool) → off_of state.notifications ≡ off → off ≡ false
   not_off e false o = refl
   not_off e true o = absurd (omega (arith, ap mailbox_number_of (sym (off_2 (situation_of state control) o).run ∙ e)))
 
-  starts_well : (entry_of control.code).class ≡ class.Run → refusal_of class.Run (situation_of state control) ≡ Taken
+  starts_well : (entry_of control.code).class ≡ class.Run → refusal_of class.Run (situation_of state control) ≡ Ok tt
       → RunsWell (starts_command state needs_of control).state
   unfolding starts_command runs_of
   starts_well run taken =
@@ -68,7 +67,7 @@ module _ (state : State) (control : Control) where
       (λ there command busy.
       record { on = not_off taken _ refl; may_run = subst (MayRun state.connectors) (busy_same _ command busy) (may_run_lem needs_of run there) })
 
-  taken_well : (class : Class) → (entry_of control.code).class ≡ class → refusal_of class (situation_of state control) ≡ Taken
+  taken_well : (class : Class) → (entry_of control.code).class ≡ class → refusal_of class (situation_of state control) ≡ Ok tt
       → RunsWell (taken_step_of state class needs_of control).state
   unfolding taken_step_of runs_of
   taken_well class.Reset e taken = still (resets state).state refl
@@ -79,20 +78,19 @@ module _ (state : State) (control : Control) where
   taken_well class.NotSupported e taken = still (unsupported state).state refl
 
   write_well : RunsWell state → RunsWell (control_step_of state control).state
-  unfolding judged_step_of
   write_well h =
       let class = (entry_of control.code).class in
       let answer = refusal_of class (situation_of state control) in
-      pick_all (λ (s : Step). RunsWell s.state) _ _ _ (λ y. h) (λ n. taken_well class refl (zero_taken answer (differ_false (mailbox_number_of answer) 0 n)))
+      judged_all (λ (s : Step). RunsWell s.state) state (entry_of control.code) control answer (λ refusal e. h) (λ e. taken_well class refl e)
 
 module _ (state : State) (h : RunsWell state) where
   abbrev Keeps : Step → Type 0
   Keeps step = RunsWell step.state
 
-  parsed_well : (parsed : Parsed) → Keeps (parsed_step_of state parsed)
+  parsed_well : (parsed : Result Control WrongLength) → Keeps (parsed_step_of state parsed)
   unfolding parsed_step_of
-  parsed_well (Fields control) = write_well state control h
-  parsed_well WrongLength = h
+  parsed_well (Ok control) = write_well state control h
+  parsed_well (Err wrong) = h
 
   success_well : (n : ℕ) → Keeps (success_step_of state n)
   unfolding success_step_of runs_of

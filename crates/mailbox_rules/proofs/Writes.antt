@@ -6,6 +6,7 @@ use mathlib.Core.Logic.{◌⊎◌, inl, inr}
 use mathlib.Core.Path.{◌≡◌, refl, sym, ◌∙◌, ap, subst}
 use native.Mathlib.Omega.{arith}
 use lib.ListN.{length, get_or}
+use Rattle.std.specs.Prelude.{Ok}
 use Rattle.commands.specs.Control.{fields_of}
 use Rattle.commands.specs.Table.{entry, entry_of}
 use Rattle.commands.proofs.Rows.{rows, others, Named, named}
@@ -15,7 +16,7 @@ use Rattle.mailbox_state.specs.Answer.{mailbox_number_of}
 use Rattle.mailbox_state.specs.State.{mailbox_state}
 use Rattle.mailbox_state.specs.Status.{runs_of, due_of}
 use Rattle.mailbox_state.specs.Step.{mailbox_step, refused}
-use Rattle.mailbox_state.specs.declared.answer.Answer.TheVariants.{Taken, NothingToClear}
+use Rattle.mailbox_state.specs.declared.answer.Refusal.TheVariants.{NothingToClear}
 use Rattle.mailbox_state.specs.declared.mailbox.Mailbox.{Mailbox}
 use Rattle.mailbox_state.specs.declared.state.Changes.{Changes}
 use Rattle.mailbox_state.specs.declared.state.State.{State}
@@ -72,7 +73,7 @@ module _ {count : ℕ} {m : Mailbox} (r : Reached count m) where
     abbrev after : Mailbox
     after = next m (writes control)
 
-    starts : (command : port.Command) → length control ≡ 8 → control_step_of state fields ≡ mailbox_step (with_status state (Busy command)) Taken Kept
+    starts : (command : port.Command) → length control ≡ 8 → control_step_of state fields ≡ mailbox_step (with_status state (Busy command)) (Ok tt) Kept
         → Starts m (writes control) command
     unfolding settled_of runs_of
     starts command eight begun =
@@ -142,7 +143,7 @@ module _ {count : ℕ} {m : Mailbox} (r : Reached count m) where
           found = ap entry_of c.coded ∙ needs_entry code n
 
           row : (fields.connector ≡ 0) ⊎ (count < fields.connector)
-              → control_step_of state fields ≡ mailbox_step (with_status state Failed) Taken ZeroedAtCompletion
+              → control_step_of state fields ≡ mailbox_step (with_status state Failed) (Ok tt) ZeroedAtCompletion
           row (inl z) = absent_zero state fields (ready_state m ready) found z
           row (inr above) = absent_above state fields (ready_state m ready) found (omega (arith, reached_count r))
 
@@ -160,7 +161,7 @@ module _ {count : ℕ} {m : Mailbox} (r : Reached count m) where
 
     -- ACK_CC_CI: taken, or 5.
     acknowledges : (now : Changes)
-        → event_step_of state (writes control) ≡ mailbox_step (mailbox_state state.connectors state.notifications Acknowledged now) Taken Kept
+        → event_step_of state (writes control) ≡ mailbox_step (mailbox_state state.connectors state.notifications Acknowledged now) (Ok tt) Kept
         → Acknowledges m (writes control)
     unfolding settled_of due_of
     acknowledges now row =
@@ -177,7 +178,7 @@ module _ {count : ℕ} {m : Mailbox} (r : Reached count m) where
         abbrev acked : State
         acked = mailbox_state state.connectors state.notifications Acknowledged (next_shown_of state.changes)
 
-        change_row : (shown m ≡ 0 → ⊥) → (d : Bool) → due m ≡ d → control_step_of state fields ≡ mailbox_step acked Taken Kept
+        change_row : (shown m ≡ 0 → ⊥) → (d : Bool) → due m ≡ d → control_step_of state fields ≡ mailbox_step acked (Ok tt) Kept
         change_row h true d = code.both_acked state fields c.coded on still h d b (k ∙ d)
         change_row h false d = code.change_acked state fields c.coded on still h d b (k ∙ d)
 

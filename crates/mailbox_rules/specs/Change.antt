@@ -1,10 +1,10 @@
 -- What a change on a connector does: 9, and then the mask (01, The mailbox; 01, Numbers we answer).
-use Rattle.std.specs.Prelude.{ℕ, Bool, false, not, ltb}
+use Rattle.std.specs.Prelude.{ℕ, Bool, false, not, ltb, Ok}
 use Rattle.std.specs.Int.Bits.{bit_and}
 use Rattle.basis.specs.Pick.{pick}
 use Rattle.mailbox_state.specs.State.{mailbox_state}
 use Rattle.mailbox_state.specs.Step.{mailbox_step, refused}
-use Rattle.mailbox_state.specs.declared.answer.Answer.TheVariants.{Taken, NoSuchConnector}
+use Rattle.mailbox_state.specs.declared.answer.Refusal.TheVariants.{NoSuchConnector}
 use Rattle.mailbox_state.specs.declared.state.Notifications.{Notifications}
 use Rattle.mailbox_state.specs.declared.state.Notifications.TheVariants.{Off, On}
 use Rattle.mailbox_state.specs.declared.state.State.{State}
@@ -23,12 +23,12 @@ heard_of (On mask) reason = meets_of reason mask
 
 abbrev pub records_change : State → ℕ → Step
 records_change state connector =
-    mailbox_step (mailbox_state state.connectors state.notifications state.status (noted_of state.changes connector)) Taken Kept
+    mailbox_step (mailbox_state state.connectors state.notifications state.status (noted_of state.changes connector)) (Ok tt) Kept
 
 -- A change that is not heard is dropped with answer 0.
 unfoldable pub present_step_of : State → ℕ → ℕ → Step
 present_step_of state connector reason =
-    pick (not (heard_of state.notifications reason)) (mailbox_step state Taken Kept) (records_change state connector)
+    pick (not (heard_of state.notifications reason)) (mailbox_step state (Ok tt) Kept) (records_change state connector)
 
 unfoldable pub change_step_of : State → ℕ → ℕ → Step
 change_step_of state connector reason =

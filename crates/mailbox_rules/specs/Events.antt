@@ -1,10 +1,10 @@
 -- What comes to a mailbox, what is decided on it, and what the mailbox answers and is then (01, The mailbox; 01, Numbers we answer).
-use Rattle.std.specs.Prelude.{ℕ, List, [], length}
+use Rattle.std.specs.Prelude.{ℕ, List, [], length, Result, Ok, Err}
 use Rattle.commands.specs.Control.{control_of}
-use Rattle.commands.specs.declared.control.Parsed.{Parsed}
-use Rattle.commands.specs.declared.control.Parsed.TheVariants.{Fields, WrongLength}
+use Rattle.commands.specs.declared.control.Control.{Control}
+use Rattle.commands.specs.declared.control.WrongLength.{WrongLength}
 use Rattle.mailbox_state.specs.Step.{refused}
-use Rattle.mailbox_state.specs.declared.answer.Answer.TheVariants.{ControlLength}
+use Rattle.mailbox_state.specs.declared.answer.Refusal.TheVariants.{ControlLength}
 use Rattle.mailbox_state.specs.declared.state.State.{State}
 use Rattle.mailbox_state.specs.declared.step.Step.{Step}
 use Rattle.mailbox_state.specs.declared.mailbox.Mailbox.{Mailbox}
@@ -23,9 +23,9 @@ pub data Event : Type 0 where
   changes : ℕ → ℕ → Event
 
 -- A CONTROL that is not 8 bytes is 1, before everything.
-unfoldable pub parsed_step_of : State → Parsed → Step
-parsed_step_of state WrongLength = refused state ControlLength
-parsed_step_of state (Fields control) = control_step_of state control
+unfoldable pub parsed_step_of : State → Result Control WrongLength → Step
+parsed_step_of state (Err wrong) = refused state ControlLength
+parsed_step_of state (Ok control) = control_step_of state control
 
 abbrev pub write_step_of : State → List ℕ → Step
 write_step_of state control = parsed_step_of state (control_of control)

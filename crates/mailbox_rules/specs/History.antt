@@ -1,5 +1,5 @@
 -- A history: events, one after the other, each with its answer (01, The mailbox).
-use Rattle.std.specs.Prelude.{ℕ, List, [], ◌∷◌, ◌≡◌}
+use Rattle.std.specs.Prelude.{ℕ, List, [], ◌∷◌, ◌≡◌, Ok}
 use Rattle.mailbox_state.specs.Answer.{mailbox_number_of}
 use Rattle.mailbox_state.specs.declared.mailbox.Mailbox.{Mailbox}
 use Rattle.mailbox_state.specs.declared.mailbox.Outcome.{Outcome}
@@ -29,12 +29,9 @@ history_from m (e ∷ events) =
     let after = history_from (event_of m e).mailbox events in
     history (answered_of e (event_of m e) ∷ after.answered) after.mailbox
 
--- From a fresh mailbox with so many connectors.
-abbrev pub history_of : ℕ → List Event → History
-history_of count events = history_from (mailbox_fresh_of count).mailbox events
-
--- A mailbox that a history ends with; a count that is refused with 29 has none.
+-- A mailbox that a history of a fresh one ends with; a count that is refused with 29 has none.
 pub record Reached (count : ℕ) (m : Mailbox) : Type 0 where
-  pub made : (mailbox_fresh_of count).number ≡ 0
+  pub start : Mailbox
+  pub made : mailbox_fresh_of count ≡ Ok start
   pub events : List Event
-  pub ending : (history_of count events).mailbox ≡ m
+  pub ending : (history_from start events).mailbox ≡ m

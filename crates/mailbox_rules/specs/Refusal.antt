@@ -1,13 +1,13 @@
 -- Which refusal a write meets, in the order of document 01: PPM_RESET, 2, 3, 4, 5, 6 (01, Numbers we answer).
-use Rattle.std.specs.Prelude.{ℕ, Bool, not, ◌&&◌, ◌||◌, eqb}
+use Rattle.std.specs.Prelude.{ℕ, Bool, not, ◌&&◌, ◌||◌, eqb, Ok, Err}
 use Rattle.basis.specs.Pick.{pick, differ}
 use Rattle.commands.specs.declared.table.Class.{Class}
 use Rattle.commands.specs.declared.table.Class.TheVariants.{Reset, Cancel, Acknowledge, Enable, Run, NotSupported}
 use Rattle.commands.specs.declared.control.Control.{Control}
 use Rattle.mailbox_state.specs.Status.{runs_of, due_of}
 use Rattle.mailbox_state.specs.State.{off_of}
-use Rattle.mailbox_state.specs.declared.answer.Answer.{Answer}
-use Rattle.mailbox_state.specs.declared.answer.Answer.TheVariants.{Taken, NotificationsOff, CommandRuns, AcknowledgementDue, NothingToClear, NothingToCancel}
+use Rattle.mailbox_state.specs.Answer.{Answer}
+use Rattle.mailbox_state.specs.declared.answer.Refusal.TheVariants.{NotificationsOff, CommandRuns, AcknowledgementDue, NothingToClear, NothingToCancel}
 use Rattle.mailbox_state.specs.declared.situation.Situation.{Situation}
 use Rattle.mailbox_state.specs.declared.state.State.{State}
 
@@ -43,23 +43,23 @@ clears_nothing s = not (s.change || s.completed) || (s.change && not s.shown) ||
 -- CANCEL's own.
 unfoldable pub refusal_of : Class → Situation → Answer
 refusal_of class s =
-    pick (is Reset class) Taken
-    (pick (s.off && not (is Enable class)) NotificationsOff
-    (pick (s.runs && not (is Cancel class)) CommandRuns
-    (pick (s.due && not (is Acknowledge class && s.completed)) AcknowledgementDue
-    (pick (is Acknowledge class && clears_nothing s) NothingToClear
-    (pick (is Cancel class && not s.runs) NothingToCancel
-    Taken)))))
+    pick (is Reset class) (Ok tt)
+    (pick (s.off && not (is Enable class)) (Err NotificationsOff)
+    (pick (s.runs && not (is Cancel class)) (Err CommandRuns)
+    (pick (s.due && not (is Acknowledge class && s.completed)) (Err AcknowledgementDue)
+    (pick (is Acknowledge class && clears_nothing s) (Err NothingToClear)
+    (pick (is Cancel class && not s.runs) (Err NothingToCancel)
+    (Ok tt))))))
 
 -- A command that runs while notifications are off: 0x05 is 3, everything else but PPM_RESET is 2.
 abbrev pub runs_while_off : Class → Answer
-runs_while_off Reset = Taken
-runs_while_off Cancel = NotificationsOff
-runs_while_off Acknowledge = NotificationsOff
-runs_while_off Enable = CommandRuns
-runs_while_off Run = NotificationsOff
-runs_while_off NotSupported = NotificationsOff
+runs_while_off Reset = Ok tt
+runs_while_off Cancel = Err NotificationsOff
+runs_while_off Acknowledge = Err NotificationsOff
+runs_while_off Enable = Err CommandRuns
+runs_while_off Run = Err NotificationsOff
+runs_while_off NotSupported = Err NotificationsOff
 
 -- What refuses a command outside a run: 2, then 4.
 unfoldable pub stopped_of : Bool → Bool → Answer → Answer
-stopped_of off due otherwise = pick off NotificationsOff (pick due AcknowledgementDue otherwise)
+stopped_of off due otherwise = pick off (Err NotificationsOff) (pick due (Err AcknowledgementDue) otherwise)

@@ -1,6 +1,6 @@
 -- Document 01's sentences on the mailbox, of every mailbox that a history leads to (01, The mailbox; 01, Numbers we answer). This file is the
 -- whole statement, and `sentences` in proofs/Sentences.antt is its proof.
-use Rattle.std.specs.Prelude.{ℕ, ◌-◌, ◌/◌, ◌%◌, ◌^◌, ◌≤◌, ◌<◌, Bool, true, false, List, [], ◌∷◌, ◌++◌, ◌⊎◌, ◌≡◌, length, get_or, replicate}
+use Rattle.std.specs.Prelude.{ℕ, ◌-◌, ◌/◌, ◌%◌, ◌^◌, ◌≤◌, ◌<◌, Bool, true, false, List, [], ◌∷◌, ◌++◌, ◌⊎◌, ◌≡◌, length, get_or, replicate, IfOk, IsErr}
 use Rattle.commands.specs.Control.{fields_of}
 use Rattle.mailbox_state.specs.Answer.{mailbox_number_of}
 use Rattle.mailbox_state.specs.State.{off_of}
@@ -11,7 +11,7 @@ use Rattle.mailbox_state.specs.declared.status.CommandStatus.TheVariants.{Busy}
 use Rattle.mailbox_state.specs.declared.mailbox.Mailbox.{Mailbox}
 use Rattle.mailbox_rules.specs.Says.{Says}
 use Rattle.mailbox_rules.specs.Change.{meets_of}
-use Rattle.mailbox_rules.specs.Mailbox.{mailbox_fresh_of, message_in_of, mailbox_cci_of}
+use Rattle.mailbox_rules.specs.Mailbox.{mailbox_fresh_of, start_number_of, message_in_of, mailbox_cci_of}
 use Rattle.mailbox_rules.specs.Events.{Event, writes, succeeds, fails, changes, event_of}
 use Rattle.mailbox_rules.specs.History.{Reached}
 use Rattle.mailbox_rules.specs.Until.{MayEndDue, MayEndRun}
@@ -110,16 +110,16 @@ MaySwitch (succeeds bytes) = ⊥
 MaySwitch fails = ⊥
 MaySwitch (changes c reason) = ⊥
 
--- There are 1 to 8 connectors; other counts: 29, no mailbox, and what is returned beside it has no connector. A fresh mailbox has CCI 0 and
--- notifications off; nothing runs, no acknowledgement is due, and no change is shown or waits.
+-- There are 1 to 8 connectors; other counts: 29, no mailbox. A fresh mailbox has CCI 0 and notifications off; nothing runs, no acknowledgement
+-- is due, and no change is shown or waits.
 pub record Start (count : ℕ) : Type 0 where
-  pub counts : 1 ≤ count → count ≤ 8 → (mailbox_fresh_of count).number ≡ 0
-  pub others : (count ≡ 0) ⊎ (8 < count) → ((mailbox_fresh_of count).number ≡ 29) × ((mailbox_fresh_of count).mailbox.state.connectors ≡ 0)
-  pub cci : mailbox_cci_of (mailbox_fresh_of count).mailbox ≡ 0
-  pub off : off (mailbox_fresh_of count).mailbox ≡ true
-  pub message_in : message_in_of (mailbox_fresh_of count).mailbox ≡ zeros
-  pub still : (runs (mailbox_fresh_of count).mailbox ≡ false) × (due (mailbox_fresh_of count).mailbox ≡ false)
-  pub no_change : NoChange (mailbox_fresh_of count).mailbox
+  pub counts : 1 ≤ count → count ≤ 8 → start_number_of (mailbox_fresh_of count) ≡ 0
+  pub others : (count ≡ 0) ⊎ (8 < count) → (start_number_of (mailbox_fresh_of count) ≡ 29) × IsErr (mailbox_fresh_of count)
+  pub cci : IfOk (mailbox_fresh_of count) (λ m. mailbox_cci_of m ≡ 0)
+  pub off : IfOk (mailbox_fresh_of count) (λ m. off m ≡ true)
+  pub message_in : IfOk (mailbox_fresh_of count) (λ m. message_in_of m ≡ zeros)
+  pub still : IfOk (mailbox_fresh_of count) (λ m. (runs m ≡ false) × (due m ≡ false))
+  pub no_change : IfOk (mailbox_fresh_of count) NoChange
 
 pub record Sentences (count : ℕ) (m : Mailbox) : Type 0 where
   -- 1 to 8 connectors, fixed at the start.

@@ -1,17 +1,15 @@
 -- What a write of CONTROL does (01, The mailbox).
-use Rattle.std.specs.Prelude.{ℕ, Bool, not, ◌&&◌, eqb, leb}
-use Rattle.basis.specs.Pick.{pick, differ}
+use Rattle.std.specs.Prelude.{ℕ, Bool, not, ◌&&◌, eqb, leb, Ok, Err}
+use Rattle.basis.specs.Pick.{pick}
 use Rattle.commands.specs.Codes.{connector_reset}
 use Rattle.commands.specs.Table.{entry_of}
 use Rattle.commands.specs.declared.table.Class.{Class}
 use Rattle.commands.specs.declared.table.Class.TheVariants as class
 use Rattle.commands.specs.declared.table.Entry.{Entry}
 use Rattle.commands.specs.declared.control.Control.{Control}
-use Rattle.mailbox_state.specs.Answer.{mailbox_number_of}
+use Rattle.mailbox_state.specs.Answer.{Answer}
 use Rattle.mailbox_state.specs.State.{no_changes, mailbox_state}
 use Rattle.mailbox_state.specs.Step.{mailbox_step, refused}
-use Rattle.mailbox_state.specs.declared.answer.Answer.{Answer}
-use Rattle.mailbox_state.specs.declared.answer.Answer.TheVariants.{Taken}
 use Rattle.mailbox_state.specs.declared.status.Command.{Command}
 use Rattle.mailbox_state.specs.declared.status.CommandStatus.{CommandStatus}
 use Rattle.mailbox_state.specs.declared.status.CommandStatus.TheVariants.{ResetDone, Busy, Completed, Failed, NotSupported, Cancelled, Acknowledged}
@@ -32,23 +30,23 @@ with_status state status = mailbox_state state.connectors state.notifications st
 
 -- PPM_RESET: changes and mask cleared, notifications off, nothing running, no acknowledgement due, MESSAGE_IN zero.
 abbrev pub resets : State → Step
-resets state = mailbox_step (mailbox_state state.connectors Off ResetDone no_changes) Taken ZeroedAtReset
+resets state = mailbox_step (mailbox_state state.connectors Off ResetDone no_changes) (Ok tt) ZeroedAtReset
 
 -- CANCEL: the command runs no more.
 abbrev pub cancels : State → Step
-cancels state = mailbox_step (with_status state Cancelled) Taken ZeroedAtCancel
+cancels state = mailbox_step (with_status state Cancelled) (Ok tt) ZeroedAtCancel
 
 -- ACK_CC_CI: with bit 16 set it also clears the connector shown.
 abbrev pub acknowledges : State → Bool → Step
 acknowledges state change =
     mailbox_step
     (mailbox_state state.connectors state.notifications Acknowledged (pick change (next_shown_of state.changes) state.changes))
-    Taken
+    (Ok tt)
     Kept
 
 -- SET_NOTIFICATION_ENABLE: takes the mask, notifications on, completes at once.
 abbrev pub enables : State → ℕ → Step
-enables state mask = mailbox_step (mailbox_state state.connectors (On mask) (Completed 0) state.changes) Taken ZeroedAtCompletion
+enables state mask = mailbox_step (mailbox_state state.connectors (On mask) (Completed 0) state.changes) (Ok tt) ZeroedAtCompletion
 
 -- What the port is to do.
 abbrev pub command_of : Bool → Control → Command
@@ -63,12 +61,12 @@ command_of needs control =
 unfoldable pub starts_command : State → Bool → Control → Step
 starts_command state needs control =
     pick (needs && not (connector_there control.connector state.connectors))
-    (mailbox_step (with_status state Failed) Taken ZeroedAtCompletion)
-    (mailbox_step (with_status state (Busy (command_of needs control))) Taken Kept)
+    (mailbox_step (with_status state Failed) (Ok tt) ZeroedAtCompletion)
+    (mailbox_step (with_status state (Busy (command_of needs control))) (Ok tt) Kept)
 
 -- Other codes complete at once with bits 25 and 31.
 abbrev pub unsupported : State → Step
-unsupported state = mailbox_step (with_status state NotSupported) Taken ZeroedAtCompletion
+unsupported state = mailbox_step (with_status state NotSupported) (Ok tt) ZeroedAtCompletion
 
 unfoldable pub taken_step_of : State → Class → Bool → Control → Step
 taken_step_of state class.Reset needs control = resets state
@@ -80,9 +78,8 @@ taken_step_of state class.NotSupported needs control = unsupported state
 
 -- A write that is refused keeps everything.
 unfoldable pub judged_step_of : State → Entry → Control → Answer → Step
-judged_step_of state entry control answer =
-    pick (differ (mailbox_number_of answer) 0) (refused state answer)
-    (taken_step_of state entry.class entry.connector control)
+judged_step_of state entry control (Ok taken) = taken_step_of state entry.class entry.connector control
+judged_step_of state entry control (Err refusal) = refused state refusal
 
 abbrev pub control_step_of : State → Control → Step
 control_step_of state control =

@@ -1,6 +1,10 @@
-// The mailbox by value, with its MESSAGE_IN inside, and what a call returns of it (01, The mailbox).
+// The mailbox by value, with its MESSAGE_IN inside, what a call returns of it, and why there is none (01, The mailbox).
+ghost use Rattle.std.specs.Prelude.{◌≡◌};
+ghost use Rattle.mailbox_state.specs.Connectors.{no_mailbox_number_of};
+
 use crate::answer::Answer;
 use crate::state::State;
+use numbers::Numbered;
 
 #[derive(Clone, Copy)]
 pub struct Mailbox {
@@ -14,10 +18,14 @@ pub struct Outcome {
     pub answer: Answer,
 }
 
-// What a start returns: `number` is 0, or 29 for a count that no mailbox has. An enum of this language holds no array, so the number is
-// beside the mailbox; beside a 29 it has no connector.
+// Of a count of connectors that no mailbox has.
 #[derive(Clone, Copy)]
-pub struct Fresh {
-    pub mailbox: Mailbox,
-    pub number: u8,
+pub struct NoMailbox;
+
+impl Numbered for NoMailbox {
+    ghost number_of = { no_mailbox_number_of };
+
+    fn number(self) -> u8 {
+        29
+    }
 }

@@ -4,7 +4,7 @@ use Rattle.image.specs.Blocks.{blocks_of}
 use Rattle.image.specs.Sum.{sum_of}
 use Rattle.wire.specs.Written.{response_bytes}
 use Rattle.wire.specs.declared.response.Response.TheVariants.{Initiate}
-use Rattle.mailbox_rules.specs.Mailbox.{mailbox_fresh_of, mailbox_cci_of}
+use Rattle.mailbox_rules.specs.Mailbox.{fresh_mailbox, mailbox_cci_of}
 use Rattle.mailbox_rules.specs.Events.{Event, writes, changes}
 use Rattle.mailbox_rules.specs.History.{history_from}
 use Rattle.mailbox_state.specs.declared.mailbox.Mailbox.{Mailbox}
@@ -18,7 +18,7 @@ after m events = (history_from m events).mailbox
 
 -- Two connectors, after enabling (mask FFFF) and ACK.
 abbrev pub enabled : Mailbox
-enabled = after (mailbox_fresh_of 2).mailbox (control 0x05 0xFF 0xFF ∷ control 0x04 0x02 0x00 ∷ [])
+enabled = after (fresh_mailbox 2) (control 0x05 0xFF 0xFF ∷ control 0x04 0x02 0x00 ∷ [])
 
 -- A file's blocks, a capacity's bytes in a ready INITIATE answer, the sum of accepted bytes, CCI after these events.
 pub data Example : Type 0 where

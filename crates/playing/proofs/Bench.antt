@@ -18,8 +18,7 @@ use Rattle.mailbox_rules.specs.Changes as changes
 use Rattle.mailbox_rules.specs.Refusal.{refusal_of}
 use Rattle.mailbox_rules.specs.Report.{success_step_of, failure_step_of}
 use Rattle.mailbox_rules.specs.Write.{connector_there, starts_command, taken_step_of, judged_step_of}
-use Rattle.mailbox_state.specs.Connectors.{connectors_number_of}
-use Rattle.mailbox_rules.specs.Mailbox.{fresh_mailbox, mailbox_fresh_of}
+use Rattle.mailbox_rules.specs.Mailbox.{fresh_mailbox}
 use Rattle.mailbox_rules.specs.Events.{parsed_step_of}
 use Rattle.mailbox_rules.specs.History.{history_from}
 use Rattle.playing.specs.Turn.{event_in}
@@ -60,5 +59,5 @@ pub record Cases : Type 0 where
   pub misses : printed_of (masked ++ 0x02 ∷ 0x01 ∷ 0x00 ∷ 0x02 ∷ []) ≡ text_of 0x80000000 0 ++ text_of 0x20000000 0 ++ text_of 0x20000000 0
 
 pub cases : Cases
-unfolding replayed_of history_from apart_of turns next_record_of event_in digit_of decimal_of tail_of connectors_number_of fresh_mailbox mailbox_fresh_of parsed_step_of control_of fields_of entry_of judged_step_of refusal_of taken_step_of starts_command connector_there pick differ off_of runs_of due_of cci.cci_bits_of success_step_of change.change_step_of present_step_of heard_of meets_of changes.noted_of changes.next_shown_of changes.lowest_from changes.marked_of failure_step_of
+unfolding replayed_of history_from apart_of turns next_record_of event_in digit_of decimal_of tail_of fresh_mailbox parsed_step_of control_of fields_of entry_of judged_step_of refusal_of taken_step_of starts_command connector_there pick differ off_of runs_of due_of cci.cci_bits_of success_step_of change.change_step_of present_step_of heard_of meets_of changes.noted_of changes.next_shown_of changes.lowest_from changes.marked_of failure_step_of
 cases = record { whole_case = refl; failure = refl; second = refl; third = refl; meets = refl; misses = refl }

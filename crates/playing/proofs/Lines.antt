@@ -4,17 +4,17 @@ use mathlib.Core.Bool.{true}
 use mathlib.Core.Path.{◌≡◌, ◌∙◌, ap}
 use native.Mathlib.Omega.{arith}
 use lib.ListN.{length, get_or, take, replicate, length-replicate, replicate-append-replicate}
+use Rattle.std.specs.Prelude.{Ok, Err}
 use Rattle.printing.specs.Line.{line_longest, text_of}
 use Rattle.printing.specs.Digits.{figure, decimal_of}
 use Rattle.printing.proofs.Digits.{Figures, decimal_figures}
 use Rattle.printing.proofs.Texts.{line_holds, line_sized, Says, line_says, no_zero_in_front}
 use Rattle.recording.specs.declared.record.Record.{Record}
 use Rattle.recording.specs.declared.record.Record.TheVariants.{Success}
-use Rattle.mailbox_state.specs.Answer.{mailbox_number_of}
+use Rattle.mailbox_state.specs.Answer.{Answer, mailbox_number_of}
 use Rattle.mailbox_state.specs.declared.mailbox.Mailbox.{Mailbox}
 use Rattle.mailbox_state.specs.Status.{runs_of}
-use Rattle.mailbox_state.specs.declared.answer.Answer.{Answer}
-use Rattle.mailbox_state.specs.declared.answer.Answer.TheVariants.{Taken, ControlLength, NotificationsOff, CommandRuns, AcknowledgementDue, NothingToClear, NothingToCancel, NothingRuns, DataTooLong, NoSuchConnector}
+use Rattle.mailbox_state.specs.declared.answer.Refusal.TheVariants.{ControlLength, NotificationsOff, CommandRuns, AcknowledgementDue, NothingToClear, NothingToCancel, NothingRuns, DataTooLong, NoSuchConnector}
 use Rattle.mailbox_rules.specs.History.{Reached}
 use Rattle.mailbox_rules.specs.Mailbox.{mailbox_cci_of, message_in_of}
 use Rattle.mailbox_rules.proofs.Message.{success_fills}
@@ -32,16 +32,16 @@ unfolding turn_of printed
 turn_line m r = (line_holds (text_of (mailbox_cci_of (outcome_of m r).mailbox) (mailbox_number_of (outcome_of m r).answer))).1
 
 number_small : (a : Answer) → mailbox_number_of a < 256
-number_small Taken = omega arith
-number_small ControlLength = omega arith
-number_small NotificationsOff = omega arith
-number_small CommandRuns = omega arith
-number_small AcknowledgementDue = omega arith
-number_small NothingToClear = omega arith
-number_small NothingToCancel = omega arith
-number_small NothingRuns = omega arith
-number_small DataTooLong = omega arith
-number_small NoSuchConnector = omega arith
+number_small (Ok taken) = omega arith
+number_small (Err ControlLength) = omega arith
+number_small (Err NotificationsOff) = omega arith
+number_small (Err CommandRuns) = omega arith
+number_small (Err AcknowledgementDue) = omega arith
+number_small (Err NothingToClear) = omega arith
+number_small (Err NothingToCancel) = omega arith
+number_small (Err NothingRuns) = omega arith
+number_small (Err DataTooLong) = omega arith
+number_small (Err NoSuchConnector) = omega arith
 
 -- So what is read in it, after any history, is CCI and the answer's number.
 pub turn_says : {count : ℕ} {m : Mailbox} → Reached count m → (r : Record)

@@ -4,14 +4,14 @@ use Rattle.printing.specs.Line.{text_of, stop_text}
 use Rattle.recording.specs.Apart.{Apart, apart_of}
 use Rattle.recording.specs.declared.reader.Ending.{Ending}
 use Rattle.recording.specs.declared.reader.Ending.TheVariants.{Whole, Cut, UnknownKind}
-use Rattle.mailbox_rules.specs.Mailbox.{mailbox_fresh_of}
+use Rattle.mailbox_rules.specs.Mailbox.{fresh_mailbox}
 use Rattle.mailbox_rules.specs.History.{Answered, history_from}
 use Rattle.mailbox_state.specs.declared.mailbox.Mailbox.{Mailbox}
 use Rattle.playing.specs.Turn.{event_in}
 
 -- Two connectors.
 abbrev pub begun : Mailbox
-begun = (mailbox_fresh_of 2).mailbox
+begun = fresh_mailbox 2
 
 -- Each record gives one line: CCI after it, and the answer's number.
 abbrev pub lines_of : List Answered → List ℕ

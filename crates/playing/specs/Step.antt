@@ -1,8 +1,7 @@
 -- What a record does to MESSAGE_IN, and the line that it prints from the state and the answer alone (01, Replay program).
 use Rattle.printing.specs.Line.{line_of}
 use Rattle.printing.specs.declared.text.Line.{Line}
-use Rattle.mailbox_state.specs.Answer.{mailbox_number_of}
-use Rattle.mailbox_state.specs.declared.answer.Answer.{Answer}
+use Rattle.mailbox_state.specs.Answer.{Answer, mailbox_number_of}
 use Rattle.mailbox_state.specs.declared.state.State.{State}
 use Rattle.mailbox_state.specs.declared.step.MessageEffect.{MessageEffect}
 use Rattle.mailbox_state.specs.declared.step.MessageEffect.TheVariants.{Kept, ZeroedAtReset, ZeroedAtCancel, ZeroedAtCompletion, Filled}

@@ -8,6 +8,7 @@ ghost use Rattle.playing.specs.Step.{zeroed_of, line_after};
 use mailbox_state::answer::Answer;
 use mailbox_state::state::State;
 use mailbox_state::step::{MessageEffect, Step};
+use numbers::Numbered;
 use printing::{Line, line_of};
 use recording::Record;
 
@@ -28,7 +29,7 @@ pub(crate) fn line_after(state: State, answer: Answer) -> Line
 {
     let status = state.status;
     let cci = mailbox_decide::cci(status, state.changes.shown);
-    line_of(cci, mailbox_decide::answer_number(answer))
+    line_of(cci, answer.number())
 }
 
 // The bytes of a recorded success are zeros (01, Replay program), so that MESSAGE_IN is zeroed where it would be filled.

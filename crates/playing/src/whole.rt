@@ -11,11 +11,11 @@ use recording::Ending;
 // Two connectors (01, Replay program).
 const CONNECTORS: u8 = 2;
 
+#[tactic(auto, unfolding(mailbox_rules::specs::Mailbox::mailbox_fresh_of, mailbox_state::specs::Connectors::connectors_of, basis::specs::Pick::pick))]
 pub fn begin() -> Mailbox
     ensures { result ≡ begun }
 {
-    let fresh = mailbox::fresh(CONNECTORS);
-    fresh.mailbox
+    mailbox::fresh(CONNECTORS).unwrap()
 }
 
 // The line that closes a recording which ends here: none where it is whole.

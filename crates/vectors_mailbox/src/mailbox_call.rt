@@ -2,28 +2,28 @@
 use crate::mailbox_held::Held;
 use crate::mailbox_outcome;
 use crate::mailbox_word::Step;
-use mailbox_state::mailbox::Outcome;
+use mailbox_state::mailbox::{Mailbox, Outcome};
+use numbers::Numbered;
 use saying::Said;
 use script::Field;
 
-pub(crate) fn run(step: Step, words: &[u8], held: Held) -> Held {
+pub(crate) fn run(step: Step, words: &[u8], mailbox: Mailbox, held: Held) -> Held {
     match step {
-        Step::Bytes { reported } => spelled(reported, words, held),
-        Step::Failure => failure(words, held),
-        Step::Change => change(words, held),
-        Step::Message => message(words, held),
+        Step::Bytes { reported } => spelled(reported, words, mailbox, held),
+        Step::Failure => failure(words, mailbox, held),
+        Step::Change => change(words, mailbox, held),
+        Step::Message => message(words, mailbox, held),
     }
 }
 
 // A script can report more than 255 bytes, for 8 (01, Numbers we answer).
-fn spelled(reported: bool, words: &[u8], held: Held) -> Held {
+fn spelled(reported: bool, words: &[u8], mailbox: Mailbox, held: Held) -> Held {
     let spelled = script::spell(words);
     if !spelled.known {
         return held.says(Said::not_understood());
     }
     let space = spelled.bytes;
     let bytes = script::upto(&space, spelled.len);
-    let mailbox = held.mailbox;
     if reported {
         return ended(mailbox::report_success(mailbox, bytes));
     }
@@ -31,32 +31,27 @@ fn spelled(reported: bool, words: &[u8], held: Held) -> Held {
 }
 
 fn ended(outcome: Outcome) -> Held {
-    let answer = outcome.answer;
-    let mailbox = outcome.mailbox;
-    mailbox_outcome::left(mailbox_decide::answer_number(answer), mailbox)
+    mailbox_outcome::left(outcome.answer.number(), outcome.mailbox)
 }
 
-fn failure(words: &[u8], held: Held) -> Held {
+fn failure(words: &[u8], mailbox: Mailbox, held: Held) -> Held {
     if words.len() != 0 {
         return held.says(Said::not_understood());
     }
-    let mailbox = held.mailbox;
     ended(mailbox::report_failure(mailbox))
 }
 
 // Every connector number of 8 bits is spelled, for 9 (01, Numbers we answer).
-fn change(words: &[u8], held: Held) -> Held {
+fn change(words: &[u8], mailbox: Mailbox, held: Held) -> Held {
     let connector = Field::none().next(words, 255);
     let reason = connector.next(words, 65535);
     if !reason.is_last(words) {
         return held.says(Said::not_understood());
     }
-    let mailbox = held.mailbox;
     ended(mailbox::change(mailbox, connector.byte(), reason.word()))
 }
 
-fn message(words: &[u8], held: Held) -> Held {
-    let mailbox = held.mailbox;
+fn message(words: &[u8], mailbox: Mailbox, held: Held) -> Held {
     let message = mailbox::message_in(mailbox);
     held.says(saying::look(words, &message))
 }

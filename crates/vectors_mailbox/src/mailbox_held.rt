@@ -2,21 +2,16 @@
 use mailbox_state::mailbox::Mailbox;
 use saying::Said;
 
-// No enum can hold the bytes of MESSAGE_IN, so `there` says whether `mailbox` is one that a line made.
 #[derive(Clone, Copy)]
 pub(crate) struct Held {
-    pub there: bool,
-    pub mailbox: Mailbox,
+    pub mailbox: Option<Mailbox>,
     pub said: Said,
 }
 
 impl Held {
     pub(crate) fn nothing() -> Held {
-        let fresh = mailbox::fresh(0);
-        let mailbox = fresh.mailbox;
         Held {
-            there: false,
-            mailbox,
+            mailbox: None,
             said: Said::nothing(),
         }
     }

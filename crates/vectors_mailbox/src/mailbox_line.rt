@@ -2,6 +2,7 @@
 use crate::mailbox_held::Held;
 use crate::mailbox_word::{Act, Step};
 use crate::{mailbox_call, mailbox_outcome, mailbox_word};
+use numbers::Numbered;
 use saying::Said;
 use script::Field;
 
@@ -22,17 +23,17 @@ fn new(words: &[u8], held: Held) -> Held {
     if !count.is_last(words) {
         return held.says(Said::not_understood());
     }
-    let fresh = mailbox::fresh(count.byte());
-    let number = fresh.number;
-    if number != 0 {
-        return Held::nothing().says(Said::nothing().number(number as u64));
+    match mailbox::fresh(count.byte()) {
+        Ok(mailbox) => mailbox_outcome::left(0, mailbox),
+        Err(refusal) => {
+            Held::nothing().says(Said::nothing().number(u64::from(refusal.number())))
+        }
     }
-    mailbox_outcome::left(number, fresh.mailbox)
 }
 
 fn within(step: Step, words: &[u8], held: Held) -> Held {
-    if !held.there {
-        return held.says(Said::nothing().text(b" no mailbox"));
+    match held.mailbox {
+        Some(mailbox) => mailbox_call::run(step, words, mailbox, held),
+        None => held.says(Said::nothing().text(b" no mailbox")),
     }
-    mailbox_call::run(step, words, held)
 }

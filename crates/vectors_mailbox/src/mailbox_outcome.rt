@@ -15,8 +15,7 @@ pub(crate) fn left(number: u8, mailbox: Mailbox) -> Held {
         .wide(cci)
         .text(b" :");
     Held {
-        there: true,
-        mailbox,
+        mailbox: Some(mailbox),
         said: running(said, status),
     }
 }

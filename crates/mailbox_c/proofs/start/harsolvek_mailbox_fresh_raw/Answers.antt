@@ -2,9 +2,9 @@ use Rattle.std.proofs.Common.{◌∙◌}
 use Rattle.mailbox_c.proofs.Fresh.{fresh_refuses, fresh_makes}
 use Rattle.mailbox_c.proofs.start.harsolvek_mailbox_fresh_raw.Goals as goal
 
-pub returns-then-number-ne0 : goal.returns-then-number-ne0
-returns-then-number-ne0 c =
-    rw c.from.ensures (fresh_refuses c.args.connectors _ (c.connectors_number-number.ensures ∙ rw c.to_byte.ensures) c.if-number-ne0.true)
+pub returns-in-Ok : goal.returns-in-Ok
+returns-in-Ok c = rw c.from.ensures (fresh_makes c.args.connectors _ (c.count.ensures ∙ rw c.to_byte.ensures) _ c.in-Ok.is)
 
-pub returns : goal.returns
-returns c = fresh_makes c.args.connectors _ (c.connectors_number-number.ensures ∙ rw c.to_byte.ensures) c.if-number-ne0.false
+pub returns-in-Err : goal.returns-in-Err
+returns-in-Err c =
+    rw (c.from-in-Err.ensures, c.number.ensures) (fresh_refuses c.args.connectors _ (c.count.ensures ∙ rw c.to_byte.ensures) _ c.in-Err.is)
