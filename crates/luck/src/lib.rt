@@ -7,6 +7,6 @@ mod way;
 mod went;
 
 pub use called::{Answered, answers};
-pub use luck::{Fate, Going, Luck, Odds};
+pub use luck::{Arrival, Going, Luck, Odds};
 pub use way::Way;
-pub use went::{Missed, Went};
+pub use went::{Lost, Missed, Went};

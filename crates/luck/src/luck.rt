@@ -17,20 +17,20 @@ pub struct Luck {
     pub odds: Odds,
 }
 
-// `Missing`: the message is lost, or there is none. `stays`: it arrives, and will arrive once more.
+// A message arrives. `stays`: it will arrive once more.
 #[derive(Clone, Copy)]
-pub enum Fate {
-    Missing,
-    Arrives { stays: bool },
+pub struct Arrival {
+    pub stays: bool,
 }
 
-// The message that goes next, `rises` for a request, and what becomes of it. `luck` is the generator for the message after it.
+// The message that goes next, `rises` for a request, and how it arrives: not at all where it is lost, or there is none. `luck` is the
+// generator for the message after it.
 #[derive(Clone, Copy)]
 pub struct Going {
     pub luck: Luck,
     pub rises: bool,
     pub way: Way,
-    pub fate: Fate,
+    pub fate: Option<Arrival>,
 }
 
 impl Luck {
@@ -49,6 +49,7 @@ impl Luck {
     }
 
     // The seed is brought into 1 to 2^31 - 2, the words that the generator has.
+    #[tactic(auto, unfolding(crate::specs::Luck::seeded_of))]
     pub fn seeded(seed: u32, odds: Odds) -> Luck
         ensures { result ≡ seeded_of seed odds }
     {
@@ -60,17 +61,18 @@ impl Luck {
     }
 
     // Lehmer's generator with the prime 2^31 - 1, which needs a word that is not 0.
+    #[tactic(auto, unfolding(crate::specs::Luck::next_luck))]
     fn next(self) -> Luck
         ensures { result ≡ next_luck self }
     {
-        let odds = self.odds;
-        let word = self.word as u64 * 48271 % 2147483647;
+        let word = u64::from(self.word) * 48271 % 2147483647;
         Luck {
             word: word as u32,
-            odds,
+            ..self
         }
     }
 
+    #[tactic(auto, unfolding(crate::specs::Luck::percent_of))]
     fn percent(self) -> u32
         ensures { result ≡ percent_of self }
     {
@@ -79,22 +81,22 @@ impl Luck {
 
     // A repeat always arrives, and does not come a third time.
     #[tactic(auto, using(basis::specs::Pick::tests), unfolding(crate::specs::Luck::fate_of))]
-    fn fate(self, way: Way) -> Fate
+    fn fate(self, way: Way) -> Option<Arrival>
         ensures { result ≡ fate_of self way }
     {
         if way.bytes == 0 {
-            return Fate::Missing;
+            return None;
         }
         if way.again {
-            return Fate::Arrives { stays: false };
+            return Some(Arrival { stays: false });
         }
         let odds = self.odds;
         if self.percent() < odds.loss {
-            return Fate::Missing;
+            return None;
         }
         let other = self.next();
-        Fate::Arrives {
+        Some(Arrival {
             stays: other.percent() < odds.again,
-        }
+        })
     }
 }

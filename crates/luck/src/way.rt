@@ -26,6 +26,7 @@ impl Way {
     }
 
     // The message's bytes; all of a buffer that is shorter than the message is said to be.
+    #[tactic(auto, using(crate::proofs::Parts::short))]
     pub fn message(self, buffer: &[u8]) -> &[u8]
         ensures { result.now ≡ message_on_way self buffer.now }
     {
@@ -37,6 +38,7 @@ impl Way {
     }
 
     // The request goes next if no response is on its way or if it is a repeat; otherwise the response does.
+    #[tactic(auto, using(basis::specs::Pick::tests))]
     pub(crate) fn rises(self, falling: Way) -> bool
         ensures { result ≡ rises_of self falling }
     {
@@ -49,6 +51,7 @@ impl Way {
         self.again
     }
 
+    #[tactic(auto, using(basis::specs::Pick::tests))]
     pub(crate) fn next(self, falling: Way, rises: bool) -> Way
         ensures { result ≡ next_way self falling rises }
     {
@@ -59,19 +62,21 @@ impl Way {
     }
 
     // What is on its way after a message has arrived: the same message once more, or nothing.
+    #[tactic(auto, using(basis::specs::Pick::tests))]
     pub fn behind(self, stays: bool) -> Way
         ensures { result ≡ after_arrival_of self stays }
     {
         if stays {
             return Way {
-                bytes: self.bytes,
                 again: true,
+                ..self
             };
         }
         Way::nothing()
     }
 
     // What is on its way after a call that wrote this many bytes.
+    #[tactic(auto, using(basis::specs::Pick::tests))]
     pub fn after(self, written: usize) -> Way
         ensures { result ≡ after_write_of self written }
     {
@@ -82,6 +87,7 @@ impl Way {
     }
 
     // Whether the message of such a call has replaced one that never arrived.
+    #[tactic(auto, using(basis::specs::Pick::tests))]
     pub(crate) fn pushed(self, written: usize) -> bool
         ensures { result ≡ pushed_of self written }
     {

@@ -1,4 +1,4 @@
-// What became of a message: it has arrived with an answer, or it has not.
+// What became of a message: it has arrived with an answer, or it is lost.
 ghost use Rattle.std.specs.Prelude.{◌≡◌};
 ghost use Rattle.luck.specs.Went.{missed_of};
 
@@ -6,12 +6,12 @@ use crate::called::Answered;
 use crate::luck::Going;
 use crate::way::Way;
 
+// The message did not arrive.
 #[derive(Clone, Copy)]
-pub enum Went {
-    Nothing,
-    Lost,
-    Arrived(Answered),
-}
+pub struct Lost;
+
+// `None`: no message was on its way.
+pub type Went = Option<Result<Answered, Lost>>;
 
 // What is on its way up and down after a message has not arrived.
 #[derive(Clone, Copy)]
@@ -27,25 +27,26 @@ impl Going {
     pub fn missed(self, rising: Way, falling: Way) -> Missed
         ensures { result ≡ missed_of self rising falling }
     {
+        let kept = Missed {
+            up: rising,
+            down: falling,
+            went: None,
+        };
         let way = self.way;
         if way.bytes == 0 {
-            return Missed {
-                up: rising,
-                down: falling,
-                went: Went::Nothing,
-            };
+            return kept;
         }
         if self.rises {
             return Missed {
                 up: Way::nothing(),
-                down: falling,
-                went: Went::Lost,
+                went: Some(Err(Lost)),
+                ..kept
             };
         }
         Missed {
-            up: rising,
             down: Way::nothing(),
-            went: Went::Lost,
+            went: Some(Err(Lost)),
+            ..kept
         }
     }
 }
