@@ -7,6 +7,7 @@ use mathlib.Core.List.{List, Memᴰ}
 use native.Mathlib.Omega.{arith}
 use borrow.Author.Tests.{eqb-false}
 use lib.Dec.{eqb}
+use Rattle.std.specs.Prelude.{Option, Some, None}
 use Rattle.basis.specs.Pick.{pick, pick_all}
 use Rattle.basis.specs.Left.{Left, left}
 use Rattle.receiver_state.specs.declared.verdict.Verdict.TheVariants.{Good}
@@ -18,8 +19,7 @@ use Rattle.line.specs.Line.{to_receiver, to_indoor}
 use Rattle.luck.specs.declared.way.Way.{Way}
 use Rattle.luck.specs.declared.luck.Luck.{Luck}
 use Rattle.luck.specs.declared.luck.Going.{Going}
-use Rattle.luck.specs.declared.luck.Fate.{Fate}
-use Rattle.luck.specs.declared.luck.Fate.TheVariants.{Missing, Arrives}
+use Rattle.luck.specs.declared.luck.Arrival.{Arrival}
 use Rattle.luck.specs.declared.went.Missed.{Missed}
 use Rattle.lossy_ends.specs.declared.ends.Ends.{Ends}
 use Rattle.lossy.specs.declared.carry_call.Carried.{Carried}
@@ -33,7 +33,7 @@ use Rattle.lossy.specs.Carry.{miss_of, carry_request_of, carry_response_of, go_o
 use Rattle.lossy_ends.specs.Over.{OnItsWay, Over}
 use Rattle.lossy_ends.proofs.Stays.{goes_on, above_goes, below_goes}
 
-abbrev going : Luck → Bool → Way → Fate → Going
+abbrev going : Luck → Bool → Way → Option Arrival → Going
 going luck rises w fate = record { luck = luck; rises = rises; way = w; fate = fate }
 
 -- A message that went may arrive once more.
@@ -46,15 +46,15 @@ behind w buffer sent false o = inl refl
 arrived : (w : Way) (buffer : List ℕ) (sent : List (List ℕ)) → OnItsWay w buffer sent → 0 < w.bytes → Memᴰ (message_on_way w buffer) sent
 arrived w buffer sent o some = ⊎_elim (λ none. absurd (omega (arith, none))) (λ h. h) o
 
-missing_arrives : (stays : Bool) → Missing ≡ Arrives stays → ⊥
-missing_arrives stays e = let z : ◌≡◌ {A = ℕ} 0 1 = cc in omega arith
+none_some : (a : Arrival) → None ≡ Some a → ⊥
+none_some a e = let z : ◌≡◌ {A = ℕ} 0 1 = cc in omega arith
 
 -- Only a message that is on its way arrives.
-fate_some : (l : Luck) (w : Way) (stays : Bool) → fate_of l w ≡ Arrives stays → 0 < w.bytes
+fate_some : (l : Luck) (w : Way) (a : Arrival) → fate_of l w ≡ Some a → 0 < w.bytes
 unfolding fate_of
-fate_some l w stays =
-    pick_all (λ (f : Fate). f ≡ Arrives stays → 0 < w.bytes) (eqb w.bytes 0) Missing _
-    (λ _ e. absurd (missing_arrives stays e))
+fate_some l w a =
+    pick_all (λ (f : Option Arrival). f ≡ Some a → 0 < w.bytes) (eqb w.bytes 0) None _
+    (λ _ e. absurd (none_some a e))
     (λ f _. let some = eqb-false w.bytes 0 f in omega arith)
 
 module _ (file : List ℕ) (e : Ends) (image up down : List ℕ) (o : Over file e image up down) where
@@ -62,7 +62,7 @@ module _ (file : List ℕ) (e : Ends) (image up down : List ℕ) (o : Over file 
   OverCarried x = Over file x.answer.answer.ends x.memory x.answer.up x.answer.down
 
   -- The request on its way has arrived.
-  request_over : (luck : Luck) (fate : Fate) (stays : Bool) → 0 < e.up.bytes → OverCarried (carry_request_of e (going luck true e.up fate) stays image up down)
+  request_over : (luck : Luck) (fate : Option Arrival) (stays : Bool) → 0 < e.up.bytes → OverCarried (carry_request_of e (going luck true e.up fate) stays image up down)
   unfolding request_arrives
   request_over luck fate stays some =
       let request = message_on_way e.up up in
@@ -72,7 +72,7 @@ module _ (file : List ℕ) (e : Ends) (image up down : List ℕ) (o : Over file 
       (to_receiver o.reached request (arrived e.up up o.requests o.rising some) image (inl refl) 0 Good down)
 
   -- The response on its way has arrived.
-  response_over : (luck : Luck) (fate : Fate) (stays : Bool) → 0 < e.down.bytes → OverCarried (left (carry_response_of e (going luck false e.down fate) stays file up down) image)
+  response_over : (luck : Luck) (fate : Option Arrival) (stays : Bool) → 0 < e.down.bytes → OverCarried (left (carry_response_of e (going luck false e.down fate) stays file up down) image)
   unfolding response_arrives
   response_over luck fate stays some =
       let response = message_on_way e.down down in
@@ -84,11 +84,11 @@ module _ (file : List ℕ) (e : Ends) (image up down : List ℕ) (o : Over file 
   abbrev next : Bool → Way
   next rises = next_way e.up e.down rises
 
-  arrive_over : (luck : Luck) (fate : Fate) (rises stays : Bool) → 0 < (next rises).bytes
-      → OverCarried (go_of (Arrives stays) e (going luck rises (next rises) fate) file image up down)
+  arrive_over : (luck : Luck) (fate : Option Arrival) (rises : Bool) (a : Arrival) → 0 < (next rises).bytes
+      → OverCarried (go_of (Some a) e (going luck rises (next rises) fate) file image up down)
   unfolding go_of pick
-  arrive_over luck fate true stays some = request_over luck fate stays some
-  arrive_over luck fate false stays some = response_over luck fate stays some
+  arrive_over luck fate true a some = request_over luck fate a.stays some
+  arrive_over luck fate false a some = response_over luck fate a.stays some
 
   -- Nothing was on its way, or the message is lost.
   abbrev OverMissed : Missed → Type 0
@@ -103,11 +103,11 @@ module _ (file : List ℕ) (e : Ends) (image up down : List ℕ) (o : Over file 
       pick_all OverMissed (eqb g.way.bytes 0) _ _ (λ _. stays_over e.up e.down o.rising o.falling)
       (λ _. pick_all OverMissed g.rises _ _ (λ _. stays_over no_message e.down (inl refl) o.falling) (λ _. stays_over e.up no_message o.rising (inl refl)))
 
-  go_over : (luck : Luck) (then fate : Fate) (rises : Bool) → ((stays : Bool) → fate ≡ Arrives stays → 0 < (next rises).bytes)
+  go_over : (luck : Luck) (then fate : Option Arrival) (rises : Bool) → ((a : Arrival) → fate ≡ Some a → 0 < (next rises).bytes)
       → OverCarried (go_of fate e (going luck rises (next rises) then) file image up down)
   unfolding go_of miss_of
-  go_over luck then Missing rises some = miss_over (going luck rises (next rises) then)
-  go_over luck then (Arrives stays) rises some = arrive_over luck then rises stays (some stays refl)
+  go_over luck then None rises some = miss_over (going luck rises (next rises) then)
+  go_over luck then (Some a) rises some = arrive_over luck then rises a (some a refl)
 
   pub carry_over : (luck : Luck) (r : Carried) (image' up' down' : List ℕ) → left (both r up' down') image' ≡ carry_of e luck file image up down → Over file r.ends image' up' down'
   unfolding carry_of goes_of

@@ -2,22 +2,17 @@
 ghost use Rattle.std.specs.Prelude.{◌≡◌};
 ghost use Rattle.basis.specs.Left.{left};
 ghost use Rattle.lossy_ends.specs.Both.{both};
-ghost use Rattle.lossy_ends.specs.Ends.{lossy_ends as endsOf};
-ghost use Rattle.lossy.specs.Carry.{lossy_carried, carry_of, miss_of, carry_request_of, carry_response_of};
+ghost use Rattle.lossy.specs.Carry.{carry_of, miss_of, carry_request_of, carry_response_of};
 
 use crate::arrive;
-use indoor_state::session::Indoor;
 use lossy_ends::Ends;
-use luck::{Fate, Going, Luck, Way, Went};
-use receiver_state::session::Receiver;
+use luck::{Going, Luck, Went};
 
-// `rises` says whether the request went, `way` how many bytes of its buffer the message had, and `luck` is the generator for the next message.
+// Both ends after it, the message that went, and what became of it.
 #[derive(Clone, Copy)]
 pub struct Carried {
     pub ends: Ends,
-    pub luck: Luck,
-    pub rises: bool,
-    pub way: Way,
+    pub going: Going,
     pub went: Went,
 }
 
@@ -34,14 +29,13 @@ pub fn carry(
     ensures { left (both result up.new down.new) image.new ≡ carry_of ends luck file.now image.old up.old down.old }
 {
     let going = luck.goes(ends.up, ends.down);
-    let fate = going.fate;
-    let Fate::Arrives { stays } = fate else {
+    let Some(arrival) = going.fate else {
         return miss(ends, going);
     };
     if going.rises {
-        return carry_request(ends, going, stays, image, up, down);
+        return carry_request(ends, going, arrival.stays, image, up, down);
     }
-    carry_response(ends, going, stays, file, up, down)
+    carry_response(ends, going, arrival.stays, file, up, down)
 }
 
 #[tactic(auto, unfolding(crate::specs::Carry::miss_of))]
@@ -49,15 +43,15 @@ fn miss(ends: Ends, going: Going) -> Carried
     ensures { result ≡ miss_of ends going }
 {
     let missed = going.missed(ends.up, ends.down);
-    let went = missed.went;
-    outcome(
-        ends.receiver,
-        ends.indoor,
-        missed.up,
-        missed.down,
+    Carried {
+        ends: Ends {
+            up: missed.up,
+            down: missed.down,
+            ..ends
+        },
         going,
-        went,
-    )
+        went: missed.went,
+    }
 }
 
 // The request arrives.
@@ -73,15 +67,16 @@ fn carry_request(
 {
     let way = going.way;
     let roof = arrive::request(ends.receiver, way, ends.down, image, up, down);
-    let answered = roof.answered;
-    outcome(
-        roof.receiver,
-        ends.indoor,
-        way.behind(stays),
-        roof.down,
+    Carried {
+        ends: Ends {
+            receiver: roof.receiver,
+            up: way.behind(stays),
+            down: roof.down,
+            ..ends
+        },
         going,
-        Went::Arrived(answered),
-    )
+        went: Some(Ok(roof.answered)),
+    }
 }
 
 // The response arrives.
@@ -97,39 +92,14 @@ fn carry_response(
 {
     let way = going.way;
     let indoors = arrive::response(ends.indoor, way, ends.up, file, up, down);
-    let answered = indoors.answered;
-    outcome(
-        ends.receiver,
-        indoors.indoor,
-        indoors.up,
-        way.behind(stays),
-        going,
-        Went::Arrived(answered),
-    )
-}
-
-fn outcome(
-    receiver: Receiver,
-    indoor: Indoor,
-    up: Way,
-    down: Way,
-    going: Going,
-    went: Went,
-) -> Carried
-    ensures { result ≡ lossy_carried (endsOf receiver indoor up down) going went }
-{
-    let luck = going.luck;
-    let way = going.way;
     Carried {
         ends: Ends {
-            receiver,
-            indoor,
-            up,
-            down,
+            indoor: indoors.indoor,
+            up: indoors.up,
+            down: way.behind(stays),
+            ..ends
         },
-        luck,
-        rises: going.rises,
-        way,
-        went,
+        going,
+        went: Some(Ok(indoors.answered)),
     }
 }
