@@ -1,5 +1,6 @@
 -- Whether the indoor end reports done, and whether the receiver's image is the file.
-use Rattle.std.specs.Prelude.{ℕ, Bool, true, false, List, [], ◌∷◌, eqb, length, take}
+use Rattle.std.specs.Prelude.{ℕ, Bool, true, false, List, eqb, length, take}
+use Rattle.std.specs.Str.{bytes_eq}
 use Rattle.basis.specs.Pick.{pick}
 use Rattle.receiver_state.specs.Phase.{accepted_of}
 use Rattle.indoor_state.specs.declared.phase.Phase.{Phase}
@@ -15,15 +16,9 @@ reports_done (Validate wait) = false
 reports_done Done = true
 reports_done (Failed reason) = false
 
-unfoldable pub equal_of : List ℕ → List ℕ → Bool
-equal_of [] [] = true
-equal_of [] (y ∷ b) = false
-equal_of (x ∷ a) [] = false
-equal_of (x ∷ a) (y ∷ b) = pick (eqb x y) (equal_of a b) false
-
 -- As many bytes were accepted as the file has, and they are the file's.
 unfoldable pub same_of : ℕ → List ℕ → List ℕ → Bool
-same_of accepted image file = pick (eqb accepted (length file)) (equal_of (take (length file) image) file) false
+same_of accepted image file = pick (eqb accepted (length file)) (bytes_eq file (take (length file) image)) false
 
 abbrev pub session_judged_of : Ends → List ℕ → List ℕ → Judged
 session_judged_of e file image = record {

@@ -17,10 +17,8 @@ pub struct Judged {
 pub fn judge(ends: Ends, file: &[u8], image: &[u8]) -> Judged
     ensures { result ≡ session_judged_of ends file.now image.now }
 {
-    let state = ends.indoor.state;
-    let phase = state.phase;
     Judged {
-        done: done(phase),
+        done: done(ends.indoor.state.phase),
         same: same(accepted(ends.receiver), image, file),
     }
 }
@@ -28,34 +26,19 @@ pub fn judge(ends: Ends, file: &[u8], image: &[u8]) -> Judged
 fn accepted(receiver: Receiver) -> u32
     ensures { result ≡ (accepted_of receiver.phase).bytes }
 {
-    let phase = receiver.phase;
-    let accepted = receiver_decide::accepted(phase);
-    accepted.bytes
+    receiver_decide::accepted(receiver.phase).bytes
 }
 
 fn done(phase: Phase) -> bool
     ensures { result ≡ reports_done phase }
 {
-    match phase {
-        Phase::Done => true,
-        Phase::Identify => false,
-        Phase::Initiate { wait: _ } => false,
-        Phase::Transfer(_) => false,
-        Phase::Validate { wait: _ } => false,
-        Phase::Failed(_) => false,
-    }
+    matches!(phase, Phase::Done)
 }
 
 // As many bytes were accepted as the file has, and they are the file's.
+#[tactic(auto, using(basis::specs::Pick::tests), unfolding(crate::specs::Judge::same_of))]
 fn same(accepted: u32, image: &[u8], file: &[u8]) -> bool
     ensures { result ≡ same_of accepted image.now file.now }
 {
-    let n = file.len();
-    if accepted as usize != n {
-        return false;
-    }
-    if image.len() < n {
-        return false;
-    }
-    check::same(&image[..n], file)
+    accepted as usize == file.len() && image.starts_with(file)
 }
