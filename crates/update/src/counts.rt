@@ -1,14 +1,15 @@
 // How many messages were sent, lost, repeated and replaced.
-use luck::{Answered, Went};
+use luck::{Answered, Going, Lost, Went};
+use std::fmt;
 
 // `pushed` counts those that a newer message replaced before they arrived.
 #[derive(Clone, Copy)]
 pub(crate) struct Counts {
-    pub requests: u32,
-    pub responses: u32,
-    pub lost: u32,
-    pub again: u32,
-    pub pushed: u32,
+    requests: u32,
+    responses: u32,
+    lost: u32,
+    again: u32,
+    pushed: u32,
 }
 
 impl Counts {
@@ -24,42 +25,63 @@ impl Counts {
     }
 
     // At most one message went.
-    pub(crate) fn carried(self, went: Went, again: bool, rises: bool) -> Counts {
+    pub(crate) fn carried(self, going: Going, went: Went) -> Counts {
         match went {
-            Went::Nothing => self,
-            Went::Lost => self.lose(),
-            Went::Arrived(answered) => self.arrive(again, rises, answered),
+            None => self,
+            Some(Err(Lost)) => Counts {
+                lost: plus(self.lost, true),
+                ..self
+            },
+            Some(Ok(answered)) => self.arrived(going, answered),
         }
     }
 
-    fn lose(mut self) -> Counts {
-        self.lost = plus(self.lost, true);
-        self
-    }
-
-    fn arrive(mut self, again: bool, rises: bool, answered: Answered) -> Counts {
-        self.again = plus(self.again, again);
-        if rises {
-            return self.above(answered);
+    fn arrived(self, going: Going, answered: Answered) -> Counts {
+        let counted = Counts {
+            again: plus(self.again, going.way.again),
+            ..self
+        };
+        if going.rises {
+            return counted.above(answered);
         }
-        self.below(answered)
+        counted.below(answered)
     }
 
     // The receiver was called.
-    pub(crate) fn above(mut self, answered: Answered) -> Counts {
-        self.responses = plus(self.responses, answered.sent);
-        self.pushed = plus(self.pushed, answered.pushed);
-        self
+    pub(crate) fn above(self, answered: Answered) -> Counts {
+        Counts {
+            responses: plus(self.responses, answered.sent),
+            pushed: plus(self.pushed, answered.pushed),
+            ..self
+        }
     }
 
     // The indoor end was called.
-    pub(crate) fn below(mut self, answered: Answered) -> Counts {
-        self.requests = plus(self.requests, answered.sent);
-        self.pushed = plus(self.pushed, answered.pushed);
-        self
+    pub(crate) fn below(self, answered: Answered) -> Counts {
+        Counts {
+            requests: plus(self.requests, answered.sent),
+            pushed: plus(self.pushed, answered.pushed),
+            ..self
+        }
+    }
+}
+
+impl fmt::Display for Counts {
+    fn fmt<W: fmt::Write>(&self, f: &mut fmt::Formatter<W>) -> fmt::Result {
+        let Counts {
+            requests,
+            responses,
+            lost,
+            again,
+            pushed,
+        } = *self;
+        write!(
+            f,
+            "{requests} requests, {responses} responses; {lost} lost, {again} repeated, {pushed} replaced by a newer one"
+        )
     }
 }
 
 fn plus(count: u32, one: bool) -> u32 {
-    std::num::wrapping_add_u32(count, one as u32)
+    count.wrapping_add(u32::from(one))
 }

@@ -15,59 +15,65 @@ mod turn;
 mod view;
 mod words;
 
-use indoor_state::plan::Release;
 use page::Streams;
+use std::fmt;
 use std::io::{Error, Read};
 use std::process::ExitCode;
 use wire::codes;
-use wire::request::Versions;
-use wire::response::Identity;
 
 // The largest image memory. The file has one byte more, so that a file that is too long is refused (46) and not cut.
 const IMAGE: usize = codes::IMAGE_SIZE_MOST;
 
 const FILE: usize = codes::IMAGE_SIZE_MOST + 1;
 
-fn main(rt: HostRuntime) -> ExitCode {
-    let mut file = [0u8; FILE];
-    let mut image = [0u8; IMAGE];
-    if over(&rt, &mut file, &mut image) {
-        return ExitCode::FAILURE;
+// The file could not be read, or a line not be written.
+#[derive(Debug, Drop)]
+enum Failure {
+    Read(Error),
+    Write(Error),
+}
+
+impl fmt::Display for Failure {
+    fn fmt<W: fmt::Write>(&self, f: &mut fmt::Formatter<W>) -> fmt::Result {
+        match self {
+            Failure::Read(error) => write!(f, "read: {error}"),
+            Failure::Write(error) => write!(f, "write: {error}"),
+        }
     }
-    ExitCode::SUCCESS
 }
 
-// The arrays become slices here, where their types give their lengths, so that no proof has to count a million bytes.
-fn over(rt: &HostRuntime, file: &mut [u8; FILE], image: &mut [u8; IMAGE]) -> bool {
-    read(rt, file, image)
-}
-
-// Returns whether the file could not be read, or a line not be written.
-fn read(rt: &HostRuntime, file: &mut [u8], image: &mut [u8]) -> bool {
+fn main(rt: HostRuntime) -> ExitCode {
     let to = Streams {
         out: rt.stdout(),
         err: rt.stderr(),
+        alloc: rt.alloc(),
     };
-    let given = given::arguments(rt);
-    if !given.known {
+    let mut file = [0u8; FILE];
+    let mut image = [0u8; IMAGE];
+    let Err(failure) = over(&rt, to, &mut file, &mut image) else {
+        return ExitCode::SUCCESS;
+    };
+    to.complain(failure);
+    ExitCode::FAILURE
+}
+
+// The arrays become slices here, where their types give their lengths, so that no proof has to count a million bytes.
+fn over(
+    rt: &HostRuntime,
+    to: Streams,
+    file: &mut [u8; FILE],
+    image: &mut [u8; IMAGE],
+) -> Result<(), Failure> {
+    update(rt, to, file, image)
+}
+
+fn update(rt: &HostRuntime, to: Streams, file: &mut [u8], image: &mut [u8]) -> Result<(), Failure> {
+    let Some(given) = given::arguments(rt) else {
         given::usage(to);
-        return false;
-    }
-    match fill(&mut rt.stdin(), file) {
-        Ok(n) => session::start(
-            to,
-            identity(given.reported),
-            release(given.offered),
-            given.luck,
-            given.quiet,
-            &file[..n],
-            image,
-        ),
-        Err(error) => {
-            to.fail("read", error);
-            true
-        }
-    }
+        return Ok(());
+    };
+    let n = fill(&mut rt.stdin(), file).map_err(Failure::Read)?;
+    session::start(to, given, &file[..n], image).map_err(Failure::Write)
 }
 
 // Reads until there is no room or the input ends, and returns how many bytes there are.
@@ -84,30 +90,3 @@ fn fill(from: &mut impl Read, file: &mut [u8]) -> Result<usize, Error>
     }
     Ok(n)
 }
-
-fn identity(versions: Versions) -> Identity {
-    Identity {
-        vendor: VENDOR,
-        product: PRODUCT,
-        hardware: 0,
-        silicon: 0,
-        versions,
-        bank: 0,
-        flags1: 0,
-        flags2: 0,
-        flags3: 0,
-        flags4: 0,
-    }
-}
-
-fn release(versions: Versions) -> Release {
-    Release {
-        vendor: VENDOR,
-        product: PRODUCT,
-        versions,
-    }
-}
-
-const VENDOR: u16 = 0x1209;
-
-const PRODUCT: u16 = 0x0001;

@@ -1,57 +1,41 @@
 // The result of the session, printed at its end.
-ghost use Rattle.std.specs.Prelude.{◌≡◌, ◌≤◌, true};
+ghost use Rattle.std.specs.Prelude.{◌≡◌, true};
 ghost use Rattle.indoor_state.specs.declared.phase.Phase.TheVariants.{Done};
 ghost use Rattle.lossy_session.specs.Judge.{reports_done};
 ghost use Rattle.lossy_ends.specs.Over.{Same, Delivered};
 
-use crate::counts::Counts;
-use crate::page::{Page, Streams};
+use crate::page::Streams;
+use crate::phases::{IndoorEnd, Receiver as Roof};
 use crate::session::Ended;
-use crate::{phases, turn, words};
+use crate::turn;
+use crate::words::Version;
 use indoor_state::phase::{Phase, Reason};
 use lossy_ends::Ends;
 use lossy_session::Judged;
 use receiver_state::session::Receiver;
 use receiver_state::sum::Summed;
+use std::fmt;
+use std::io::Error;
 
 // A start was refused with this number (01, Numbers we answer).
 pub(crate) fn refused(to: Streams, number: u8) {
-    let page = Page::blank().word(b"not started: ").number(number as u64);
     if number == 46 {
-        page.word(b", the file is empty or above 1,048,575 bytes")
-            .complain(to);
-        return;
+        return to.complain("not started: 46, the file is empty or above 1,048,575 bytes");
     }
-    page.complain(to);
+    to.complain(format_args!("not started: {number}"));
 }
 
-// The first line that cannot be written ends the report: returns whether there is one.
-pub(crate) fn ended(to: Streams, ended: Ended, file: &[u8], image: &[u8]) -> bool
+// The first line that cannot be written ends the report.
+pub(crate) fn ended(to: Streams, ended: Ended, file: &[u8], image: &[u8]) -> Result<(), Error>
     requires { ended.ends.indoor.state.phase ≡ Done → Delivered file.now ended.ends.receiver image.now }
 {
     let ends = ended.ends;
-    let counts = ended.counts;
-    let receiver = ends.receiver;
     let judged = judge(ends, file, image);
-    if offered(to, ends) {
-        return true;
-    }
-    if outcome(
-        to,
-        receiver,
-        phases::indoors(ends.indoor),
-        judged,
-        file,
-        image,
-    ) {
-        return true;
-    }
-    if messages(to, counts, ended.turns) {
-        return true;
-    }
-    if held(to, receiver, image) {
-        return true;
-    }
+    offered(to, ends)?;
+    outcome(to, ends, judged, file, image)?;
+    let time = turn::clock(ended.turns);
+    to.say(format_args!("{}; {time} ms", ended.counts))?;
+    held(to, ends.receiver, image)?;
     equality(to, judged)
 }
 
@@ -68,122 +52,70 @@ fn judge(ends: Ends, file: &[u8], image: &[u8]) -> Judged
 }
 
 // The two versions by which the indoor end judges whether the file is newer (02 a).
-fn offered(to: Streams, ends: Ends) -> bool {
-    let indoor = ends.indoor;
-    let plan = indoor.plan;
-    let release = plan.release;
-    let receiver = ends.receiver;
-    let identity = receiver.identity;
-    let page = words::version(Page::blank().word(b"offered: "), release.versions);
-    say(
-        to,
-        words::version(page.word(b"; the receiver reports "), identity.versions),
-    )
+fn offered(to: Streams, ends: Ends) -> Result<(), Error> {
+    let offered = Version(ends.indoor.plan.release.versions);
+    let reported = Version(ends.receiver.identity.versions);
+    to.say(format_args!("offered: {offered}; the receiver reports {reported}"))
 }
 
 // What is not done is told on standard error.
-fn outcome(
-    to: Streams,
-    receiver: Receiver,
-    phase: Phase,
-    judged: Judged,
-    file: &[u8],
-    image: &[u8],
-) -> bool
-    requires { judged.done ≡ true → Delivered file.now receiver image.now }
+fn outcome(to: Streams, ends: Ends, judged: Judged, file: &[u8], image: &[u8]) -> Result<(), Error>
+    requires { judged.done ≡ true → Delivered file.now ends.receiver image.now }
 {
     if judged.done {
-        return done(to, receiver, file, image);
+        return done(to, ends.receiver, file, image);
     }
-    let begun = Page::blank().word(b"not done: ");
-    let named = failure(phases::indoor(begun, phase), phase);
-    phases::receiver_name(named.word(b"; "), phases::roof(receiver)).complain(to);
-    false
+    let phase = ends.indoor.state.phase;
+    let indoors = IndoorEnd(phase);
+    let roof = Roof(ends.receiver.phase);
+    match phase {
+        Phase::Failed(reason) => to.complain(format_args!(
+            "not done: {indoors} {}; {roof}",
+            Why(reason)
+        )),
+        _ => to.complain(format_args!("not done: {indoors}; {roof}")),
+    }
+    Ok(())
 }
 
 // Only this function has the sentence, so that it is proved to be true wherever it is told.
-fn done(to: Streams, receiver: Receiver, file: &[u8], image: &[u8]) -> bool
-    requires { Delivered file.now receiver image.now }
+fn done(to: Streams, _receiver: Receiver, _file: &[u8], _image: &[u8]) -> Result<(), Error>
+    requires { Delivered _file.now _receiver _image.now }
 {
-    say(
-        to,
-        Page::blank().word(b"done: the receiver has marked the image good"),
-    )
-}
-
-fn failure(page: Page, phase: Phase) -> Page
-    requires { page.at ≤ 120 }
-    ensures { result.at ≤ 120 }
-{
-    let Phase::Failed(reason) = phase else {
-        return page;
-    };
-    named(
-        page.word(b" ")
-            .number(indoor_decide::reason_number(reason) as u64),
-        reason,
-    )
+    to.say("done: the receiver has marked the image good")
 }
 
 // 01, Numbers we answer.
-fn named(page: Page, reason: Reason) -> Page
-    requires { page.at ≤ 120 }
-    ensures { result.at ≤ 120 }
-{
-    match reason {
-        Reason::Silence => page.word(b", silence"),
-        Reason::Refused => page.word(b", refused"),
-        Reason::NotNewer => page.word(b", not newer"),
-        Reason::TooLarge => page.word(b", too large"),
-        Reason::WrongNumber => page.word(b", a wrong number"),
-        Reason::NotValid => page.word(b", not valid"),
-    }
-}
+#[derive(Clone, Copy)]
+struct Why(Reason);
 
-fn messages(to: Streams, counts: Counts, turns: u32) -> bool {
-    let sent = Page::blank()
-        .number(counts.requests as u64)
-        .word(b" requests, ");
-    let both = sent.number(counts.responses as u64).word(b" responses; ");
-    let lost = both.number(counts.lost as u64).word(b" lost, ");
-    let again = lost.number(counts.again as u64).word(b" repeated, ");
-    let pushed = again
-        .number(counts.pushed as u64)
-        .word(b" replaced by a newer one; ");
-    say(to, pushed.number(turn::clock(turns)).word(b" ms"))
+impl fmt::Display for Why {
+    fn fmt<W: fmt::Write>(&self, f: &mut fmt::Formatter<W>) -> fmt::Result {
+        let number = indoor_decide::reason_number(self.0);
+        let name = match self.0 {
+            Reason::Silence => "silence",
+            Reason::Refused => "refused",
+            Reason::NotNewer => "not newer",
+            Reason::TooLarge => "too large",
+            Reason::WrongNumber => "a wrong number",
+            Reason::NotValid => "not valid",
+        };
+        write!(f, "{number}, {name}")
+    }
 }
 
 // How many bytes the receiver has accepted, and their sum (01, Sizes and numbers).
-fn held(to: Streams, receiver: Receiver, image: &[u8]) -> bool {
-    let phase = receiver.phase;
-    let accepted = receiver_decide::accepted(phase);
-    let counted = Page::blank()
-        .word(b"image: ")
-        .number(accepted.bytes as u64)
-        .word(b" bytes, sum ");
-    let summed = receiver::sum(receiver, image);
-    match summed {
-        Summed::Sum(sum) => say(to, counted.number(sum as u64)),
-        Summed::ImageLength => say(to, counted.word(b"unknown")),
+fn held(to: Streams, receiver: Receiver, image: &[u8]) -> Result<(), Error> {
+    let bytes = receiver_decide::accepted(receiver.phase).bytes;
+    match receiver::sum(receiver, image) {
+        Summed::Sum(sum) => to.say(format_args!("image: {bytes} bytes, sum {sum}")),
+        Summed::ImageLength => to.say(format_args!("image: {bytes} bytes, sum unknown")),
     }
 }
 
-fn equality(to: Streams, judged: Judged) -> bool {
+fn equality(to: Streams, judged: Judged) -> Result<(), Error> {
     if judged.same {
-        return say(to, Page::blank().word(b"the image equals the file"));
+        return to.say("the image equals the file");
     }
-    say(to, Page::blank().word(b"the image differs from the file"))
-}
-
-// Returns whether the line could not be written, which is also said on standard error.
-fn say(to: Streams, page: Page) -> bool
-    requires { page.at ≤ 120 }
-{
-    match page.print(to) {
-        Ok(()) => false,
-        Err(error) => {
-            to.fail("write", error);
-            true
-        }
-    }
+    to.say("the image differs from the file")
 }

@@ -1,153 +1,134 @@
 // One turn: at most one message arrives or is lost, and then time passes at both ends.
-ghost use Rattle.std.specs.Prelude.{◌≡◌, ◌≤◌};
+ghost use Rattle.std.specs.Prelude.{IfOk};
 ghost use Rattle.lossy_ends.specs.Over.{Over};
 
 use crate::counts::Counts;
-use crate::page::Page;
 use crate::view::View;
-use crate::{phases, view, words};
+use crate::{phases, words};
 use lossy::Carried;
 use lossy_ends::Ends;
 use lossy_session::Passed;
-use luck::{Answered, Luck, Way, Went};
-use receiver_state::session::Receiver;
+use luck::{Answered, Going, Lost, Luck};
+use std::alloc::{AllocError, Global};
+use std::io::Error;
 
 // The milliseconds of a turn.
 const TICK: u16 = 10;
 
 // The milliseconds that these turns take.
 pub(crate) fn clock(turns: u32) -> u64 {
-    turns as u64 * TICK as u64
+    u64::from(turns) * u64::from(TICK)
 }
 
-// `failed` says whether a line could not be written.
+// A session between two turns: both ends, what was counted, and the generator for the next message.
 #[derive(Clone, Copy)]
-pub(crate) struct Stepped {
+pub(crate) struct Session {
     pub ends: Ends,
     pub counts: Counts,
     pub luck: Luck,
-    pub failed: bool,
 }
 
-// The message is printed before time passes, since an end may then write another one into its buffer.
-pub(crate) fn step(
-    ends: Ends,
-    counts: Counts,
-    luck: Luck,
-    view: View,
-    file: &[u8],
-    image: &mut [u8],
-    up: &mut [u8],
-    down: &mut [u8],
-) -> Stepped
-    requires { Over file.now ends image.old up.old down.old }
-    ensures { Over file.now result.ends image.new up.new down.new }
-{
-    let carried = lossy::carry(ends, luck, file, image, up, down);
-    let failed_before = message(carried, view, up, down);
-    let passed = lossy_session::pass(carried.ends, TICK, file, up, down);
-    turn_outcome(carried, passed, counts, view, failed_before)
-}
+impl Session {
+    // The message is printed before time passes, since an end may then write another one into its buffer.
+    pub(crate) fn step(
+        self,
+        view: View,
+        file: &[u8],
+        image: &mut [u8],
+        up: &mut [u8],
+        down: &mut [u8],
+    ) -> Result<Session, Error>
+        requires { Over file.now self.ends image.old up.old down.old }
+        ensures { IfOk result (λ s. Over file.now s.ends image.new up.new down.new) }
+    {
+        let carried = lossy::carry(self.ends, self.luck, file, image, up, down);
+        message(carried, view, up, down)?;
+        let passed = lossy_session::pass(carried.ends, TICK, file, up, down);
+        silence(carried.ends, passed, view)?;
+        Ok(Session {
+            ends: passed.ends,
+            counts: self
+                .counts
+                .carried(carried.going, carried.went)
+                .above(passed.above)
+                .below(passed.below),
+            luck: carried.going.luck,
+        })
+    }
 
-// The turn's result, after what silence brought is printed too.
-fn turn_outcome(
-    carried: Carried,
-    passed: Passed,
-    counts: Counts,
-    view: View,
-    failed_before: bool,
-) -> Stepped
-    ensures { result.ends ≡ passed.ends }
-{
-    let ends = passed.ends;
-    let above = passed.above;
-    let below = passed.below;
-    let luck = carried.luck;
-    let way = carried.way;
-    let went = carried.went;
-    let counted = counts.carried(went, way.again, carried.rises);
-    let between = carried.ends;
-    let gave_up = gave_up(between.receiver, ends.receiver);
-    Stepped {
-        ends,
-        counts: counted.above(above).below(below),
-        luck,
-        failed: silence(failed_before, gave_up, above, below, view),
+    // The indoor end is done or has failed, and no ABORT is on its way.
+    pub(crate) fn rests(self) -> bool {
+        phases::ended(self.ends.indoor.state.phase) && self.ends.up.bytes == 0
     }
 }
 
-fn message(carried: Carried, view: View, up: &[u8], down: &[u8]) -> bool {
-    let went = carried.went;
-    match went {
-        Went::Nothing => false,
-        Went::Lost => view.fails(line(carried.rises, carried.way, view, up, down).word(b"lost")),
-        Went::Arrived(answered) => {
-            let page = line(carried.rises, carried.way, view, up, down);
-            view.fails(answer(page, carried.rises, carried.ends, answered, view.blocks))
-        }
+fn message(carried: Carried, view: View, up: &[u8], down: &[u8]) -> Result<(), Error> {
+    let going = carried.going;
+    let Some(arrived) = carried.went else {
+        return Ok(());
+    };
+    let words = worded(going, view.to.alloc, up, down)?;
+    let Ok(answered) = arrived else {
+        return view.row(way(going), format_args!("{words:<21} lost"));
+    };
+    let told = answer(going, carried.ends, answered, view)?;
+    view.row(way(going), format_args!("{words:<21} {told}"))
+}
+
+fn way(going: Going) -> &'static str {
+    match (going.rises, going.way.again) {
+        (true, false) => "up",
+        (true, true) => "up again",
+        (false, false) => "down",
+        (false, true) => "down again",
     }
 }
 
-// A line with the message that went, up to the column that says what became of it.
-fn line(rises: bool, way: Way, view: View, up: &[u8], down: &[u8]) -> Page
-    ensures { result.at ≤ 120 }
-{
-    if rises {
-        let begun = view.begin(b"up", way.again);
-        return words::request(begun, way.message(up)).column(view::ANSWER);
+// The message that went, in a few words.
+fn worded(going: Going, alloc: Global, up: &[u8], down: &[u8]) -> Result<String, AllocError> {
+    if going.rises {
+        let asked = reading::read_request(going.way.message(up));
+        return format!(in alloc; "{}", words::Asked(asked));
     }
-    let begun = view.begin(b"down", way.again);
-    words::response(begun, way.message(down)).column(view::ANSWER)
+    let told = reading::read_response(going.way.message(down));
+    format!(in alloc; "{}", words::Told(told))
 }
 
 // The answer's number, and the phase of the end that answered.
-fn answer(page: Page, rises: bool, ends: Ends, answered: Answered, blocks: u64) -> Page
-    requires { page.at ≤ 120 }
-    ensures { result.at ≤ 120 }
-{
-    let numbered = page.number(answered.number as u64).column(view::PHASE);
-    if rises {
-        return phases::receiver(numbered, phases::roof(ends.receiver), blocks);
+fn answer(going: Going, ends: Ends, answered: Answered, view: View) -> Result<String, AllocError> {
+    let number = answered.number;
+    if going.rises {
+        let phase = ends.receiver.phase;
+        let accepted = receiver_decide::accepted(phase).blocks;
+        let alloc = view.to.alloc;
+        return format!(in alloc;
+            "{number:<7} {}, {accepted} of {} blocks",
+            phases::Receiver(phase),
+            view.blocks
+        );
     }
-    phases::indoor(numbered, phases::indoors(ends.indoor))
+    let alloc = view.to.alloc;
+    format!(in alloc;
+        "{number:<7} {}",
+        phases::IndoorEnd(ends.indoor.state.phase)
+    )
 }
 
-fn gave_up(before: Receiver, after: Receiver) -> bool {
-    let was_idle = phases::idle(phases::roof(before));
-    let is_idle = phases::idle(phases::roof(after));
-    !was_idle && is_idle
-}
-
-// Prints what silence made the ends do. `failed_before`: a line of this turn could not be written.
-fn silence(
-    failed_before: bool,
-    gave_up: bool,
-    above: Answered,
-    below: Answered,
-    view: View,
-) -> bool {
-    let roof = roof_silent(view, above.sent, gave_up);
-    let indoors = indoors_silent(view, below.sent, below.number);
-    failed_before || roof || indoors
-}
-
-fn roof_silent(view: View, sent: bool, gave_up: bool) -> bool {
-    if gave_up {
-        return view.silence(b"the receiver gives up and is Idle");
+// Prints what silence made the ends do.
+fn silence(before: Ends, passed: Passed, view: View) -> Result<(), Error> {
+    let was_idle = phases::idle(before.receiver.phase);
+    let is_idle = phases::idle(passed.ends.receiver.phase);
+    if !was_idle && is_idle {
+        view.silence("the receiver gives up and is Idle")?;
+    } else if passed.above.sent {
+        view.silence("the receiver sends again")?;
     }
-    if sent {
-        return view.silence(b"the receiver sends again");
+    // Time answers 0 or 40, and ABORT goes out with 40 (01, Numbers we answer).
+    if passed.below.number != 0 {
+        return view.silence("the indoor end gives up and sends ABORT: 40");
     }
-    false
-}
-
-// Time answers 0 or 40, and ABORT goes out with 40 (01, Numbers we answer).
-fn indoors_silent(view: View, sent: bool, number: u8) -> bool {
-    if number != 0 {
-        return view.silence(b"the indoor end gives up and sends ABORT: 40");
+    if passed.below.sent {
+        return view.silence("the indoor end sends again");
     }
-    if sent {
-        return view.silence(b"the indoor end sends again");
-    }
-    false
+    Ok(())
 }

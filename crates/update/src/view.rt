@@ -1,16 +1,7 @@
 // The lines that are printed of each turn.
-ghost use Rattle.std.specs.Prelude.{◌≤◌};
-
-use crate::page::{Page, Streams};
-
-// Where the columns of a line begin.
-const DIRECTION: usize = 13;
-
-const MESSAGE: usize = 26;
-
-pub(crate) const ANSWER: usize = 48;
-
-pub(crate) const PHASE: usize = 56;
+use crate::page::Streams;
+use std::fmt::Display;
+use std::io::Error;
 
 // Where the lines are printed, the milliseconds since the start, and the blocks of the file.
 #[derive(Clone, Copy)]
@@ -23,56 +14,33 @@ pub(crate) struct View {
 
 impl View {
     // The same view at another time.
-    pub(crate) fn at(mut self, clock: u64) -> View {
-        self.clock = clock;
-        self
-    }
-
-    // The start of a line: the time, and the direction of the message.
-    pub(crate) fn begin(self, direction: &[u8], again: bool) -> Page
-        ensures { result.at ≤ 120 }
-    {
-        let timed = Page::blank().right(8, self.clock).word(b" ms");
-        let page = timed.column(DIRECTION).word(direction);
-        if again {
-            return page.word(b" again").column(MESSAGE);
-        }
-        page.column(MESSAGE)
-    }
-
-    // An end has found the silence limit reached.
-    pub(crate) fn silence(self, words: &[u8]) -> bool {
-        self.fails(self.begin(b"silence", false).word(words))
+    pub(crate) fn at(self, clock: u64) -> View {
+        View { clock, ..self }
     }
 
     // The headings of the columns.
-    pub(crate) fn heading(self) -> bool {
-        let ways = Page::blank()
-            .word(b"       time")
-            .column(DIRECTION)
-            .word(b"way");
-        let messages = ways.column(MESSAGE).word(b"message");
-        let answers = messages.column(ANSWER).word(b"answer");
-        self.fails(
-            answers
-                .column(PHASE)
-                .word(b"who answers, and where it then stands"),
-        )
+    pub(crate) fn heading(self) -> Result<(), Error> {
+        self.say(format_args!(
+            "{:>11}  {:<12} {:<21} {:<7} {}",
+            "time", "way", "message", "answer", "who answers, and where it then stands"
+        ))
     }
 
-    // Returns whether the line could not be written, which is also said on standard error.
-    pub(crate) fn fails(self, page: Page) -> bool
-        requires { page.at ≤ 120 }
-    {
+    // A line: the time, the direction of the message or what is told in its place, and the rest.
+    pub(crate) fn row<D: Display + Drop>(self, way: &str, rest: D) -> Result<(), Error> {
+        let time = format!(in self.to.alloc; "{:>8} ms", self.clock)?;
+        self.say(format_args!("{time:<12} {way:<12} {rest}"))
+    }
+
+    // An end has found the silence limit reached.
+    pub(crate) fn silence(self, words: &str) -> Result<(), Error> {
+        self.row("silence", words)
+    }
+
+    fn say<D: Display + Drop>(self, line: D) -> Result<(), Error> {
         if self.quiet {
-            return false;
+            return Ok(());
         }
-        match page.print(self.to) {
-            Ok(()) => false,
-            Err(error) => {
-                self.to.fail("write", error);
-                true
-            }
-        }
+        self.to.say(line)
     }
 }

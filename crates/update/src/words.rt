@@ -1,100 +1,84 @@
 // A message in a few words (001 chapter 5).
-ghost use Rattle.std.specs.Prelude.{◌≤◌};
-
-use crate::page::Page;
+use std::fmt;
+use wire::malformed::Malformed;
 use wire::request::{Request, Versions};
 use wire::response::Response;
 
-pub(crate) fn request(page: Page, message: &[u8]) -> Page
-    requires { page.at ≤ 120 }
-    ensures { result.at ≤ 120 }
-{
-    let parsed = reading::read_request(message);
-    let Ok(valid) = parsed else {
-        return page.word(b"malformed");
-    };
-    match valid {
-        Request::GetFwId => page.word(b"GET_FW_ID"),
-        Request::Initiate(offered) => version(page.word(b"INITIATE, "), offered),
-        Request::Data { number, size } => block(page, number, size),
-        Request::Validate => page.word(b"VALIDATE"),
-        Request::Abort => page.word(b"ABORT"),
-        Request::NotBuilt => page.word(b"not built"),
-    }
-}
-
 // FWVersion1 to FWVersion4, with points between them.
-pub(crate) fn version(page: Page, versions: Versions) -> Page
-    requires { page.at ≤ 120 }
-    ensures { result.at ≤ 120 }
-{
-    let two = page
-        .number(versions.first as u64)
-        .word(b".")
-        .number(versions.second as u64);
-    two.word(b".")
-        .number(versions.third as u64)
-        .word(b".")
-        .number(versions.fourth as u64)
-}
+#[derive(Clone, Copy)]
+pub(crate) struct Version(pub Versions);
 
-fn block(page: Page, number: u16, size: usize) -> Page
-    requires { page.at ≤ 120 }
-    ensures { result.at ≤ 120 }
-{
-    let named = page.word(b"DATA ").number(number as u64);
-    named.word(b", ").number(size as u64).word(b" bytes")
-}
-
-pub(crate) fn response(page: Page, message: &[u8]) -> Page
-    requires { page.at ≤ 120 }
-    ensures { result.at ≤ 120 }
-{
-    let parsed = reading::read_response(message);
-    let Ok(valid) = parsed else {
-        return page.word(b"malformed");
-    };
-    match valid {
-        Response::GetFwId {
-            status: _,
-            identity,
-        } => version(page.word(b"GET_FW_ID, "), identity.versions),
-        Response::Initiate {
-            status: _,
-            wait: _,
-            size: _,
-        } => page.word(b"INITIATE"),
-        Response::Data {
-            status: _,
-            wait,
-            number,
-        } => receipt(page, wait, number),
-        Response::Validate {
-            status: _,
-            wait: _,
-            success,
-        } => verdict(page, success),
-        Response::NotBuilt => page.word(b"not built"),
+impl fmt::Display for Version {
+    fn fmt<W: fmt::Write>(&self, f: &mut fmt::Formatter<W>) -> fmt::Result {
+        let Versions {
+            first,
+            second,
+            third,
+            fourth,
+        } = self.0;
+        write!(f, "{first}.{second}.{third}.{fourth}")
     }
 }
 
-// A wait of 255 asks for nothing more: the transfer is closed (001 T5-22).
-fn receipt(page: Page, wait: u8, number: u16) -> Page
-    requires { page.at ≤ 120 }
-    ensures { result.at ≤ 120 }
-{
-    if wait == wire::codes::UNABLE {
-        return page.word(b"DATA, closed");
+#[derive(Clone, Copy)]
+pub(crate) struct Asked(pub Result<Request, Malformed>);
+
+impl fmt::Display for Asked {
+    fn fmt<W: fmt::Write>(&self, f: &mut fmt::Formatter<W>) -> fmt::Result {
+        let Ok(request) = self.0 else {
+            return write!(f, "malformed");
+        };
+        match request {
+            Request::GetFwId => write!(f, "GET_FW_ID"),
+            Request::Initiate(offered) => write!(f, "INITIATE, {}", Version(offered)),
+            Request::Data { number, size } => write!(f, "DATA {number}, {size} bytes"),
+            Request::Validate => write!(f, "VALIDATE"),
+            Request::Abort => write!(f, "ABORT"),
+            Request::NotBuilt => write!(f, "not built"),
+        }
     }
-    page.word(b"DATA, asks for ").number(number as u64)
 }
 
-fn verdict(page: Page, success: bool) -> Page
-    requires { page.at ≤ 120 }
-    ensures { result.at ≤ 120 }
-{
-    if success {
-        return page.word(b"VALIDATE, success");
+#[derive(Clone, Copy)]
+pub(crate) struct Told(pub Result<Response, Malformed>);
+
+impl fmt::Display for Told {
+    // A wait of 255 asks for nothing more: the transfer is closed (001 T5-22).
+    fn fmt<W: fmt::Write>(&self, f: &mut fmt::Formatter<W>) -> fmt::Result {
+        let Ok(response) = self.0 else {
+            return write!(f, "malformed");
+        };
+        match response {
+            Response::GetFwId {
+                status: _,
+                identity,
+            } => write!(f, "GET_FW_ID, {}", Version(identity.versions)),
+            Response::Initiate {
+                status: _,
+                wait: _,
+                size: _,
+            } => write!(f, "INITIATE"),
+            Response::Data {
+                status: _,
+                wait: wire::codes::UNABLE,
+                number: _,
+            } => write!(f, "DATA, closed"),
+            Response::Data {
+                status: _,
+                wait: _,
+                number,
+            } => write!(f, "DATA, asks for {number}"),
+            Response::Validate {
+                status: _,
+                wait: _,
+                success: true,
+            } => write!(f, "VALIDATE, success"),
+            Response::Validate {
+                status: _,
+                wait: _,
+                success: false,
+            } => write!(f, "VALIDATE"),
+            Response::NotBuilt => write!(f, "not built"),
+        }
     }
-    page.word(b"VALIDATE")
 }

@@ -6,4 +6,6 @@ use Rattle.update.proofs.session.start.Goals as goal
 pub begin-requires : goal.begin-requires
 begin-requires c =
     let a = c.args in
-    start_over _ _ a.identity a.release a.file.now a.image.now _ _ (values_wide a.release a.identity _ _ c.well_formed.1.1.0 c.well_formed.1.0) _ _ (rw c.in-Made.is at c.start-started.ensures)
+    let given = c.well_formed.1.0.1.1 in
+    let wide = values_wide a.given.release a.given.identity _ _ given.1.1.0 given.1.0 in
+    start_over _ _ a.given.identity a.given.release a.file.now a.image.now _ _ wide _ _ (rw c.in-Made.is at c.start-started.ensures)
