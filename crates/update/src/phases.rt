@@ -18,6 +18,21 @@ impl fmt::Display for Receiver {
     }
 }
 
+// The receiver's phase, with the blocks that it has accepted, of those that the file has.
+#[derive(Clone, Copy)]
+pub(crate) struct Stands {
+    pub phase: Roof,
+    pub blocks: u64,
+}
+
+impl fmt::Display for Stands {
+    fn fmt<W: fmt::Write>(&self, f: &mut fmt::Formatter<W>) -> fmt::Result {
+        let Stands { phase, blocks } = *self;
+        let accepted = receiver_decide::accepted(phase).blocks;
+        write!(f, "{}, {accepted} of {blocks} blocks", Receiver(phase))
+    }
+}
+
 #[derive(Clone, Copy)]
 pub(crate) struct IndoorEnd(pub Indoors);
 

@@ -3,12 +3,13 @@ ghost use Rattle.std.specs.Prelude.{IfOk};
 ghost use Rattle.lossy_ends.specs.Over.{Over};
 
 use crate::counts::Counts;
+use crate::phases::{IndoorEnd, Stands};
 use crate::view::View;
 use crate::{phases, words};
 use lossy::Carried;
 use lossy_ends::Ends;
 use lossy_session::Passed;
-use luck::{Answered, Going, Lost, Luck};
+use luck::{Going, Luck};
 use std::alloc::{AllocError, Global};
 use std::io::Error;
 
@@ -62,17 +63,28 @@ impl Session {
     }
 }
 
+// A line that is longer than its columns goes on a space behind them.
 fn message(carried: Carried, view: View, up: &[u8], down: &[u8]) -> Result<(), Error> {
-    let going = carried.going;
     let Some(arrived) = carried.went else {
         return Ok(());
     };
-    let words = worded(going, view.to.alloc, up, down)?;
+    let going = carried.going;
+    let alloc = view.to.alloc;
+    let words = worded(going, alloc, up, down)?;
     let Ok(answered) = arrived else {
         return view.row(way(going), format_args!("{words:<21} lost"));
     };
-    let told = answer(going, carried.ends, answered, view)?;
-    view.row(way(going), format_args!("{words:<21} {told}"))
+    let number = answered.number;
+    let told = format!(in alloc; "{words:<21} {number}")?;
+    if going.rises {
+        let stands = Stands {
+            phase: carried.ends.receiver.phase,
+            blocks: view.blocks,
+        };
+        return view.row(way(going), format_args!("{told:<29} {stands}"));
+    }
+    let phase = IndoorEnd(carried.ends.indoor.state.phase);
+    view.row(way(going), format_args!("{told:<29} {phase}"))
 }
 
 fn way(going: Going) -> &'static str {
@@ -92,26 +104,6 @@ fn worded(going: Going, alloc: Global, up: &[u8], down: &[u8]) -> Result<String,
     }
     let told = reading::read_response(going.way.message(down));
     format!(in alloc; "{}", words::Told(told))
-}
-
-// The answer's number, and the phase of the end that answered.
-fn answer(going: Going, ends: Ends, answered: Answered, view: View) -> Result<String, AllocError> {
-    let number = answered.number;
-    if going.rises {
-        let phase = ends.receiver.phase;
-        let accepted = receiver_decide::accepted(phase).blocks;
-        let alloc = view.to.alloc;
-        return format!(in alloc;
-            "{number:<7} {}, {accepted} of {} blocks",
-            phases::Receiver(phase),
-            view.blocks
-        );
-    }
-    let alloc = view.to.alloc;
-    format!(in alloc;
-        "{number:<7} {}",
-        phases::IndoorEnd(ends.indoor.state.phase)
-    )
 }
 
 // Prints what silence made the ends do.
