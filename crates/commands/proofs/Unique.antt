@@ -1,5 +1,5 @@
 -- Each public contract leaves one answer and one state of the lent memory. Written from the contracts by tools/contracts.
-use Rattle.std.specs.Prelude.{List, ℕ, ◌≡◌, Result}
+use Rattle.std.specs.Prelude.{List, ℕ, Result, ◌≡◌}
 use Rattle.basis.specs.Only.{only}
 use Rattle.commands.specs.Control.{control_of}
 use Rattle.commands.specs.Table.{entry_of}

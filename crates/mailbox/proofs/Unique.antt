@@ -4,8 +4,8 @@ use Rattle.basis.specs.Only.{only}
 use Rattle.mailbox_rules.specs.Events.{event_of, writes, succeeds, fails, changes, write_step_of}
 use Rattle.mailbox_rules.specs.Mailbox.{mailbox_fresh_of, mailbox_cci_of, message_in_of}
 use Rattle.mailbox_rules.specs.MessageIn.{settled_of}
-use Rattle.mailbox_state.specs.declared.mailbox.NoMailbox.{NoMailbox}
 use Rattle.mailbox_state.specs.declared.mailbox.Mailbox.{Mailbox}
+use Rattle.mailbox_state.specs.declared.mailbox.NoMailbox.{NoMailbox}
 use Rattle.mailbox_state.specs.declared.mailbox.Outcome.{Outcome}
 use Rattle.mailbox_state.specs.declared.state.State.{State}
 use Rattle.mailbox_state.specs.declared.step.MessageEffect.{MessageEffect}

@@ -29,6 +29,7 @@ pub fn write(state: State, control: Control) -> Step
     }
 }
 
+// One arm for each class: a table of functions or a closure would take from the caller what only the class says.
 #[tactic(auto, unfolding(mailbox_rules::specs::Write::taken_step_of))]
 fn taken(state: State, entry: Entry, control: Control) -> Step
     ensures { result ≡ taken_step_of state entry.class entry.connector control }
