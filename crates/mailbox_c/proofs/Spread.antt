@@ -4,7 +4,6 @@ use mathlib.Core.Bool.{Bool, true, false}
 use mathlib.Core.Path.{◌≡◌, refl, sym, ◌∙◌, ap}
 use native.Mathlib.Omega.{arith}
 use borrow.Author.Tests.{eqb-true}
-use lib.Bits.{bit_or}
 use lib.Dec.{eqb}
 use Rattle.basis.specs.Flag.{byte_of}
 use Rattle.basis.specs.Pick.{pick, pick_both}
@@ -73,6 +72,9 @@ module _ (n : ℕ) (h : n < 128) where
       let twice : copies / 0x1000000000000 ≡ copies / 0x40000000000 / 64 = omega arith in
       rw (twice, above) (low_6 n (n * 0))
 
+odd_byte : (n : ℕ) → n % 256 % 2 ≡ n % 2
+odd_byte n = omega arith
+
 -- The flags of any bits, by the lowest seven.
 module _ (bits : ℕ) where
   abbrev low : ℕ
@@ -84,26 +86,26 @@ module _ (bits : ℕ) where
   whole : low + 128 * (bits / 128) ≡ bits
   whole = omega arith
 
-  pub flag_0 : low * 0x040810204081 % 2 ≡ bits % 2
-  flag_0 = spread_0 low few ∙ omega arith
+  pub flag_0 : low * 0x040810204081 % 256 % 2 ≡ bits % 2
+  flag_0 = odd_byte _ ∙ spread_0 low few ∙ omega arith
 
-  pub flag_1 : low * 0x040810204081 / 0x100 % 2 ≡ bits / 2 % 2
-  flag_1 = spread_1 low few ∙ sym (low_1 low (bits / 128)) ∙ ap (λ (n : ℕ). n / 2 % 2) whole
+  pub flag_1 : low * 0x040810204081 / 0x100 % 256 % 2 ≡ bits / 2 % 2
+  flag_1 = odd_byte _ ∙ spread_1 low few ∙ sym (low_1 low (bits / 128)) ∙ ap (λ (n : ℕ). n / 2 % 2) whole
 
-  pub flag_2 : low * 0x040810204081 / 0x10000 % 2 ≡ bits / 4 % 2
-  flag_2 = spread_2 low few ∙ sym (low_2 low (bits / 128)) ∙ ap (λ (n : ℕ). n / 4 % 2) whole
+  pub flag_2 : low * 0x040810204081 / 0x10000 % 256 % 2 ≡ bits / 4 % 2
+  flag_2 = odd_byte _ ∙ spread_2 low few ∙ sym (low_2 low (bits / 128)) ∙ ap (λ (n : ℕ). n / 4 % 2) whole
 
-  pub flag_3 : low * 0x040810204081 / 0x1000000 % 2 ≡ bits / 8 % 2
-  flag_3 = spread_3 low few ∙ sym (low_3 low (bits / 128)) ∙ ap (λ (n : ℕ). n / 8 % 2) whole
+  pub flag_3 : low * 0x040810204081 / 0x1000000 % 256 % 2 ≡ bits / 8 % 2
+  flag_3 = odd_byte _ ∙ spread_3 low few ∙ sym (low_3 low (bits / 128)) ∙ ap (λ (n : ℕ). n / 8 % 2) whole
 
-  pub flag_4 : low * 0x040810204081 / 0x100000000 % 2 ≡ bits / 16 % 2
-  flag_4 = spread_4 low few ∙ sym (low_4 low (bits / 128)) ∙ ap (λ (n : ℕ). n / 16 % 2) whole
+  pub flag_4 : low * 0x040810204081 / 0x100000000 % 256 % 2 ≡ bits / 16 % 2
+  flag_4 = odd_byte _ ∙ spread_4 low few ∙ sym (low_4 low (bits / 128)) ∙ ap (λ (n : ℕ). n / 16 % 2) whole
 
-  pub flag_5 : low * 0x040810204081 / 0x10000000000 % 2 ≡ bits / 32 % 2
-  flag_5 = spread_5 low few ∙ sym (low_5 low (bits / 128)) ∙ ap (λ (n : ℕ). n / 32 % 2) whole
+  pub flag_5 : low * 0x040810204081 / 0x10000000000 % 256 % 2 ≡ bits / 32 % 2
+  flag_5 = odd_byte _ ∙ spread_5 low few ∙ sym (low_5 low (bits / 128)) ∙ ap (λ (n : ℕ). n / 32 % 2) whole
 
-  pub flag_6 : low * 0x040810204081 / 0x1000000000000 % 2 ≡ bits / 64 % 2
-  flag_6 = spread_6 low few ∙ sym (low_6 low (bits / 128)) ∙ ap (λ (n : ℕ). n / 64 % 2) whole
+  pub flag_6 : low * 0x040810204081 / 0x1000000000000 % 256 % 2 ≡ bits / 64 % 2
+  flag_6 = odd_byte _ ∙ spread_6 low few ∙ sym (low_6 low (bits / 128)) ∙ ap (λ (n : ℕ). n / 64 % 2) whole
 
 -- Flags gathered from their bytes: seen to be right for each of the 256 that there are.
 every : (Bool → Bool) → Bool
@@ -115,20 +117,15 @@ each test e true = (pick_both (test true) (test false) e).0
 each test e false = (pick_both (test true) (test false) e).1
 
 module _ (a b c d e f g h : Bool) where
-  abbrev at : Bool → ℕ → ℕ
-  at waits place = byte_of waits * 2 ^ place % 2 ^ 64
-
+  -- A byte for each.
   abbrev spread : ℕ
-  spread = bit_or (bit_or (bit_or (bit_or (bit_or (bit_or (bit_or (byte_of a) (at b 8)) (at c 16)) (at d 24)) (at e 32)) (at f 40)) (at g 48)) (at h 56)
-
-  abbrev pairs : ℕ
-  pairs = bit_or spread (spread / 2 ^ 7)
-
-  abbrev fours : ℕ
-  fours = bit_or pairs (pairs / 2 ^ 14)
+  spread =
+      byte_of a + byte_of b * 256 + byte_of c * 65536 + byte_of d * 16777216 + byte_of e * 4294967296 + byte_of f * 1099511627776
+      + byte_of g * 281474976710656
+      + byte_of h * 72057594037927936
 
   abbrev gathered : ℕ
-  gathered = bit_or fours (fours / 2 ^ 28) % 256
+  gathered = spread * 0x0102040810204080 % 2 ^ 64 / 2 ^ 56
 
   abbrev together : ℕ
   together = byte_of a + 2 * (byte_of b + 2 * (byte_of c + 2 * (byte_of d + 2 * (byte_of e + 2 * (byte_of f + 2 * (byte_of g + 2 * (byte_of h + 2 * 0)))))))

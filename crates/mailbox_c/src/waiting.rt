@@ -10,32 +10,16 @@ pub(crate) fn flags_of(bits: u32) -> [bool; 8]
     ensures { result ≡ flags_of bits }
 {
     let spread = u64::from(bits % 128) * COPIES;
-    [
-        spread % 2 == 1,
-        spread / 0x100 % 2 == 1,
-        spread / 0x1_0000 % 2 == 1,
-        spread / 0x100_0000 % 2 == 1,
-        spread / 0x1_0000_0000 % 2 == 1,
-        spread / 0x100_0000_0000 % 2 == 1,
-        spread / 0x1_0000_0000_0000 % 2 == 1,
-        bits / 128 % 2 == 1,
-    ]
+    let [a, b, c, d, e, f, g, _] = spread.to_le_bytes().map(|byte| byte % 2 == 1);
+    [a, b, c, d, e, f, g, bits / 128 % 2 == 1]
 }
 
-// Each step brings together twice as many: the lowest byte ends with all eight.
+// Times this, bit 0 of byte k comes to bit k of the highest byte, and no two bits meet.
+const GATHERS: u64 = 0x0102_0408_1020_4080;
+
 pub(crate) fn bits_of(w: [bool; 8]) -> u32
     ensures { result ≡ bits_of w }
 {
-    let spread = u64::from(w[0])
-        | (u64::from(w[1]) << 8)
-        | (u64::from(w[2]) << 16)
-        | (u64::from(w[3]) << 24)
-        | (u64::from(w[4]) << 32)
-        | (u64::from(w[5]) << 40)
-        | (u64::from(w[6]) << 48)
-        | (u64::from(w[7]) << 56);
-    let pairs = spread | (spread >> 7);
-    let fours = pairs | (pairs >> 14);
-    let all = fours | (fours >> 28);
-    (all % 256) as u32
+    let spread = u64::from_le_bytes(w.map(u8::from));
+    (spread.wrapping_mul(GATHERS) >> 56) as u32
 }
