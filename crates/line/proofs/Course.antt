@@ -4,6 +4,7 @@ use mathlib.Core.Bool.{Bool, true, false, true≢false}
 use mathlib.Core.Logic.{◌⊎◌, inl, inr}
 use mathlib.Core.Path.{◌≡◌, refl, sym, ◌∙◌, ap, subst}
 use mathlib.Core.List.{List, [], ◌∷◌}
+use native.Mathlib.Nat.{eq-or-lt_of_le}
 use native.Mathlib.Omega.{arith}
 use borrow.Author.Tests.{ne_eqb, le-ltb, ltb-true, ltb-false}
 use lib.Dec.{ltb, eqb}
@@ -69,12 +70,8 @@ use Rattle.std.specs.Prelude.{Ok}
 pub no_message : (l later : List (List ℕ)) (m : List ℕ) → l ≡ [] → l ≡ m ∷ later → ⊥
 no_message l later m e h = let some = ap length (sym e ∙ h) in omega arith
 
-low_or_last : (j n : ℕ) (t : Bool) → ltb j n ≡ t → j ≤ n → (j < n) ⊎ (j ≡ n)
-low_or_last j n true e h = inl (ltb-true j n e)
-low_or_last j n false e h = let no = ltb-false j n e in inr (omega arith)
-
 -- Reserved bits, which a reader clears, do not change whether a file is newer.
-newer_cleared : (release : Release) (identity : Identity) → Newer release identity → Newer release (cleared identity)
+pub newer_cleared : (release : Release) (identity : Identity) → Newer release identity → Newer release (cleared identity)
 newer_cleared release identity h = record { vendor = h.vendor; product = h.product; later = h.later }
 
 cleared_newer : (release : Release) (identity : Identity) → Newer release (cleared identity) → Newer release identity
@@ -177,10 +174,10 @@ module _ (file memory : List ℕ) (release : Release) (identity : Identity) wher
           (subst (λ (m : ℕ). At next (Await p.accepted) (In.Transfer q) [] (says (Closed m) ∷ []) (3 + n)) blocks (counted at' (ap (λ (m : ℕ). 3 + m) last)))
 
       block_either : (j : ℕ) (p : Progress) (q : sending.Progress) → k ≡ 4 + 2 * j → Fits
-          → (j < n) ⊎ (j ≡ n) → p.accepted.blocks ≡ j → (j < n → p.short ≡ false) → (j ≡ n → q.emptied ≡ true)
+          → (j ≡ n) ⊎ (j < n) → p.accepted.blocks ≡ j → (j < n → p.short ≡ false) → (j ≡ n → q.emptied ≡ true)
           → At x (Transfer p) (In.Transfer q) (asks (Ans.Sending j) ∷ []) [] (3 + j) → Course (suc k) next
-      block_either j p q c fit (inl low) due whole emptied at = block_taken j p q c fit low due (whole low) at
-      block_either j p q c fit (inr last) due whole emptied at = block_closed j p q c fit last due (emptied last) at
+      block_either j p q c fit (inr low) due whole emptied at = block_taken j p q c fit low due (whole low) at
+      block_either j p q c fit (inl last) due whole emptied at = block_closed j p q c fit last due (emptied last) at
 
       -- The verdict is good where VALIDATE is heard.
       validated : (a : Accepted) → x.up ≡ asks Ans.Validating ∷ [] → receiver_decide_of (Await a) Req.Validate (length memory) 0 verdict ≡ goes_to (Good a) Success
@@ -217,7 +214,7 @@ module _ (file memory : List ℕ) (release : Release) (identity : Identity) wher
           (whole_read Req.Abort refl)
           (rows.transfer_aborted (length memory) 0 verdict (receiver_progress nothing_accepted false)) request later e)
       moves_up (aborted c new large lies at) = absurd (no_message x.up later request at.rising e)
-      moves_up (block j p q c fit low due whole emptied at) = block_either j p q c fit (low_or_last j n (ltb j n) refl low) due whole emptied at
+      moves_up (block j p q c fit low due whole emptied at) = block_either j p q c fit (eq-or-lt_of_le low) due whole emptied at
       moves_up (receipt j p q c fit low due whole at) = absurd (no_message x.up later request at.rising e)
       moves_up (closing a q c fit emptied at) = absurd (no_message x.up later request at.rising e)
       moves_up (validating a c fit at) =

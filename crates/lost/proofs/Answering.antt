@@ -28,6 +28,7 @@ use Rattle.indoor_rules.specs.Response.{indoor_response_of}
 use Rattle.indoor_rules.proofs.Accepted.{emptied_last}
 use Rattle.indoor_rules.proofs.Compared.{Newer, newer_only}
 use Rattle.indoor_rules.proofs.Orders as responses
+use Rattle.line.proofs.Course.{newer_cleared}
 use Rattle.lost.specs.Lost.{Going, going, Timed, arrived_down}
 use Rattle.lost.proofs.Carried.{with, Given, plan, roof, indoors, says, asks, At, answered}
 use Rattle.lost.proofs.Times.{times, times_none, times_next, times_most}
@@ -64,7 +65,7 @@ module _ (x : Given) (ms : ℕ) (l : Timed) where
     over_validate t sent wait number = refl
 
     newer : Newer x.release (cleared x.identity)
-    newer = let h = newer_only x.release x.identity fits.newer in record { vendor = h.vendor; product = h.product; later = h.later }
+    newer = newer_cleared x.release x.identity (newer_only x.release x.identity fits.newer)
 
     first_trip : trips x 1 ≡ x.up + x.down
     first_trip =

@@ -8,6 +8,7 @@ use native.Mathlib.Omega.{arith}
 use borrow.Author.Tests.{le-ltb}
 use lib.Dec.{ltb}
 use lib.ListN.{length}
+use Rattle.std.proofs.lemmas.Bool.{cases_lt}
 use Rattle.image.specs.Blocks.{blocks_of, block_at}
 use Rattle.image.proofs.Laws.{block_length, block_behind}
 use Rattle.wire.specs.Codes.{longest}
@@ -35,7 +36,7 @@ use Rattle.indoor_rules.proofs.Genuine.{whole_read, block_read}
 use Rattle.line.specs.Line.{Wide}
 use Rattle.lost.specs.Lost.{Going, going, Timed, arrived_up}
 use Rattle.lost.proofs.Carried.{with, Given, roof, indoors, says, asks, At, heard}
-use Rattle.lost.proofs.Times.{times_next, below}
+use Rattle.lost.proofs.Times.{times_next}
 use Rattle.lost.proofs.Messages as messages
 use Rattle.lost.proofs.Messages.{Late}
 use Rattle.lost.proofs.Stations.{n, trips, begun, Cost, Opens, idle, begins, Owes, next, close, Answers, awaits, good, Station, identifying, identified, unidentified, initiating, offered, unoffered, block, receipt, unreceived, validating, succeeded, unvalidated, finished}
@@ -137,7 +138,7 @@ module _ (x : Given) (fits : Fits x) (ms : ℕ) (l : Timed) (size : length l.wor
         (omega arith) (omega arith) clock c
     rises_on (offered t sent a cost late at slow clean young since clock c) = no_message l.up later _ at.rising e
     rises_on (unoffered p s made t late opens at slow low clock lost) = no_message l.up later _ at.rising e
-    rises_on (block j s made a asked cost p emptied at due most whole last young since clock c) = block_either j s made a asked cost p emptied at due most whole last young clock c (below j (n x))
+    rises_on (block j s made a asked cost p emptied at due most whole last young since clock c) = block_either j s made a asked cost p emptied at due most whole last young clock c (cases_lt j (n x))
     rises_on (receipt p due k made t a asked cost emptied owes at young since clean clock c) = no_message l.up later _ at.rising e
     rises_on (unreceived p due k s t asked emptied owes at low since clock lost) = no_message l.up later _ at.rising e
     rises_on (validating p s made a sent cost late answers at slow clean young clock c) = validated p s made a sent cost _ late answers at slow (λ f. (clean f).0) young clock c

@@ -7,6 +7,7 @@ use mathlib.Core.List.{List, [], ◌∷◌, ◌++◌, Memᴰ}
 use native.Mathlib.Omega.{arith}
 use lib.Dec.{eqb}
 use lib.ListN.{length, take, replicate, length-replicate}
+use Rattle.std.proofs.lemmas.Bool.{cases_lt}
 use Rattle.basis.specs.Pick.{pick}
 use Rattle.lent.specs.Sent.{with_sent}
 use Rattle.wire.specs.Codes.{longest}
@@ -19,7 +20,6 @@ use Rattle.indoor_rules.specs.Response.{indoor_response_of}
 use Rattle.indoor_rules.specs.Time.{indoor_time_of}
 use Rattle.line.specs.Line.{Reached, to_receiver, to_indoor, at_receiver, at_indoor}
 use Rattle.line.specs.Line as line
-use Rattle.lost.proofs.Times.{below}
 use Rattle.lost.specs.Lost.{Going, going, Timed, sends, older, Younger, Next, rises, falls, loses_up, loses_down, Lossy, begins, goes, passes}
 
 -- Each of these was sent.
@@ -90,7 +90,7 @@ module _ (file memory : List ℕ) (release : Release) (identity : Identity) (up 
   -- No message is too old for another millisecond, or there is one that can arrive.
   waits_on_lem : (most : ℕ) (on : List Going) → Younger most on ⊎ ((g : Going) × (later : List Going) × (on ≡ g ∷ later))
   waits_on_lem most [] = inl tt
-  waits_on_lem most (g ∷ on) = first (below g.age most) (waits_on_lem most on)
+  waits_on_lem most (g ∷ on) = first (cases_lt g.age most) (waits_on_lem most on)
     where
       first : (g.age < most) ⊎ (most ≤ g.age) → Younger most on ⊎ ((h : Going) × (later : List Going) × (on ≡ h ∷ later))
           → Younger most (g ∷ on) ⊎ ((h : Going) × (later : List Going) × (g ∷ on ≡ h ∷ later))

@@ -5,18 +5,17 @@ use mathlib.Core.Logic.{◌⊎◌, inl, inr}
 use mathlib.Core.Path.{◌≡◌, refl, sym, ◌∙◌, ap, subst}
 use mathlib.Core.List.{List, [], ◌∷◌, ◌++◌}
 use native.Mathlib.Omega.{arith}
+use Rattle.std.proofs.lemmas.Bool.{cases_lt}
 use Rattle.receiver_state.specs.declared.answer.Answer.{Answer}
 use Rattle.receiver_state.specs.declared.answer.Answer.TheVariants.{Asking, Closed, Passed}
 use Rattle.receiver_state.specs.declared.phase.Accepted.{Accepted}
-use Rattle.receiver_state.specs.declared.phase.Progress.{Progress}
 use Rattle.receiver_state.specs.declared.phase.Phase as receiver
 use Rattle.receiver_state.specs.declared.phase.Phase.TheVariants.{Idle, Transfer, Await}
 use Rattle.receiver_rules.specs.Tick.{tick, receiver_tick_of}
 use Rattle.receiver_rules.proofs.Elapsed.{transfer_quiet, await_quiet, transfer_asks, await_repeats, transfer_idle, idle_still, good_still}
-use Rattle.indoor_state.specs.declared.answer.Answer.TheVariants as Ans
 use Rattle.lost.specs.Lost.{Going, going}
-use Rattle.lost.proofs.Carried.{with, Given, says, asks}
-use Rattle.lost.proofs.Times.{times, times_next, times_most, times_whole, below}
+use Rattle.lost.proofs.Carried.{with, Given, says}
+use Rattle.lost.proofs.Times.{times, times_next, times_most, times_whole}
 use Rattle.lost.proofs.Messages as messages
 use Rattle.lost.proofs.Messages.{Late, late_last}
 use Rattle.lost.proofs.Stations.{n, begun, Opens, idle, begins, Owes, next, close, Answers, awaits, good}
@@ -25,12 +24,6 @@ pub was_lost : {A : Type 0} (lost : Bool) → lost ≡ true → lost ≡ false �
 was_lost lost e f = absurd (true≢false (sym e ∙ f))
 
 module _ (x : Given) where
-  pub nothing_said : (on : List Going) → with on (says x Passed) ≡ on
-  nothing_said on = messages.passed_on x on
-
-  pub nothing_asked : (on : List Going) → with on (asks x Ans.Passed) ≡ on
-  nothing_asked on = messages.quiet_on x on
-
   -- What a millisecond does to a receiver that takes INITIATE: it still does, and what it says is a DATA response.
   pub record OpensOn (p : receiver.Phase) (s made : ℕ) : Type 0 where
     pub after : receiver.Phase
@@ -41,9 +34,6 @@ module _ (x : Given) where
     pub opens : Opens x after
     pub late : (on : List Going) → Late on → Late (with on (says x said))
     pub idle : p ≡ Idle → (after ≡ Idle) × ((on : List Going) → with on (says x said) ≡ on)
-
-  not_idle : (p : Progress) → Transfer p ≡ Idle → ⊥
-  not_idle p e = let z : ◌≡◌ {A = ℕ} 0 1 = cc in omega arith
 
   asking_late : (number : ℕ) → number ≤ 4097 → (on : List Going) → Late on → Late (with on (says x (Asking 0 number)))
   asking_late number low on h =
@@ -56,7 +46,7 @@ module _ (x : Given) where
       (late_last on (going (says x (Closed number)) 0) h (record { wait = 255; number = number; parsed = messages.closed_read x number (omega arith) }))
 
   quiet_late : (on : List Going) → Late on → Late (with on (says x Passed))
-  quiet_late on h = subst Late (sym (nothing_said on)) h
+  quiet_late on h = subst Late (sym (messages.passed_on x on)) h
 
   transfer_opens : (s made : ℕ) → (s + 1 < x.outdoor.limit) ⊎ (x.outdoor.limit ≤ s + 1) → (made < x.outdoor.resends) ⊎ (x.outdoor.resends ≤ made) → OpensOn (Transfer (begun x)) s made
   transfer_opens s made (inl low) _ = record {
@@ -67,7 +57,7 @@ module _ (x : Given) where
     ticks = transfer_quiet s 1 made x.outdoor low (begun x);
     opens = begins;
     late = quiet_late;
-    idle = λ e. absurd (not_idle (begun x) e);
+    idle = λ e. cc;
   }
   transfer_opens s made (inr high) (inl left) = record {
     after = Transfer (begun x);
@@ -77,7 +67,7 @@ module _ (x : Given) where
     ticks = transfer_asks s 1 made x.outdoor high left (begun x);
     opens = begins;
     late = asking_late 0 (omega arith);
-    idle = λ e. absurd (not_idle (begun x) e);
+    idle = λ e. cc;
   }
   transfer_opens s made (inr high) (inr none) = record {
     after = Idle;
@@ -87,7 +77,7 @@ module _ (x : Given) where
     ticks = transfer_idle s 1 made x.outdoor high none (begun x);
     opens = idle;
     late = quiet_late;
-    idle = λ e. absurd (not_idle (begun x) e);
+    idle = λ e. cc;
   }
 
   pub opens_on : (p : receiver.Phase) (s made : ℕ) → Opens x p → OpensOn p s made
@@ -99,9 +89,9 @@ module _ (x : Given) where
     ticks = idle_still s 1 made x.outdoor;
     opens = idle;
     late = quiet_late;
-    idle = λ _. (refl, nothing_said);
+    idle = λ _. (refl, messages.passed_on x);
   }
-  opens_on _ s made begins = transfer_opens s made (below (s + 1) x.outdoor.limit) (below made x.outdoor.resends)
+  opens_on _ s made begins = transfer_opens s made (cases_lt (s + 1) x.outdoor.limit) (cases_lt made x.outdoor.resends)
 
   -- What a millisecond does to a receiver that answers VALIDATE with success, as long as it does not go to Idle.
   pub record AnswersOn (p : receiver.Phase) (s made : ℕ) : Type 0 where
@@ -133,7 +123,7 @@ module _ (x : Given) where
     ticks = await_quiet s 1 made x.outdoor low a;
     answers = await_grows a s made;
     late = quiet_late;
-    quiet = λ _ _ _. nothing_said;
+    quiet = λ _ _ _. messages.passed_on x;
   }
   awaits_on few a s made most blocks since lasts (inr high) (inl left) = record {
     s' = 0;
@@ -151,7 +141,7 @@ module _ (x : Given) where
 
   -- A millisecond more of a receiver that is in Await long enough, or in Good.
   pub answers_on : n x ≤ 4096 → (p : receiver.Phase) (s made most : ℕ) → Answers x p s made most → most + 1 < x.outdoor.limit * (x.outdoor.resends + 1) → AnswersOn p s made
-  answers_on few _ s made most (awaits a _ _ _ blocks since) lasts = awaits_on few a s made most blocks since lasts (below (s + 1) x.outdoor.limit) (below made x.outdoor.resends)
+  answers_on few _ s made most (awaits a _ _ _ blocks since) lasts = awaits_on few a s made most blocks since lasts (cases_lt (s + 1) x.outdoor.limit) (cases_lt made x.outdoor.resends)
   answers_on few _ s made most (good a _ _ _) lasts = record {
     s' = s;
     made' = made;
@@ -159,7 +149,7 @@ module _ (x : Given) where
     ticks = good_still s 1 made x.outdoor a;
     answers = λ _ later _ _. good a s made later;
     late = quiet_late;
-    quiet = λ _ _ _. nothing_said;
+    quiet = λ _ _ _. messages.passed_on x;
   }
 
   module _ (s made : ℕ) where

@@ -1,12 +1,9 @@
 -- So many times the same milliseconds, and messages that are a millisecond older.
-use Prim.Native.Nat.{ℕ, zero, suc, ◌+◌, ◌-◌, ◌*◌, ◌≤◌, ◌<◌}
-use mathlib.Core.Bool.{Bool, true, false}
-use mathlib.Core.Logic.{◌⊎◌, inl, inr}
+use Prim.Native.Nat.{ℕ, zero, suc, ◌+◌, ◌*◌, ◌≤◌, ◌<◌}
 use mathlib.Core.Path.{◌≡◌, refl, ap}
 use mathlib.Core.List.{List, [], ◌∷◌, ◌++◌}
+use native.Mathlib.Nat.{mul-le-mul_right}
 use native.Mathlib.Omega.{arith}
-use borrow.Author.Tests.{ltb-true, ltb-false}
-use lib.Dec.{ltb}
 use Rattle.lost.specs.Lost.{Going, going, older, Younger}
 
 unfoldable pub times : ℕ → ℕ → ℕ
@@ -20,15 +17,9 @@ pub times_next : (j k x : ℕ) → k ≡ j + 1 → times k x ≡ times j x + x
 unfolding times
 times_next j k x e = rw e (omega arith)
 
-times_more : (d j k x : ℕ) → k ≡ j + d → times j x ≤ times k x
-times_more zero j k x e = let same : times j x ≡ times k x = ap (λ (m : ℕ). times m x) (omega arith) in omega arith
-times_more (suc d) j k x e =
-    let before = times_more d j (j + d) x refl in
-    let next = times_next (j + d) k x (omega arith) in
-    omega arith
-
 pub times_most : (j k x : ℕ) → j ≤ k → times j x ≤ times k x
-times_most j k x h = times_more (k - j) j k x (omega arith)
+unfolding times
+times_most j k x h = mul-le-mul_right x h
 
 pub times_whole : (x k : ℕ) → x * (k + 1) ≡ times k x + x
 unfolding times
@@ -38,13 +29,6 @@ times_whole x k = omega arith
 pub has_resend : (limit resends : ℕ) → limit < limit * (resends + 1) → 0 < resends
 has_resend limit zero h = absurd (omega arith)
 has_resend limit (suc k) h = omega arith
-
-pub below : (a b : ℕ) → (a < b) ⊎ (b ≤ a)
-below a b = sorted (ltb a b) refl
-  where
-    sorted : (t : Bool) → ltb a b ≡ t → (a < b) ⊎ (b ≤ a)
-    sorted true e = inl (ltb-true a b e)
-    sorted false e = inr (ltb-false a b e)
 
 pub older_last : (on : List Going) (m : List ℕ) (age : ℕ) → older (on ++ going m age ∷ []) ≡ older on ++ going m (age + 1) ∷ []
 older_last [] m age = refl
