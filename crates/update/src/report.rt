@@ -2,12 +2,11 @@
 ghost use Rattle.std.specs.Prelude.{◌≡◌, true};
 ghost use Rattle.indoor_state.specs.declared.phase.Phase.TheVariants.{Done};
 ghost use Rattle.lossy_session.specs.Judge.{reports_done};
-ghost use Rattle.lossy_ends.specs.Over.{Same, Delivered};
+ghost use Rattle.lossy_ends.specs.Over.{Over, Same, Delivered};
 
 use crate::page::Streams;
 use crate::phases::{IndoorEnd, Receiver as Roof};
-use crate::session::Ended;
-use crate::turn;
+use crate::turn::{self, Session};
 use crate::words::Version;
 use indoor_state::phase::{Phase, Reason};
 use lossy_ends::Ends;
@@ -26,15 +25,23 @@ pub(crate) fn refused(to: Streams, number: u8) {
 }
 
 // The first line that cannot be written ends the report.
-pub(crate) fn ended(to: Streams, ended: Ended, file: &[u8], image: &[u8]) -> Result<(), Error>
-    requires { ended.ends.indoor.state.phase ≡ Done → Delivered file.now ended.ends.receiver image.now }
+pub(crate) fn ended(to: Streams, session: Session, turns: u32) -> Result<(), Error>
+    requires { Over session.file.now session.ends session.image.now session.up session.down }
 {
-    let ends = ended.ends;
+    let Session {
+        ends,
+        file,
+        image,
+        up: _,
+        down: _,
+        counts,
+        luck: _,
+    } = session;
     let judged = judge(ends, file, image);
     offered(to, ends)?;
     outcome(to, ends, judged, file, image)?;
-    let time = turn::clock(ended.turns);
-    to.say(format_args!("{}; {time} ms", ended.counts))?;
+    let time = turn::clock(turns);
+    to.say(format_args!("{counts}; {time} ms"))?;
     held(to, ends.receiver, image)?;
     equality(to, judged)
 }

@@ -1,7 +1,6 @@
 // A whole session: both starts, and then turns until the indoor end is done or has failed.
-ghost use Rattle.std.specs.Prelude.{◌≡◌, IfOk};
-ghost use Rattle.indoor_state.specs.declared.phase.Phase.TheVariants.{Done};
-ghost use Rattle.lossy_ends.specs.Over.{Over, Delivered};
+ghost use Rattle.std.specs.Prelude.{◌≡◌, OnOk};
+ghost use Rattle.lossy_ends.specs.Over.{Over};
 
 use crate::counts::Counts;
 use crate::given::Given;
@@ -9,7 +8,6 @@ use crate::page::Streams;
 use crate::turn::Session;
 use crate::view::View;
 use crate::{report, turn};
-use lossy_ends::Ends;
 use lossy_session::{Limits, Started};
 use std::io::Error;
 use wire::codes;
@@ -29,47 +27,27 @@ const INDOORS: Limits = Limits {
 // Far above what a session takes: a silent line fails it, and the largest file has 4,096 blocks.
 const TURNS_MOST: u32 = 10000000;
 
-// `turns` were taken.
-#[derive(Clone, Copy)]
-pub(crate) struct Ended {
-    pub ends: Ends,
-    pub counts: Counts,
-    pub turns: u32,
-}
-
-fn carry(
-    begun: Session,
-    start_view: View,
-    file: &[u8],
-    image: &mut [u8],
-    up: &mut [u8],
-    down: &mut [u8],
-) -> Result<Ended, Error>
-    requires { Over file.now begun.ends image.old up.old down.old }
-    ensures { IfOk result (λ e. e.ends.indoor.state.phase ≡ Done → Delivered file.now e.ends.receiver image.new) }
+// Returns how many turns were taken.
+fn carry(session: &mut Session, start_view: View) -> Result<u32, Error>
+    requires { Over session.old.file.now session.old.ends session.old.image.now session.old.up session.old.down }
+    ensures over { OnOk result (Over session.old.file.now session.new.ends session.new.image.now session.new.up session.new.down) }
+    ensures file { session.new.file ≡ session.old.file }
 {
     start_view.heading()?;
-    let mut session = begun;
     let mut turns = 0;
     for turn in 1..=TURNS_MOST {
         if session.rests() {
             break;
         }
-        let view = start_view.at(turn::clock(turn));
-        session = session.step(view, file, image, up, down)?;
+        session.step(start_view.at(turn::clock(turn)))?;
         turns = turn;
     }
-    Ok(Ended {
-        ends: session.ends,
-        counts: session.counts,
-        turns,
-    })
+    Ok(turns)
 }
 
 // The file goes to a receiver with this identity, offered as this release.
 pub(crate) fn start(to: Streams, given: Given, file: &[u8], image: &mut [u8]) -> Result<(), Error> {
     let mut up = [0u8; codes::LONGEST];
-    let mut down = [0u8; codes::LONGEST];
     let started = lossy_session::start(
         ROOF,
         INDOORS,
@@ -80,7 +58,19 @@ pub(crate) fn start(to: Streams, given: Given, file: &[u8], image: &mut [u8]) ->
         &mut up,
     );
     match started {
-        Started::Made(ends) => begin(to, ends, given, file, image, &mut up, &mut down),
+        Started::Made(ends) => run(
+            to,
+            given.quiet,
+            Session {
+                ends,
+                file,
+                image,
+                up,
+                down: [0u8; codes::LONGEST],
+                counts: Counts::first(),
+                luck: given.luck,
+            },
+        ),
         Started::Refused(number) => {
             report::refused(to, number);
             Ok(())
@@ -88,28 +78,15 @@ pub(crate) fn start(to: Streams, given: Given, file: &[u8], image: &mut [u8]) ->
     }
 }
 
-fn begin(
-    to: Streams,
-    ends: Ends,
-    given: Given,
-    file: &[u8],
-    image: &mut [u8],
-    up: &mut [u8],
-    down: &mut [u8],
-) -> Result<(), Error>
-    requires { Over file.now ends image.old up.old down.old }
+fn run(to: Streams, quiet: bool, mut session: Session) -> Result<(), Error>
+    requires { Over session.file.now session.ends session.image.now session.up session.down }
 {
     let view = View {
         to,
-        quiet: given.quiet,
+        quiet,
         clock: 0,
-        blocks: image::blocks_in(file.len()) as u64,
+        blocks: image::blocks_in(session.file.len()) as u64,
     };
-    let session = Session {
-        ends,
-        counts: Counts::first(),
-        luck: given.luck,
-    };
-    let ended = carry(session, view, file, image, up, down)?;
-    report::ended(to, ended, file, image)
+    let turns = carry(&mut session, view)?;
+    report::ended(to, session, turns)
 }

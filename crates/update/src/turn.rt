@@ -1,5 +1,5 @@
 // One turn: at most one message arrives or is lost, and then time passes at both ends.
-ghost use Rattle.std.specs.Prelude.{IfOk};
+ghost use Rattle.std.specs.Prelude.{◌≡◌, OnOk};
 ghost use Rattle.lossy_ends.specs.Over.{Over};
 
 use crate::counts::Counts;
@@ -12,6 +12,7 @@ use lossy_session::Passed;
 use luck::{Going, Luck};
 use std::alloc::{AllocError, Global};
 use std::io::Error;
+use wire::codes;
 
 // The milliseconds of a turn.
 const TICK: u16 = 10;
@@ -21,44 +22,54 @@ pub(crate) fn clock(turns: u32) -> u64 {
     u64::from(turns) * u64::from(TICK)
 }
 
-// A session between two turns: both ends, what was counted, and the generator for the next message.
-#[derive(Clone, Copy)]
-pub(crate) struct Session {
+// A session between two turns: both ends, the memory that is lent to them, what was counted, and the generator for the next message.
+#[derive(Drop)]
+pub(crate) struct Session<'a> {
     pub ends: Ends,
+    pub file: &'a [u8],
+    pub image: &'a mut [u8],
+    pub up: [u8; codes::LONGEST],
+    pub down: [u8; codes::LONGEST],
     pub counts: Counts,
     pub luck: Luck,
 }
 
-impl Session {
+impl Session<'_> {
     // The message is printed before time passes, since an end may then write another one into its buffer.
-    pub(crate) fn step(
-        self,
-        view: View,
-        file: &[u8],
-        image: &mut [u8],
-        up: &mut [u8],
-        down: &mut [u8],
-    ) -> Result<Session, Error>
-        requires { Over file.now self.ends image.old up.old down.old }
-        ensures { IfOk result (λ s. Over file.now s.ends image.new up.new down.new) }
+    pub(crate) fn step(&mut self, view: View) -> Result<(), Error>
+        requires { Over self.old.file.now self.old.ends self.old.image.now self.old.up self.old.down }
+        ensures over { OnOk result (Over self.old.file.now self.new.ends self.new.image.now self.new.up self.new.down) }
+        ensures file { self.new.file ≡ self.old.file }
     {
-        let carried = lossy::carry(self.ends, self.luck, file, image, up, down);
-        message(carried, view, up, down)?;
-        let passed = lossy_session::pass(carried.ends, TICK, file, up, down);
+        let carried = lossy::carry(
+            self.ends,
+            self.luck,
+            self.file,
+            self.image,
+            &mut self.up,
+            &mut self.down,
+        );
+        message(carried, view, &self.up, &self.down)?;
+        let passed = lossy_session::pass(
+            carried.ends,
+            TICK,
+            self.file,
+            &mut self.up,
+            &mut self.down,
+        );
         silence(carried.ends, passed, view)?;
-        Ok(Session {
-            ends: passed.ends,
-            counts: self
-                .counts
-                .carried(carried.going, carried.went)
-                .above(passed.above)
-                .below(passed.below),
-            luck: carried.going.luck,
-        })
+        self.ends = passed.ends;
+        self.counts = self
+            .counts
+            .carried(carried.going, carried.went)
+            .above(passed.above)
+            .below(passed.below);
+        self.luck = carried.going.luck;
+        Ok(())
     }
 
     // The indoor end is done or has failed, and no ABORT is on its way.
-    pub(crate) fn rests(self) -> bool {
+    pub(crate) fn rests(&self) -> bool {
         phases::ended(self.ends.indoor.state.phase) && self.ends.up.bytes == 0
     }
 }
