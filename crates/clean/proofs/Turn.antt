@@ -38,7 +38,7 @@ delivers e file image up down heard image' down' did e' up' answers =
 
 none_read : (q : Request) → message.parsed_request_of [] ≡ Ok q → ⊥
 unfolding message.parsed_request_of headed pick
-none_read q e = let z : ◌≡◌ {A = ℕ} 0 1 = cc in omega arith
+none_read q e = cc
 
 module _ (r : Receiver) (i : Indoor) (file image up down : List ℕ) where
   -- A line at rest stays as it is.

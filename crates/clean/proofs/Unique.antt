@@ -1,10 +1,12 @@
 -- Each public contract leaves one answer and one state of the lent memory. Written from the contracts by tools/contracts.
-use Rattle.std.specs.Prelude.{List, ℕ, ◌≡◌}
+use Rattle.std.specs.Prelude.{List, ℕ, ◌≡◌, Result}
 use Rattle.basis.specs.Left.{left}
 use Rattle.basis.specs.Only.{only}
-use Rattle.clean.specs.Run.{Ran, clean_run_of}
+use Rattle.clean.specs.Run.{clean_run_of}
 use Rattle.clean.specs.Turn.{turned, clean_turn_of}
 use Rattle.clean.specs.declared.ends.Ends.{Ends}
+use Rattle.clean.specs.declared.ran.Ended.{Ended}
+use Rattle.clean.specs.declared.ran.NotRun.{NotRun}
 use Rattle.indoor_state.specs.declared.plan.Release.{Release}
 use Rattle.wire.specs.declared.response.Identity.{Identity}
 
@@ -14,7 +16,7 @@ pub one_turn : (self : Ends) (file image up down : List ℕ) (r r' : Ends) (imag
     → turned r image_left up_left down_left ≡ turned r' image_left' up_left' down_left'
 one_turn self file image up down r r' image_left image_left' up_left up_left' down_left down_left' is is' = only is is'
 
-pub one_run : (limit resends : ℕ) (identity : Identity) (release : Release) (file image : List ℕ) (r r' : Ran) (image_left image_left' : List ℕ)
+pub one_run : (limit resends : ℕ) (identity : Identity) (release : Release) (file image : List ℕ) (r r' : Result Ended NotRun) (image_left image_left' : List ℕ)
     → left r image_left ≡ clean_run_of limit resends identity release file image
     → left r' image_left' ≡ clean_run_of limit resends identity release file image
     → left r image_left ≡ left r' image_left'

@@ -17,6 +17,7 @@ pub struct Ends {
 }
 
 impl Ends {
+    // What is lent comes part by part, since the contract says of each what it is left with.
     // With no request on its way nothing changes: the receiver refuses an empty message and keeps its state (01, Numbers we answer).
     #[tactic(auto, using(basis::specs::Pick::tests), unfolding(crate::specs::Turn::clean_turn_of))]
     pub fn turn(self, file: &[u8], image: &mut [u8], up: &mut [u8], down: &mut [u8]) -> Ends
@@ -33,13 +34,9 @@ impl Ends {
         requires { self.underway ≤ length up.old }
         ensures { turned result image.new up.new down.new ≡ delivered_of self file.now image.old up.old down.old }
     {
-        let receiver = self.receiver;
-        let indoor = self.indoor;
-        let underway = self.underway;
-        let heard = receiver::request(receiver, image, &up[..underway], 0, Verdict::Good, down);
-        let session = heard.session;
-        let written = heard.written;
-        answer(session, indoor, file, up, down, written)
+        let request = &up[..self.underway];
+        let heard = receiver::request(self.receiver, image, request, 0, Verdict::Good, down);
+        answer(heard.session, self.indoor, file, up, down, heard.written)
     }
 
     pub(crate) fn ended(self, requests: u16) -> Ended
@@ -73,10 +70,9 @@ fn answer(
         };
     }
     let heard = indoor::response(indoor, file, &down[..written], up);
-    let session = heard.session;
     Ends {
         receiver,
-        indoor: session,
+        indoor: heard.session,
         underway: heard.written,
     }
 }
