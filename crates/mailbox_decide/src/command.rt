@@ -8,7 +8,7 @@ ghost use Rattle.mailbox_state.specs.Step.{mailbox_step};
 use crate::changes::next;
 use crate::notice::there;
 use crate::refusal::{refusal, situation};
-use crate::step::refused;
+use crate::step::{refused, taken};
 use commands::control::Control;
 use commands::table::{Class, Entry, look};
 use mailbox_state::state::{Changes, Notifications, State};
@@ -24,14 +24,14 @@ pub fn write(state: State, control: Control) -> Step
 {
     let entry = look(control.code);
     match refusal(entry.class, situation(state, control)) {
-        Ok(()) => taken(state, entry, control),
+        Ok(()) => step(state, entry, control),
         Err(refusal) => refused(state, refusal),
     }
 }
 
 // One arm for each class: a table of functions or a closure would take from the caller what only the class says.
 #[tactic(auto, unfolding(mailbox_rules::specs::Write::taken_step_of))]
-fn taken(state: State, entry: Entry, control: Control) -> Step
+fn step(state: State, entry: Entry, control: Control) -> Step
     ensures { result ≡ taken_step_of state entry.class entry.connector control }
 {
     match entry.class {
@@ -56,43 +56,33 @@ fn taken(state: State, entry: Entry, control: Control) -> Step
 pub(crate) fn with_status(state: State, status: CommandStatus, effect: MessageEffect) -> Step
     ensures { result ≡ mailbox_step (with_status state status) (Ok tt) effect }
 {
-    Step {
-        state: State { status, ..state },
-        answer: Ok(()),
-        effect,
-    }
+    taken(State { status, ..state }, effect)
 }
 
 fn reset(state: State) -> Step
     ensures { result ≡ resets state }
 {
-    Step {
-        state: State {
-            notifications: Notifications::Off,
-            status: CommandStatus::ResetDone,
-            changes: Changes {
-                shown: 0,
-                waiting: [false; 8],
-            },
-            ..state
+    let state = State {
+        notifications: Notifications::Off,
+        status: CommandStatus::ResetDone,
+        changes: Changes {
+            shown: 0,
+            waiting: [false; 8],
         },
-        answer: Ok(()),
-        effect: MessageEffect::ZeroedAtReset,
-    }
+        ..state
+    };
+    taken(state, MessageEffect::ZeroedAtReset)
 }
 
 fn acknowledge(state: State, change: bool) -> Step
     ensures { result ≡ acknowledges state change }
 {
-    Step {
-        state: State {
-            status: CommandStatus::Acknowledged,
-            changes: after(state.changes, change),
-            ..state
-        },
-        answer: Ok(()),
-        effect: MessageEffect::Kept,
-    }
+    let state = State {
+        status: CommandStatus::Acknowledged,
+        changes: after(state.changes, change),
+        ..state
+    };
+    taken(state, MessageEffect::Kept)
 }
 
 // With bit 16 set the connector shown is cleared too.
@@ -106,15 +96,12 @@ fn after(changes: Changes, change: bool) -> Changes
 fn enable(state: State, mask: u16) -> Step
     ensures { result ≡ enables state mask }
 {
-    Step {
-        state: State {
-            notifications: Notifications::On { mask },
-            status: CommandStatus::Completed { length: 0 },
-            ..state
-        },
-        answer: Ok(()),
-        effect: MessageEffect::ZeroedAtCompletion,
-    }
+    let state = State {
+        notifications: Notifications::On { mask },
+        status: CommandStatus::Completed { length: 0 },
+        ..state
+    };
+    taken(state, MessageEffect::ZeroedAtCompletion)
 }
 
 #[tactic(auto, using(basis::specs::Pick::tests), unfolding(mailbox_rules::specs::Write::starts_command))]

@@ -4,7 +4,7 @@ ghost use Rattle.mailbox_rules.specs.Change.{meets_of, heard_of, records_change,
 ghost use Rattle.mailbox_rules.specs.Write.{connector_there};
 
 use crate::changes::noted;
-use crate::step::refused;
+use crate::step::{refused, taken};
 use mailbox_state::answer::Refusal;
 use mailbox_state::state::{Notifications, State};
 use mailbox_state::step::{MessageEffect, Step};
@@ -25,11 +25,7 @@ fn present(state: State, connector: u8, reason: u16) -> Step
     ensures { result ≡ present_step_of state connector reason }
 {
     if !heard(state.notifications, reason) {
-        return Step {
-            state,
-            answer: Ok(()),
-            effect: MessageEffect::Kept,
-        };
+        return taken(state, MessageEffect::Kept);
     }
     note(state, connector)
 }
@@ -55,14 +51,11 @@ fn meets(reason: u16, mask: u16) -> bool
 fn note(state: State, connector: u8) -> Step
     ensures { result ≡ records_change state connector }
 {
-    Step {
-        state: State {
-            changes: noted(state.changes, connector),
-            ..state
-        },
-        answer: Ok(()),
-        effect: MessageEffect::Kept,
-    }
+    let state = State {
+        changes: noted(state.changes, connector),
+        ..state
+    };
+    taken(state, MessageEffect::Kept)
 }
 
 // A connector number from 1 to the count.

@@ -1,11 +1,22 @@
-// A refusal keeps everything.
-ghost use Rattle.std.specs.Prelude.{◌≡◌};
-ghost use Rattle.mailbox_state.specs.Step.{refused};
+// What is decided on an event that is taken, and on one that is refused.
+ghost use Rattle.std.specs.Prelude.{◌≡◌, Ok};
+ghost use Rattle.mailbox_state.specs.Step.{mailbox_step, refused};
 
 use mailbox_state::answer::Refusal;
 use mailbox_state::state::State;
 use mailbox_state::step::{MessageEffect, Step};
 
+pub(crate) fn taken(state: State, effect: MessageEffect) -> Step
+    ensures { result ≡ mailbox_step state (Ok tt) effect }
+{
+    Step {
+        state,
+        answer: Ok(()),
+        effect,
+    }
+}
+
+// A refusal keeps everything.
 pub fn refused(state: State, refusal: Refusal) -> Step
     ensures { result ≡ refused state refusal }
 {

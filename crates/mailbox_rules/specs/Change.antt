@@ -2,7 +2,6 @@
 use Rattle.std.specs.Prelude.{ℕ, Bool, false, not, ltb, Ok}
 use Rattle.std.specs.Int.Bits.{bit_and}
 use Rattle.basis.specs.Pick.{pick}
-use Rattle.mailbox_state.specs.State.{mailbox_state}
 use Rattle.mailbox_state.specs.Step.{mailbox_step, refused}
 use Rattle.mailbox_state.specs.declared.answer.Refusal.TheVariants.{NoSuchConnector}
 use Rattle.mailbox_state.specs.declared.state.Notifications.{Notifications}
@@ -23,7 +22,7 @@ heard_of (On mask) reason = meets_of reason mask
 
 abbrev pub records_change : State → ℕ → Step
 records_change state connector =
-    mailbox_step (mailbox_state state.connectors state.notifications state.status (noted_of state.changes connector)) (Ok tt) Kept
+    mailbox_step (record state { changes = noted_of state.changes connector }) (Ok tt) Kept
 
 -- A change that is not heard is dropped with answer 0.
 unfoldable pub present_step_of : State → ℕ → ℕ → Step

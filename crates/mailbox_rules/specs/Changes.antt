@@ -20,7 +20,7 @@ marked_of waiting c waits = pick (eqb c 0) waiting (pick (ltb connectors_most c)
 
 -- With none shown, a change becomes the shown one. The same connector waits once; a new change on the one shown waits like any other.
 unfoldable pub noted_of : Changes → ℕ → Changes
-noted_of now c = pick (eqb now.shown 0) (changes c now.waiting) (changes now.shown (marked_of now.waiting c true))
+noted_of now c = pick (eqb now.shown 0) (record now { shown = c }) (record now { waiting = marked_of now.waiting c true })
 
 -- The one shown is acknowledged: then the lowest waiting one is shown.
 unfoldable pub next_shown_of : Changes → Changes

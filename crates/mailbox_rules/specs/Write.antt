@@ -8,7 +8,7 @@ use Rattle.commands.specs.declared.table.Class.TheVariants as class
 use Rattle.commands.specs.declared.table.Entry.{Entry}
 use Rattle.commands.specs.declared.control.Control.{Control}
 use Rattle.mailbox_state.specs.Answer.{Answer}
-use Rattle.mailbox_state.specs.State.{no_changes, mailbox_state}
+use Rattle.mailbox_state.specs.State.{no_changes}
 use Rattle.mailbox_state.specs.Step.{mailbox_step, refused}
 use Rattle.mailbox_state.specs.declared.status.Command.{Command}
 use Rattle.mailbox_state.specs.declared.status.CommandStatus.{CommandStatus}
@@ -26,11 +26,11 @@ connector_there connector count = leb 1 connector && leb connector count
 
 -- The state with another status of the last command.
 abbrev pub with_status : State → CommandStatus → State
-with_status state status = mailbox_state state.connectors state.notifications status state.changes
+with_status state status = record state { status = status }
 
 -- PPM_RESET: changes and mask cleared, notifications off, nothing running, no acknowledgement due, MESSAGE_IN zero.
 abbrev pub resets : State → Step
-resets state = mailbox_step (mailbox_state state.connectors Off ResetDone no_changes) (Ok tt) ZeroedAtReset
+resets state = mailbox_step (record state { notifications = Off; status = ResetDone; changes = no_changes }) (Ok tt) ZeroedAtReset
 
 -- CANCEL: the command runs no more.
 abbrev pub cancels : State → Step
@@ -40,13 +40,13 @@ cancels state = mailbox_step (with_status state Cancelled) (Ok tt) ZeroedAtCance
 abbrev pub acknowledges : State → Bool → Step
 acknowledges state change =
     mailbox_step
-    (mailbox_state state.connectors state.notifications Acknowledged (pick change (next_shown_of state.changes) state.changes))
+    (record state { status = Acknowledged; changes = pick change (next_shown_of state.changes) state.changes })
     (Ok tt)
     Kept
 
 -- SET_NOTIFICATION_ENABLE: takes the mask, notifications on, completes at once.
 abbrev pub enables : State → ℕ → Step
-enables state mask = mailbox_step (mailbox_state state.connectors (On mask) (Completed 0) state.changes) (Ok tt) ZeroedAtCompletion
+enables state mask = mailbox_step (record state { notifications = On mask; status = Completed 0 }) (Ok tt) ZeroedAtCompletion
 
 -- What the port is to do.
 abbrev pub command_of : Bool → Control → Command
