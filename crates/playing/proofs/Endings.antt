@@ -1,9 +1,8 @@
 -- Where a recording ends: no line behind a whole one, and `stop` and nothing after it at a cut record and at an unknown kind (01, Replay program).
-use Prim.Native.Nat.{ℕ, ◌≤◌}
+use Prim.Native.Nat.{ℕ}
 use mathlib.Core.Path.{◌≡◌, refl, ◌∙◌, ap}
 use mathlib.Core.List.{List, [], ◌++◌, map, append-nil}
-use native.Mathlib.Omega.{arith}
-use Rattle.printing.specs.Line.{line_longest, stop_text, line_in, stop_of}
+use Rattle.printing.specs.Line.{stop_text}
 use Rattle.recording.specs.Reading.{next_record_of}
 use Rattle.recording.specs.Record.{AllEight}
 use Rattle.recording.specs.Apart.{apart, onward, apart_of, written_of}
@@ -16,19 +15,18 @@ use Rattle.mailbox_state.specs.declared.mailbox.Mailbox.{Mailbox}
 use Rattle.mailbox_rules.specs.History.{history_from}
 use Rattle.playing.specs.Turn.{event_in}
 use Rattle.playing.specs.Replay.{lines_of, closing_text, replayed, replayed_of, replay_of}
-use Rattle.playing.specs.Part.{closing_of}
+use Rattle.playing.specs.Part.{ending_text}
 use Rattle.playing.specs.declared.part.Stop.{Stop}
 use Rattle.std.specs.Prelude.{Err}
 
 -- A whole recording, a cut record, an unknown kind; and a part that waits for room has not ended, and has no closing line.
 pub record Closing : Type 0 where
-  pub whole : closing_of (Stop.Ended Whole) ≡ line_in []
-  pub cut : closing_of (Stop.Ended Cut) ≡ stop_of
-  pub unknown : closing_of (Stop.Ended UnknownKind) ≡ stop_of
-  pub full : closing_of Stop.Full ≡ line_in []
+  pub whole : ending_text (Stop.Ended Whole) ≡ []
+  pub cut : ending_text (Stop.Ended Cut) ≡ stop_text
+  pub unknown : ending_text (Stop.Ended UnknownKind) ≡ stop_text
+  pub full : ending_text Stop.Full ≡ []
 
 pub closing_rows : Closing
-unfolding closing_of
 closing_rows = record { whole = refl; cut = refl; unknown = refl; full = refl }
 
 -- Where no record is found, the closing line is all that is printed, and the mailbox is as it was.
@@ -51,11 +49,3 @@ pub stop_last : (m : Mailbox) (rs : List Record) → AllEight rs → (rest more 
     → replay_of m (written_of rs ++ (rest ++ more))
     ≡ replayed (lines_of (history_from m (map event_in rs)).answered ++ stop_text) (history_from m (map event_in rs)).mailbox
 stop_last m rs eights rest more e = replay_written m rs eights (rest ++ more) UnknownKind (unknown_stays rest more 0 e)
-
--- The line that ends a recording fits into its array.
-pub closing_fits : (stop : Stop) → (closing_of stop).len ≤ line_longest
-unfolding closing_of line_in
-closing_fits (Stop.Ended Whole) = omega arith
-closing_fits (Stop.Ended Cut) = omega arith
-closing_fits (Stop.Ended UnknownKind) = omega arith
-closing_fits Stop.Full = omega arith

@@ -1,14 +1,14 @@
 -- The line that a record prints, and what kind 3 leaves in MESSAGE_IN (01, Replay program).
 use Prim.Native.Nat.{ℕ, ◌+◌, ◌-◌, ◌<◌, ◌≤◌}
 use mathlib.Core.Bool.{true}
-use mathlib.Core.Path.{◌≡◌, ◌∙◌, ap}
+use mathlib.Core.Path.{◌≡◌, refl, ◌∙◌, ap}
 use native.Mathlib.Omega.{arith}
-use lib.ListN.{length, get_or, take, replicate, length-replicate, replicate-append-replicate}
+use lib.ListN.{length, get_or, replicate, length-replicate, replicate-append-replicate}
 use Rattle.std.specs.Prelude.{Ok, Err}
 use Rattle.printing.specs.Line.{line_longest, text_of}
 use Rattle.printing.specs.Digits.{figure, decimal_of}
 use Rattle.printing.proofs.Digits.{Figures, decimal_figures}
-use Rattle.printing.proofs.Texts.{line_holds, line_sized, Says, line_says, no_zero_in_front}
+use Rattle.printing.proofs.Texts.{line_sized, Says, line_says, no_zero_in_front}
 use Rattle.recording.specs.declared.record.Record.{Record}
 use Rattle.recording.specs.declared.record.Record.TheVariants.{Success}
 use Rattle.mailbox_state.specs.Answer.{Answer, mailbox_number_of}
@@ -27,9 +27,9 @@ unfolding printed
 printed_sized m r = line_sized (mailbox_cci_of (outcome_of m r).mailbox) (mailbox_number_of (outcome_of m r).answer)
 
 -- The line that a turn returns is that of its own mailbox and answer.
-pub turn_line : (m : Mailbox) (r : Record) → take (turn_of m r).line.len (turn_of m r).line.bytes ≡ text_of (mailbox_cci_of (turn_of m r).mailbox) (mailbox_number_of (turn_of m r).answer)
+pub turn_line : (m : Mailbox) (r : Record) → (turn_of m r).line ≡ text_of (mailbox_cci_of (turn_of m r).mailbox) (mailbox_number_of (turn_of m r).answer)
 unfolding turn_of printed
-turn_line m r = (line_holds (text_of (mailbox_cci_of (outcome_of m r).mailbox) (mailbox_number_of (outcome_of m r).answer))).1
+turn_line m r = refl
 
 number_small : (a : Answer) → mailbox_number_of a < 256
 number_small (Ok taken) = omega arith
@@ -45,7 +45,7 @@ number_small (Err NoSuchConnector) = omega arith
 
 -- So what is read in it, after any history, is CCI and the answer's number.
 pub turn_says : {count : ℕ} {m : Mailbox} → Reached count m → (r : Record)
-    → Says (mailbox_cci_of (turn_of m r).mailbox) (mailbox_number_of (turn_of m r).answer) (take (turn_of m r).line.len (turn_of m r).line.bytes)
+    → Says (mailbox_cci_of (turn_of m r).mailbox) (mailbox_number_of (turn_of m r).answer) (turn_of m r).line
 unfolding turn_of outcome_of
 turn_says {count} {m} reached r =
     rw (turn_line m r) (line_says _ _ (reached_width (reached_next count m (event_in r) reached)) (number_small (turn_of m r).answer))

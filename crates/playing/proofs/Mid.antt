@@ -8,11 +8,9 @@ use borrow.Author.Tests.{lt-ltb, le-ltb}
 use lib.ListN.{length, take, drop, take-append-drop}
 use lib.Seq.{length-take-le, drop-drop}
 use Rattle.basis.specs.Pick.{pick_yes, pick_no}
-use Rattle.basis.specs.Left.{Left, left}
-use Rattle.lent.specs.Put.{pasted}
-use Rattle.lent.proofs.Laws.{pasted_there, pasted_behind, pasted_length}
-use Rattle.printing.specs.Line.{line_longest, line_in}
-use Rattle.printing.proofs.Texts.{line_holds}
+use Rattle.basis.specs.Left.{Left, left, leaves}
+use Rattle.lent.specs.Put.{Placed, pasted, put_of}
+use Rattle.lent.proofs.Laws.{put_fits, pasted_there, pasted_behind, pasted_length}
 use Rattle.recording.specs.Reading.{found, next_record_of}
 use Rattle.recording.specs.Writing.{record_bytes_of}
 use Rattle.recording.specs.Apart.{onward, apart_of}
@@ -23,7 +21,6 @@ use Rattle.recording.specs.declared.reader.Ending.{Ending}
 use Rattle.mailbox_state.specs.declared.mailbox.Mailbox.{Mailbox}
 use Rattle.playing.specs.Turn.{outcome_of, printed, turn_of}
 use Rattle.playing.specs.Part.{Plays, plays, after, plays_of, part_of, leads_of, play_of}
-use Rattle.playing.proofs.Lines.{printed_sized}
 use Rattle.playing.specs.declared.part.Stop.{Stop}
 use Rattle.playing.specs.declared.part.Played.{Played}
 use Rattle.playing.specs.declared.turn.Turn.{Turn}
@@ -46,18 +43,9 @@ mid_begins started part before =
 
 -- The line that a record prints, as the code has it.
 module _ (mailbox : Mailbox) (r : Record) (turn : Turn) (e : turn ≡ turn_of mailbox r) where
-  line_is : turn.line ≡ line_in (printed (outcome_of mailbox r))
+  pub line_is : turn.line ≡ printed (outcome_of mailbox r)
   unfolding turn_of
   line_is = ap (λ (t : Turn). t.line) e
-
-  pub line_len : turn.line.len ≡ length (printed (outcome_of mailbox r))
-  line_len = rw line_is (line_holds (printed (outcome_of mailbox r))).0
-
-  pub line_fits : turn.line.len ≤ line_longest
-  line_fits = rw line_len (printed_sized mailbox r).1
-
-  pub line_bytes : take turn.line.len turn.line.bytes ≡ printed (outcome_of mailbox r)
-  line_bytes = rw line_is (line_holds (printed (outcome_of mailbox r))).1
 
   pub turn_mailbox : turn.mailbox ≡ (outcome_of mailbox r).mailbox
   unfolding turn_of
@@ -107,9 +95,11 @@ module _ (started : Mailbox) (part before : List ℕ) (mailbox : Mailbox) (taken
         place = past.2;
       }
 
-  pub mid_turn : (r : Record) (next : ℕ) (turn : Turn) (now : List ℕ) → next_record_of part taken ≡ found r next → turn ≡ turn_of mailbox r
-      → turn.line.len ≤ length out - written → now ≡ pasted out written (take turn.line.len turn.line.bytes)
-      → Mid started part before turn.mailbox next (written + turn.line.len) now
-  mid_turn r next turn now e f h p =
-      let len = line_len mailbox r turn f in
-      rw (turn_mailbox mailbox r turn f, len) (mid_goes r next now e (omega arith) (p ∙ ap (pasted out written) (line_bytes mailbox r turn f)))
+  pub mid_turn : (r : Record) (next : ℕ) (turn : Turn) (text now : List ℕ) (p : Placed) → next_record_of part taken ≡ found r next → turn ≡ turn_of mailbox r
+      → text ≡ turn.line → length text ≤ length out - written → left p now ≡ put_of out written text
+      → Mid started part before turn.mailbox next (written + length text) now
+  mid_turn r next turn text now p e f is h put =
+      let room = mid.room in
+      let line : text ≡ printed (outcome_of mailbox r) = is ∙ line_is mailbox r turn f in
+      let there : now ≡ pasted out written text = leaves (put ∙ put_fits out written text (omega (arith, room, h))) in
+      rw (turn_mailbox mailbox r turn f, line) (mid_goes r next now e (rw (sym line) h) (there ∙ ap (pasted out written) line))

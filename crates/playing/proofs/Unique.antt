@@ -3,7 +3,7 @@ use Rattle.std.specs.Prelude.{List, ℕ, ◌≡◌}
 use Rattle.basis.specs.Left.{left}
 use Rattle.basis.specs.Only.{only}
 use Rattle.mailbox_state.specs.declared.mailbox.Mailbox.{Mailbox}
-use Rattle.playing.specs.Part.{play_of, closing_of}
+use Rattle.playing.specs.Part.{play_of, ending_text}
 use Rattle.playing.specs.Replay.{begun}
 use Rattle.playing.specs.Turn.{turn_of}
 use Rattle.playing.specs.declared.part.Played.{Played}
@@ -31,7 +31,7 @@ pub one_begin : (r r' : Mailbox)
 one_begin r r' is is' = only is is'
 
 pub one_closing : (stop : Stop) (r r' : Line)
-    → r ≡ closing_of stop
-    → r' ≡ closing_of stop
+    → r ≡ ending_text stop
+    → r' ≡ ending_text stop
     → r ≡ r'
 one_closing stop r r' is is' = only is is'

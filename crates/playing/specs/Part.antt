@@ -3,8 +3,6 @@ use Rattle.std.specs.Prelude.{ℕ, ◌+◌, ◌-◌, List, [], ◌∷◌, ◌++�
 use Rattle.basis.specs.Pick.{pick}
 use Rattle.basis.specs.Left.{Left, left}
 use Rattle.lent.specs.Written.{written_into}
-use Rattle.printing.specs.Line.{line_in}
-use Rattle.printing.specs.declared.text.Line.{Line}
 use Rattle.recording.specs.Apart.{Apart, apart_of}
 use Rattle.recording.specs.Writing.{record_bytes_of}
 use Rattle.recording.specs.declared.record.Record.{Record}
@@ -51,6 +49,3 @@ play_of m part out = leads_of (part_of m (length out) (apart_of part)) out
 abbrev pub ending_text : Stop → List ℕ
 ending_text (Ended ending) = closing_text ending
 ending_text Full = []
-
-unfoldable pub closing_of : Stop → Line
-closing_of stop = line_in (ending_text stop)

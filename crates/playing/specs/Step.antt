@@ -1,5 +1,5 @@
 -- What a record does to MESSAGE_IN, and the line that it prints from the state and the answer alone (01, Replay program).
-use Rattle.printing.specs.Line.{line_of}
+use Rattle.printing.specs.Line.{text_of}
 use Rattle.printing.specs.declared.text.Line.{Line}
 use Rattle.mailbox_state.specs.Answer.{Answer, mailbox_number_of}
 use Rattle.mailbox_state.specs.declared.state.State.{State}
@@ -16,4 +16,4 @@ zeroed_of ZeroedAtCompletion = ZeroedAtCompletion
 zeroed_of Filled = ZeroedAtCompletion
 
 abbrev pub line_after : State → Answer → Line
-line_after state answer = line_of (cci_bits_of state.status state.changes.shown) (mailbox_number_of answer)
+line_after state answer = text_of (cci_bits_of state.status state.changes.shown) (mailbox_number_of answer)

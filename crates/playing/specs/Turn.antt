@@ -2,7 +2,7 @@
 use Rattle.std.specs.Prelude.{ℕ, List, replicate}
 use Rattle.recording.specs.declared.record.Record.{Record}
 use Rattle.recording.specs.declared.record.Record.TheVariants.{Control, Change, Success, Failure}
-use Rattle.printing.specs.Line.{text_of, line_in}
+use Rattle.printing.specs.Line.{text_of}
 use Rattle.mailbox_state.specs.Answer.{mailbox_number_of}
 use Rattle.mailbox_rules.specs.Mailbox.{mailbox_cci_of}
 use Rattle.mailbox_rules.specs.Events.{Event, writes, succeeds, fails, changes, event_of}
@@ -25,4 +25,4 @@ unfoldable pub printed : Outcome → List ℕ
 printed o = text_of (mailbox_cci_of o.mailbox) (mailbox_number_of o.answer)
 
 unfoldable pub turn_of : Mailbox → Record → Turn
-turn_of m r = record { mailbox = (outcome_of m r).mailbox; answer = (outcome_of m r).answer; line = line_in (printed (outcome_of m r)) }
+turn_of m r = record { mailbox = (outcome_of m r).mailbox; answer = (outcome_of m r).answer; line = printed (outcome_of m r) }

@@ -1,7 +1,7 @@
 // How a whole recording begins, and the line that it ends with.
 ghost use Rattle.std.specs.Prelude.{◌≡◌};
 ghost use Rattle.playing.specs.Replay.{begun};
-ghost use Rattle.playing.specs.Part.{closing_of};
+ghost use Rattle.playing.specs.Part.{ending_text};
 
 use crate::part::Stop;
 use mailbox_state::mailbox::Mailbox;
@@ -19,9 +19,8 @@ pub fn begin() -> Mailbox
 }
 
 // The line that closes a recording which ends here: none where it is whole.
-#[tactic(auto, unfolding(crate::specs::Part::closing_of))]
 pub fn closing(stop: Stop) -> Line
-    ensures { result ≡ closing_of stop }
+    ensures { result ≡ ending_text stop }
 {
     match stop {
         Stop::Ended(Ending::Whole) | Stop::Full => printing::none(),

@@ -1,39 +1,52 @@
 -- What a line is, and what it reads back as (01, Replay program).
-use Prim.Native.Nat.{ℕ, ◌+◌, ◌-◌, ◌^◌, ◌<◌, ◌≤◌}
+use Prim.Native.Nat.{ℕ, ◌-◌, ◌/◌, ◌%◌, ◌^◌, ◌<◌, ◌≤◌}
 use mathlib.Core.List.{List, [], ◌∷◌, ◌++◌}
-use mathlib.Core.Path.{◌≡◌, refl}
+use mathlib.Core.Path.{◌≡◌, refl, ◌∙◌, ap}
 use native.Mathlib.Omega.{arith}
 use lib.Dec.{ltb}
 use lib.ListN.{length, get_or, take, drop, length-append}
-use lib.Seq.{take_at, take-append_seam, get_or_at}
-use borrow.Author.Tests.{ltb-false}
-use Rattle.basis.specs.Pick.{pick_all}
+use lib.Seq.{take_at, get_or_at}
+use borrow.Author.Tests.{ltb-false, lt-ltb, le-ltb}
+use Rattle.basis.specs.Lists.{spell}
+use Rattle.basis.specs.Pick.{pick_yes, pick_no, pick_all}
 use Rattle.printing.specs.Digits.{figure, hex_of, decimal_of}
-use Rattle.printing.specs.Line.{space, newline, line_longest, tail_of, tail_in, text_of, line_in, line_of, cci_in, answer_in}
+use Rattle.printing.specs.Line.{space, newline, tail_of, text_of, cci_in, answer_in}
 use Rattle.printing.proofs.Digits.{hex_read, decimal_read}
-use Rattle.printing.specs.declared.text.Line.{Line}
 
 pub decimal_short : (n : ℕ) → (1 ≤ length (decimal_of n)) × (length (decimal_of n) ≤ 3)
 unfolding decimal_of
 decimal_short n = pick_all (λ (t : List ℕ). (1 ≤ length t) × (length t ≤ 3)) (ltb n 10) _ _ (λ _. (omega arith, omega arith))
     (λ _. pick_all (λ (t : List ℕ). (1 ≤ length t) × (length t ≤ 3)) (ltb n 100) _ _ (λ _. (omega arith, omega arith)) (λ _. (omega arith, omega arith)))
 
-pub tail_short : (n : ℕ) → length (tail_of n) ≤ 5
-unfolding tail_of
-tail_short n = let s = decimal_short n in simp length-append (omega (arith, s))
+-- A number of one figure, of two and of three, each figure a remainder of 10 as the code has it.
+decimal_one : (n : ℕ) → n < 10 → decimal_of n ≡ figure (n % 10) ∷ []
+unfolding decimal_of
+decimal_one n h = let e : n ≡ n % 10 = omega arith in pick_yes _ _ _ (lt-ltb n 10 h) ∙ ap (λ (k : ℕ). figure k ∷ []) e
 
-pub line_joined : (cci n : ℕ) → ◌≡◌ {A = Line} (record { bytes = hex_of 8 cci ++ (tail_in (tail_of n)).bytes; len = 8 + (tail_in (tail_of n)).len }) (line_of cci n)
-unfolding line_in tail_in
-line_joined cci n =
-    let s = tail_short n in
-    let e : line_longest - length (hex_of 8 cci ++ tail_of n) ≡ 5 - length (tail_of n) = omega arith in
-    let f : 8 + length (tail_of n) ≡ length (text_of cci n) = omega arith in
-    rw (e, f)
+decimal_two : (n : ℕ) → 10 ≤ n → n < 100 → decimal_of n ≡ figure (n / 10 % 10) ∷ figure (n % 10) ∷ []
+unfolding decimal_of
+decimal_two n h k =
+    let e : n / 10 ≡ n / 10 % 10 = omega arith in
+    pick_no _ _ _ (le-ltb n 10 h) ∙ pick_yes _ _ _ (lt-ltb n 100 k) ∙ ap (λ (t : ℕ). figure t ∷ figure (n % 10) ∷ []) e
 
--- A line's array begins with its text, and its length is the text's.
-pub line_holds : (text : List ℕ) → ((line_in text).len ≡ length text) × (take (line_in text).len (line_in text).bytes ≡ text)
-unfolding line_in
-line_holds text = (refl, take-append_seam text _)
+decimal_three : (n : ℕ) → 100 ≤ n → decimal_of n ≡ figure (n / 100) ∷ figure (n / 10 % 10) ∷ figure (n % 10) ∷ []
+unfolding decimal_of
+decimal_three n h = pick_no _ _ _ (le-ltb n 10 (omega arith)) ∙ pick_no _ _ _ (le-ltb n 100 h)
+
+-- The digits of CCI one by one, and then the number.
+module _ (cci n : ℕ) (digits : List ℕ) (eight : digits ≡ hex_of 8 cci) where
+  line_of_figures : (figures : List ℕ) → decimal_of n ≡ figures → spell 0 digits 0 8 (space ∷ figures ++ newline ∷ []) ≡ text_of cci n
+  unfolding spell tail_of
+  line_of_figures figures e = rw (eight, e) refl
+
+  pub line_of_one : n < 10 → spell 0 digits 0 8 (space ∷ figure (n % 10) ∷ newline ∷ []) ≡ text_of cci n
+  line_of_one h = line_of_figures (figure (n % 10) ∷ []) (decimal_one n h)
+
+  pub line_of_two : 10 ≤ n → n < 100 → spell 0 digits 0 8 (space ∷ figure (n / 10 % 10) ∷ figure (n % 10) ∷ newline ∷ []) ≡ text_of cci n
+  line_of_two h k = line_of_figures (figure (n / 10 % 10) ∷ figure (n % 10) ∷ []) (decimal_two n h k)
+
+  pub line_of_three : 100 ≤ n → spell 0 digits 0 8 (space ∷ figure (n / 100) ∷ figure (n / 10 % 10) ∷ figure (n % 10) ∷ newline ∷ []) ≡ text_of cci n
+  line_of_three h = line_of_figures (figure (n / 100) ∷ figure (n / 10 % 10) ∷ figure (n % 10) ∷ []) (decimal_three n h)
 
 -- Reading a line gives the CCI and the number that it was made from.
 pub record Says (cci number : ℕ) (text : List ℕ) : Type 0 where

@@ -2,7 +2,7 @@
 use Rattle.std.specs.Prelude.{ℕ, List, ◌≡◌, []}
 use Rattle.basis.specs.Only.{only}
 use Rattle.printing.specs.Digits.{hex_of}
-use Rattle.printing.specs.Line.{line_of, stop_of, line_in}
+use Rattle.printing.specs.Line.{text_of, stop_text}
 use Rattle.printing.specs.declared.text.Line.{Line}
 
 pub one_digits : (value : ℕ) (r r' : List ℕ)
@@ -12,19 +12,25 @@ pub one_digits : (value : ℕ) (r r' : List ℕ)
 one_digits value r r' is is' = only is is'
 
 pub one_line_of : (cci number : ℕ) (r r' : Line)
-    → r ≡ line_of cci number
-    → r' ≡ line_of cci number
+    → r ≡ text_of cci number
+    → r' ≡ text_of cci number
     → r ≡ r'
 one_line_of cci number r r' is is' = only is is'
 
 pub one_stop : (r r' : Line)
-    → r ≡ stop_of
-    → r' ≡ stop_of
+    → r ≡ stop_text
+    → r' ≡ stop_text
     → r ≡ r'
 one_stop r r' is is' = only is is'
 
 pub one_none : (r r' : Line)
-    → r ≡ line_in []
-    → r' ≡ line_in []
+    → r ≡ []
+    → r' ≡ []
     → r ≡ r'
 one_none r r' is is' = only is is'
+
+pub one_text : (self : Line) (r r' : List ℕ)
+    → r ≡ self
+    → r' ≡ self
+    → r ≡ r'
+one_text self r r' is is' = only is is'

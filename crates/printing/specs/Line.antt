@@ -1,8 +1,6 @@
 -- A line: CCI as eight capital hex digits, a space, the answer's number, a newline (01, Replay program).
-use Rattle.std.specs.Prelude.{ℕ, ◌-◌, List, [], ◌∷◌, ◌++◌, length, take, drop, replicate}
+use Rattle.std.specs.Prelude.{ℕ, ◌-◌, ◌≤◌, ◌≡◌, List, [], ◌∷◌, ◌++◌, length, take, drop, replicate}
 use Rattle.printing.specs.Digits.{hex_of, decimal_of, number_in}
-use Rattle.printing.specs.declared.text.Line.{Line}
-use Rattle.printing.specs.declared.tail.Tail.{Tail}
 
 abbrev pub space : ℕ
 space = 0x20
@@ -25,20 +23,13 @@ stop_text = 0x73 ∷ 0x74 ∷ 0x6F ∷ 0x70 ∷ newline ∷ []
 abbrev pub padded : ℕ → List ℕ → List ℕ
 padded room text = text ++ replicate (room - length text) 0
 
-unfoldable pub tail_in : List ℕ → Tail
-tail_in text = record { bytes = padded 5 text; len = length text }
-
 abbrev pub line_longest : ℕ
 line_longest = 13
 
-unfoldable pub line_in : List ℕ → Line
-line_in text = record { bytes = padded line_longest text; len = length text }
-
-abbrev pub line_of : ℕ → ℕ → Line
-line_of cci number = line_in (text_of cci number)
-
-abbrev pub stop_of : Line
-stop_of = line_in stop_text
+-- The text is the front of the array, and zeros are after it.
+pub record IsLine (bytes : List ℕ) (len : ℕ) : Type 0 where
+  pub fits : len ≤ line_longest
+  pub zeros : bytes ≡ padded line_longest (take len bytes)
 
 -- Read back: the first eight characters, and those between the space and the newline.
 abbrev pub cci_in : List ℕ → ℕ

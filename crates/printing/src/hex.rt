@@ -6,15 +6,16 @@ ghost use Rattle.printing.specs.Digits.{digit_of, hex_of};
 pub fn digits(value: u32) -> [u8; 8]
     ensures { result ≡ hex_of 8 value }
 {
-    let a = digit(value / 0x1000_0000);
-    let b = digit(value / 0x100_0000);
-    let c = digit(value / 0x10_0000);
-    let d = digit(value / 0x1_0000);
-    let e = digit(value / 0x1000);
-    let f = digit(value / 0x100);
-    let g = digit(value / 0x10);
-    let h = digit(value);
-    [a, b, c, d, e, f, g, h]
+    [
+        digit(value / 0x1000_0000),
+        digit(value / 0x100_0000),
+        digit(value / 0x10_0000),
+        digit(value / 0x1_0000),
+        digit(value / 0x1000),
+        digit(value / 0x100),
+        digit(value / 0x10),
+        digit(value),
+    ]
 }
 
 // The lowest digit.

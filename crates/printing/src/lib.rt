@@ -2,7 +2,6 @@
 #![tactic(auto)]
 
 pub mod hex;
-mod tail;
 mod text;
 
-pub use text::{Line, line_of, none, stop};
+pub use text::{LONGEST, Line, line_of, none, stop};

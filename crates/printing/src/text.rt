@@ -1,58 +1,81 @@
-// A line of text as an array by value with its length.
-ghost use Rattle.std.specs.Prelude.{◌≡◌, [], ◌++◌};
-ghost use Rattle.printing.specs.Line.{line_in, line_of, stop_of};
+// A line of text by value.
+ghost use Rattle.std.specs.Prelude.{◌≡◌, ℕ, List, [], length, take};
+ghost use Rattle.printing.specs.Line.{text_of, stop_text, padded, line_longest, IsLine};
+ghost use Rattle.printing.specs.Held.{held};
 
 use crate::hex;
-use crate::tail::tail_of;
+use std::marker::Model;
 
 // Eight digits, a space, three digits and a newline.
 pub const LONGEST: usize = 13;
 
+// The text is the first `len` bytes, and those behind it are zero.
 #[derive(Clone, Copy)]
 pub struct Line {
-    pub bytes: [u8; LONGEST],
-    pub len: usize,
+    bytes: [u8; LONGEST],
+    len: usize,
 }
 
-#[tactic(auto, using(crate::proofs::Texts::line_joined, crate::proofs::Texts::tail_short), unfolding(crate::specs::Line::tail_in))]
+impl Model for Line {
+    ghost Value = { List ℕ };
+
+    ghost view = { λ l. take l.len l.bytes };
+
+    ghost invariant = { λ l. IsLine l.bytes l.len };
+
+    ghost inverse = { λ text. record { bytes = padded line_longest text; len = length text } };
+
+    ghost inverse_ok = { λ a h. held (λ bytes len. record { bytes = bytes; len = len }) a.bytes a.len h };
+}
+
+impl Line {
+    pub fn text(&self) -> &[u8]
+        ensures { result.now ≡ self.now }
+    {
+        &self.bytes[..self.len]
+    }
+}
+
+// CCI, a space, the number in decimal without a zero in front, a newline (01, Replay program).
 pub fn line_of(cci: u32, number: u8) -> Line
-    ensures { result ≡ line_of cci number }
+    ensures { result ≡ text_of cci number }
 {
-    let digits = hex::digits(cci);
-    let tail = tail_of(number);
-    let behind = tail.bytes;
-    let bytes = joined(digits, behind);
-    Line {
-        bytes,
-        len: 8 + tail.len,
+    let [a, b, c, d, e, f, g, h] = hex::digits(cci);
+    let hundreds = b'0' + number / 100;
+    let tens = b'0' + number / 10 % 10;
+    let ones = b'0' + number % 10;
+    match number {
+        0..=9 => Line {
+            bytes: [a, b, c, d, e, f, g, h, b' ', ones, b'\n', 0, 0],
+            len: 11,
+        },
+        10..=99 => Line {
+            bytes: [a, b, c, d, e, f, g, h, b' ', tens, ones, b'\n', 0],
+            len: 12,
+        },
+        _ => Line {
+            bytes: [a, b, c, d, e, f, g, h, b' ', hundreds, tens, ones, b'\n'],
+            len: 13,
+        },
     }
 }
 
 // The line printed at an unknown kind or a cut record (01, Replay program).
 pub fn stop() -> Line
-    ensures { result ≡ stop_of }
+    ensures { result ≡ stop_text }
 {
     Line {
-        bytes: [b's', b't', b'o', b'p', b'\n', 0, 0, 0, 0, 0, 0, 0, 0],
+        bytes: *b"stop\n\0\0\0\0\0\0\0\0",
         len: 5,
     }
 }
 
 // A line without a character, where nothing is printed.
 pub fn none() -> Line
-    ensures { result ≡ line_in [] }
+    ensures { result ≡ [] }
 {
     Line {
         bytes: [0; LONGEST],
         len: 0,
     }
-}
-
-fn joined(digits: [u8; 8], tail: [u8; 5]) -> [u8; LONGEST]
-    ensures { result ≡ digits ++ tail }
-{
-    [
-        digits[0], digits[1], digits[2], digits[3], digits[4], digits[5], digits[6], digits[7],
-        tail[0], tail[1], tail[2], tail[3], tail[4],
-    ]
 }

@@ -1,33 +1,41 @@
 -- A part that was played, its rest brought to the buffer's front.
 use Prim.Native.Nat.{ℕ, zero, suc, ◌+◌, ◌*◌, ◌-◌, ◌<◌, ◌≤◌}
-use mathlib.Core.Bool.{true, false, true≢false}
+use mathlib.Core.Bool.{Bool, true, false, true≢false}
 use mathlib.Core.List.{List, [], ◌∷◌}
 use mathlib.Core.Logic.{◌⊎◌, inl, inr}
 use mathlib.Core.Path.{◌≡◌, refl, sym, ◌∙◌, ap, subst}
-use native.Mathlib.Nat.{sub-zero, zero-sub, suc-sub-suc}
+use native.Mathlib.Nat.{zero-add, sub-zero, zero-sub, suc-sub-suc}
 use native.Mathlib.Omega.{arith}
 use lib.ListN.{length, take, drop, length-drop}
-use lib.Seq.{take-add, length-take-le, take_at, take-nil}
+use lib.Seq.{paste, take-add, length-take-le, take_at, take-nil}
 use Rattle.basis.specs.Pick.{pick_yes, pick_no}
 use Rattle.basis.specs.Left.{Left, left}
 use Rattle.lent.specs.Written.{written_into}
 use Rattle.printing.specs.Line.{line_longest}
-use Rattle.printing.proofs.Texts.{line_holds}
-use Rattle.printing.specs.declared.text.Line.{Line}
 use Rattle.recording.specs.Apart.{apart_of}
-use Rattle.playing.specs.Part.{Plays, part_of, leads_of, play_of, ending_text, closing_of}
+use Rattle.playing.specs.Part.{Plays, part_of, leads_of, play_of}
 use Rattle.playing.specs.Parts.{ReplayState, replay_state, roomy_of, rested_of, further_of, unknown_of, read_of, last_of}
 use Rattle.playing.proofs.PartLaws.{play_mailbox, play_taken, play_stop, play_writes, play_within}
 use Rattle.playing.proofs.Roomy.{part_roomy}
 use Rattle.playing.proofs.Parts.{further_few}
 use Rattle.playing.specs.declared.part.Played.{Played}
-use Rattle.playing.specs.declared.part.Stop.{Stop}
-use Rattle.replay.specs.declared.course.Course.{Course}
-use Rattle.replay.specs.declared.course.Course.TheVariants.{Runs, Over}
-use Rattle.replay.specs.declared.course.End.{End}
-use Rattle.replay.specs.declared.course.End.TheVariants.{Closed, WriteFailed}
+use Rattle.std.specs.Prelude.{Option, Some, None}
+use Rattle.replay.specs.declared.end.End.{End}
+use Rattle.replay.specs.declared.end.End.TheVariants.{Closed, WriteFailed}
 use Rattle.replay.specs.declared.progress.Progress.{Progress}
-use Rattle.replay.specs.Turns.{runs_of, held_most, replay_state_at, turn_from, over_of, course_of, Took, Goes}
+use Rattle.replay.specs.Turns.{held_most, replay_state_at, turn_from, over_of, course_of, Took, Goes}
+
+-- Room for the longest line to every byte, by the lengths of the two arrays.
+pub roomy : (before out : List ℕ) → length before ≡ 65536 → length out ≡ 851968 → line_longest * length before ≤ length out
+roomy before out b o = omega (arith, b, o)
+
+-- Bytes that come to the front of their own buffer, as they are.
+pub to_front : (before : List ℕ) (from to : ℕ) → from ≤ to → to ≤ length before → paste before 0 (drop from before) (to - from) ≡ written_into (take (to - from) (drop from before)) before
+to_front before from to low high =
+    let s = drop from before in
+    let long : length s ≡ length before - from = length-drop from before in
+    let l : length (take (to - from) s) ≡ to - from = length-take-le (to - from) s (omega arith) in
+    rw (zero-add (to - from), l) refl
 
 -- What is behind the first t of the first f elements.
 drop_of_take : (t f : ℕ) (l : List ℕ) → drop t (take f l) ≡ take (f - t) (drop t l)
@@ -37,17 +45,16 @@ drop_of_take (suc t) (suc f) [] = sym (take-nil (suc f - suc t))
 drop_of_take (suc t) (suc f) (x ∷ l) = drop_of_take t f l ∙ ap (λ (k : ℕ). take k (drop t l)) (sym (suc-sub-suc f t))
 
 -- A run that is over does not go on.
-pub over_stops : (course : Course) (end : End) → course ≡ Over end → course ≡ Runs → ⊥
-over_stops course end over runs = true≢false (sym (ap runs_of runs) ∙ ap runs_of over)
+abbrev is_over : Option End → Bool
+is_over None = false
+is_over (Some end) = true
 
--- The closing line's bytes are what closes the recording.
-pub last_due : (line : Line) (stop : Stop) → line ≡ closing_of stop → take line.len line.bytes ≡ ending_text stop
-unfolding closing_of
-last_due line stop e = rw e (line_holds (ending_text stop)).1
+pub over_stops : (course : Option End) (end : End) → course ≡ Some end → course ≡ None → ⊥
+over_stops course end over runs = true≢false (sym (ap is_over over) ∙ ap is_over runs)
 
-pub closed_stops : (self x : Progress) → (x ≡ over_of self WriteFailed) ⊎ (x ≡ over_of self (Closed self.stop)) → x.course ≡ Runs → ⊥
-closed_stops self x (inl e) = over_stops x.course WriteFailed (ap (λ (p : Progress). p.course) e)
-closed_stops self x (inr e) = over_stops x.course (Closed self.stop) (ap (λ (p : Progress). p.course) e)
+pub closed_stops : (self x : Progress) → (x ≡ over_of self WriteFailed) ⊎ (x ≡ over_of self (Closed self.stop)) → x.end ≡ None → ⊥
+closed_stops self x (inl e) = over_stops x.end WriteFailed (ap (λ (p : Progress). p.end) e)
+closed_stops self x (inr e) = over_stops x.end (Closed self.stop) (ap (λ (p : Progress). p.end) e)
 
 -- Where something has come, it is played.
 some_read : (r : ReplayState) (come : List ℕ) → 0 < length come → (read_of r come ≡ further_of r come) × (last_of r come ≡ unknown_of (further_of r come).stop)
@@ -56,9 +63,9 @@ some_read r (byte ∷ bytes) h = (refl, refl)
 
 -- Where nothing has come, the recording ends here.
 pub nothing_took : (self x : Progress) (buffer out : List ℕ) → (x ≡ over_of self WriteFailed) ⊎ (x ≡ over_of self (Closed self.stop)) → Goes (turn_from self buffer) [] out x buffer out
-nothing_took self x buffer out (inl e) = inl (ap (λ (p : Progress). p.course) e)
+nothing_took self x buffer out (inl e) = inl (ap (λ (p : Progress). p.end) e)
 nothing_took self x buffer out (inr e) =
-    inr (subst (λ (p : Progress). Took (turn_from self buffer) [] out p buffer out) (sym e) (record { course = sym (pick_yes true _ _ refl); state = refl; led = refl }))
+    inr (subst (λ (p : Progress). Took (turn_from self buffer) [] out p buffer out) (sym e) (record { end = sym (pick_yes true _ _ refl); state = refl; led = refl }))
 
 -- The part that was played is the bytes that waited and the fresh ones.
 module _ (self : Progress) (before out : List ℕ) (fresh : ℕ) (some : 0 < fresh) (there : self.held + fresh ≤ length before) (room : line_longest * length before ≤ length out)
@@ -122,9 +129,12 @@ module _ (self : Progress) (before out : List ℕ) (fresh : ℕ) (some : 0 < fre
       omega (arith, few, size, d, l)
 
   -- Its rest comes to the front.
-  module _ (after : List ℕ) (a : after ≡ written_into (take (self.held + fresh - r.taken) (drop r.taken before)) before) where
-    abbrev next : Course → Progress
-    next course = record { mailbox = r.mailbox; held = self.held + fresh - r.taken; stop = r.stop; course = course }
+  module _ (after : List ℕ) (copied : after ≡ paste before 0 (drop r.taken before) (self.held + fresh - r.taken)) where
+    a : after ≡ written_into (take (self.held + fresh - r.taken) (drop r.taken before)) before
+    a = copied ∙ to_front before r.taken (self.held + fresh) within.0 there
+
+    abbrev next : Option End → Progress
+    next course = record { mailbox = r.mailbox; held = self.held + fresh - r.taken; stop = r.stop; end = course }
 
     front : take (self.held + fresh - r.taken) after ≡ drop r.taken part
     front =
@@ -132,23 +142,23 @@ module _ (self : Progress) (before out : List ℕ) (fresh : ℕ) (some : 0 < fre
         let l : length s ≡ self.held + fresh - r.taken = length-take-le (self.held + fresh - r.taken) (drop r.taken before) (simp length-drop (omega arith)) in
         ap (take (self.held + fresh - r.taken)) a ∙ take_at s (drop (length s) before) (self.held + fresh - r.taken) l ∙ sym (drop_of_take r.taken (self.held + fresh) before)
 
-    took : (course : Course) → course ≡ course_of from come → Took from come out (next course) after now
+    took : (course : Option End) → course ≡ course_of from come → Took from come out (next course) after now
     took course c =
         record {
-          course = c;
+          end = c;
           state = subst (λ (x : ReplayState). replay_state_at (next course) after x.text ≡ x) (sym stepped) (ap (λ (held : List ℕ). replay_state r.mailbox held r.stop (roomy_of self.mailbox part).text) front);
           led = lines_lead ∙ ap (λ (x : ReplayState). written_into x.text out) (sym stepped);
         }
 
-    pub goes_on : unknown_of r.stop ≡ false → Goes from come out (next Runs) after now
-    goes_on u = inr (took Runs (sym (pick_no _ _ _ (is_last ∙ u))))
+    pub goes_on : unknown_of r.stop ≡ false → Goes from come out (next None) after now
+    goes_on u = inr (took None (sym (pick_no _ _ _ (is_last ∙ u))))
 
-    closes : (x : Progress) → unknown_of r.stop ≡ true → (x ≡ over_of (next Runs) WriteFailed) ⊎ (x ≡ over_of (next Runs) (Closed r.stop)) → Goes from come out x after now
-    closes x u (inl f) = inl (ap (λ (p : Progress). p.course) f)
+    closes : (x : Progress) → unknown_of r.stop ≡ true → (x ≡ over_of (next None) WriteFailed) ⊎ (x ≡ over_of (next None) (Closed r.stop)) → Goes from come out x after now
+    closes x u (inl f) = inl (ap (λ (p : Progress). p.end) f)
     closes x u (inr f) =
         inr (subst (λ (p : Progress). Took from come out p after now) (sym f)
-        (took (Over (Closed r.stop)) (sym (pick_yes _ _ _ (is_last ∙ u) ∙ ap (λ (y : ReplayState). Over (Closed y.stop)) stepped))))
+        (took (Some (Closed r.stop)) (sym (pick_yes _ _ _ (is_last ∙ u) ∙ ap (λ (y : ReplayState). Some (Closed y.stop)) stepped))))
 
-    pub goes_no_further : (x : Progress) → unknown_of r.stop ≡ true → (x ≡ over_of (next Runs) WriteFailed) ⊎ (x ≡ over_of (next Runs) (Closed r.stop))
-        → (x.course ≡ Runs → x.held ≤ held_most) × Goes from come out x after now
-    goes_no_further x u f = (λ runs. absurd (closed_stops (next Runs) x f runs), closes x u f)
+    pub goes_no_further : (x : Progress) → unknown_of r.stop ≡ true → (x ≡ over_of (next None) WriteFailed) ⊎ (x ≡ over_of (next None) (Closed r.stop))
+        → (x.end ≡ None → x.held ≤ held_most) × Goes from come out x after now
+    goes_no_further x u f = (λ runs. absurd (closed_stops (next None) x f runs), closes x u f)

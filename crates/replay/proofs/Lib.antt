@@ -1,4 +1,3 @@
 pub mod Answers
 pub mod Carry
-pub mod Front
 pub mod Run

@@ -4,7 +4,7 @@ ghost use Rattle.std.specs.Prelude.{◌≡◌};
 ghost use Rattle.playing.specs.Part.{ending_text};
 ghost use Rattle.playing.specs.Parts.{roomy_of};
 
-use crate::course::End;
+use crate::end::End;
 use mailbox_state::mailbox::Mailbox;
 use playing::Stop;
 
@@ -35,9 +35,7 @@ fn is_written(rt: &HostRuntime, text: &[u8]) -> bool {
 // A read or a write that failed is told where it fails.
 pub(crate) fn tell(rt: &HostRuntime, end: End) {
     match end {
-        End::Closed(_) => {}
-        End::ReadFailed => {}
-        End::WriteFailed => {}
+        End::Closed(_) | End::ReadFailed | End::WriteFailed => {}
         End::TooManyReads => {
             let _ = eprintln!(rt;
                 "replay: too many reads, the rest of the recording was not played"

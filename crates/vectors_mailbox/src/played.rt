@@ -9,7 +9,10 @@ pub(crate) fn show(recording: &[u8], output: &mut [u8]) -> Said {
     let said = Said::nothing()
         .number(played.taken as u64)
         .number(played.written as u64);
-    close(text(why(said, stop), output, played.written), stop)
+    close(
+        text(why(said, stop), script::upto(output, played.written)),
+        stop,
+    )
 }
 
 fn why(said: Said, stop: Stop) -> Said {
@@ -21,10 +24,9 @@ fn why(said: Said, stop: Stop) -> Said {
 
 fn close(said: Said, stop: Stop) -> Said {
     let line = playing::closing(stop);
-    let bytes = line.bytes;
-    text(said, &bytes, line.len)
+    text(said, line.text())
 }
 
-fn text(said: Said, bytes: &[u8], len: usize) -> Said {
-    said.text(b" :").lines(script::upto(bytes, len))
+fn text(said: Said, bytes: &[u8]) -> Said {
+    said.text(b" :").lines(bytes)
 }

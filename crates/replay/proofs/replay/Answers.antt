@@ -1,13 +1,18 @@
-use Rattle.std.proofs.Common.{rules, sym, ◌∙◌}
-use Rattle.replay.proofs.Run.{is_running, going_begins, going_on}
+use Rattle.std.proofs.Common.{refl}
+use Rattle.replay.proofs.Run.{going_begins, going_on, going_ends}
 use Rattle.replay.proofs.replay.Goals as goal
 
-pub loop-turns-init : goal.loop-turns-init
-loop-turns-init c = (rw c.begin-progress.ensures (going_begins _), search rules, search rules)
+pub loop-init : goal.loop-init
+loop-init c = (rw c.begin-progress.ensures (going_begins _), rw c.begin-progress.ensures refl)
 
-pub loop-turns-preserved : goal.loop-turns-preserved
-loop-turns-preserved c =
-    let l = c.loop-turns in
+pub returns-in-Some : goal.returns-in-Some
+returns-in-Some c =
+    let l = c.loop in
     let turn = c.turn-progress in
-    let runs = is_running l.progress.course (sym c.runs.ensures ∙ c.if-not-runs.false) in
-    (going_on l.progress l.buffer _ turn.result _ _ l.invariant.0 runs turn.ensures.held_le_held_most_2 turn.ensures.turned, search rules, search rules)
+    going_ends turn.result turn.new.buffer c.in-Some.end (going_on l.progress l.buffer l.out turn.result _ _ l.invariant.0 l.invariant.1 turn.ensures.held_le_held_most_2 turn.ensures.turned) c.in-Some.is
+
+pub loop-preserved : goal.loop-preserved
+loop-preserved c =
+    let l = c.loop in
+    let turn = c.turn-progress in
+    (going_on l.progress l.buffer l.out turn.result _ _ l.invariant.0 l.invariant.1 turn.ensures.held_le_held_most_2 turn.ensures.turned, c.in_default.is)

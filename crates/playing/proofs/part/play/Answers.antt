@@ -1,7 +1,7 @@
-use Rattle.std.proofs.Common.{arith, refl, sym}
+use Rattle.std.proofs.Common.{arith, refl, sym, ap, ◌∙◌, length}
 use Rattle.mailbox_rules.specs.Mailbox.{mailbox}
 use Rattle.recording.proofs.Cases.{found_past}
-use Rattle.playing.proofs.Mid.{mid_done, mid_full, mid_turn, line_len, line_fits}
+use Rattle.playing.proofs.Mid.{mid_done, mid_full, mid_turn, line_is}
 use Rattle.playing.proofs.Steps.{turn_is}
 use Rattle.playing.proofs.part.play.Goals as goal
 
@@ -17,15 +17,8 @@ returns-then-out-written c =
     let l = c.loop-found in
     let s = c.step_of-step in
     let turn = turn_is (mailbox l.state l.message) _ s.result s.ensures _ _ c.line_after-line.ensures refl in
-    let len = line_len _ _ _ turn in
-    mid_full g.mailbox g.part.now g.out.now (mailbox l.state l.message) l.taken l.written l.out l.invariant _ _ (sym c.in-Ok.ensures) (omega (arith, c.if-out-written.true, len))
-
-pub put-requires-clause-len_le_line_longest : goal.put-requires-clause-len_le_line_longest
-put-requires-clause-len_le_line_longest c =
-    let l = c.loop-found in
-    let s = c.step_of-step in
-    let turn = turn_is (mailbox l.state l.message) _ s.result s.ensures _ _ c.line_after-line.ensures refl in
-    line_fits _ _ _ turn
+    let size = ap length (c.text-text.ensures ∙ line_is _ _ _ turn) in
+    mid_full g.mailbox g.part.now g.out.now (mailbox l.state l.message) l.taken l.written l.out l.invariant _ _ (sym c.in-Ok.ensures) (omega (arith, size, c.if-out-written.true))
 
 pub loop-found-smaller : goal.loop-found-smaller
 loop-found-smaller c =
@@ -38,4 +31,4 @@ loop-found-preserved c =
     let l = c.loop-found in
     let s = c.step_of-step in
     let turn = turn_is (mailbox l.state l.message) _ s.result s.ensures _ _ c.line_after-line.ensures c.settle_zeros.ensures in
-    mid_turn g.mailbox g.part.now g.out.now (mailbox l.state l.message) l.taken l.written l.out l.invariant _ _ _ _ (sym c.in-Ok.ensures) turn c.if-out-written.false c.put.ensures
+    mid_turn g.mailbox g.part.now g.out.now (mailbox l.state l.message) l.taken l.written l.out l.invariant _ _ _ _ _ _ (sym c.in-Ok.ensures) turn c.text-text.ensures c.if-out-written.false c.put.ensures
