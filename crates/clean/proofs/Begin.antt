@@ -20,8 +20,7 @@ use Rattle.wire.specs.declared.response.Identity.{Identity}
 use Rattle.wire.specs.Codes.{image_size_most}
 use Rattle.receiver_rules.specs.Session.{receiver_fresh_of, receiver_start_of}
 use Rattle.receiver_state.specs.declared.session.Receiver.{Receiver}
-use Rattle.receiver_state.specs.declared.session.Started.{Started as ReceiverStarted}
-use Rattle.receiver_state.specs.declared.session.Started.TheVariants as Rec
+use Rattle.receiver_state.specs.Session.{Started as ReceiverStarted}
 use Rattle.receiver_rules.proofs.Fresh.{refused_made}
 use Rattle.indoor_state.specs.declared.plan.Release.{Release}
 use Rattle.indoor_rules.specs.Start.{indoor_begin_of, indoor_started_of, indoor_start_of}
@@ -38,18 +37,18 @@ use Rattle.clean.specs.On.{clean_world, On}
 use Rattle.clean.specs.declared.ran.NotRun.TheVariants.{FileSize}
 use Rattle.clean.proofs.On.{one_goes}
 
-made_checked : (identity : Identity) (capacity : ℕ) (r : Receiver) (x : Checked) → receiver_fresh_of x identity capacity ≡ Rec.Made r → (s : Settings) × (x ≡ Ok s)
+made_checked : (identity : Identity) (capacity : ℕ) (r : Receiver) (x : Checked) → receiver_fresh_of x identity capacity ≡ Ok r → (s : Settings) × (x ≡ Ok s)
 unfolding receiver_fresh_of
 made_checked identity capacity r (Ok s) e = (s, refl)
-made_checked identity capacity r (Err refusal) e = absurd (refused_made r e)
+made_checked identity capacity r (Err refusal) e = absurd (refused_made _ r e)
 
 -- Settings that made a receiver are within the limits.
-made_settings : (limit resends : ℕ) (identity : Identity) (capacity : ℕ) (r : Receiver) → receiver_start_of limit resends identity capacity ≡ Rec.Made r
+made_settings : (limit resends : ℕ) (identity : Identity) (capacity : ℕ) (r : Receiver) → receiver_start_of limit resends identity capacity ≡ Ok r
     → (s : Settings) × (settings_of limit resends ≡ Ok s)
 unfolding receiver_start_of
 made_settings limit resends identity capacity r =
-    pick_all (λ (x : ReceiverStarted). x ≡ Rec.Made r → (s : Settings) × (settings_of limit resends ≡ Ok s)) (ltb image_size_most capacity) _ _
-    (λ _ e. absurd (refused_made r e))
+    pick_all (λ (x : ReceiverStarted). x ≡ Ok r → (s : Settings) × (settings_of limit resends ≡ Ok s)) (ltb image_size_most capacity) _ _
+    (λ _ e. absurd (refused_made _ r e))
     (λ _. made_checked identity capacity r (settings_of limit resends))
 
 abbrev NotMade : Started → Type 0
@@ -68,7 +67,7 @@ module _ (release : Release) (identity : Identity) (file up memory : List ℕ) (
       (λ short _. let few = ltb-true (length up) longest short in absurd (omega arith))
       (λ _ h. absurd (miss (1 ∷ 2 ∷ 3 ∷ []) 0 tt h))))
 
-  module _ (limit resends : ℕ) (r : Receiver) (made : receiver_start_of limit resends r.identity (length memory) ≡ Rec.Made r) where
+  module _ (limit resends : ℕ) (r : Receiver) (made : receiver_start_of limit resends r.identity (length memory) ≡ Ok r) where
     -- With settings that made a receiver and a buffer of 260 bytes, the start refuses nothing but the file's length (46).
     pub start_refuses : (x : Started) (up' : List ℕ) → left x up' ≡ indoor_start_of limit resends release file up → NotMade x
         → left (Err FileSize) memory ≡ clean_begun_of release identity file memory

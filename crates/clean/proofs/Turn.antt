@@ -13,7 +13,7 @@ use Rattle.receiver_state.specs.declared.verdict.Verdict.{Verdict}
 use Rattle.receiver_state.specs.declared.verdict.Verdict.TheVariants as Ver
 use Rattle.receiver_rules.specs.Request.{Effect, effect, receiver_request_of}
 use Rattle.receiver_state.specs.declared.session.Receiver.{Receiver}
-use Rattle.receiver_state.specs.declared.session.Outcome.{Outcome}
+use Rattle.receiver_state.specs.Session.{Outcome}
 use Rattle.receiver_rules.proofs.Walk.{request_walk}
 use Rattle.receiver_rules.proofs.Written.{request_within}
 use Rattle.indoor_state.specs.declared.session.Indoor.{Indoor}

@@ -6,7 +6,7 @@ ghost use Rattle.clean.specs.Turn.{turned, delivered_of, clean_turn_of, answered
 use crate::ran::Ended;
 use indoor_state::session::Indoor;
 use receiver_state::session::Receiver;
-use receiver_state::verdict::Verdict;
+use receiver_state::verdict::{Given, Verdict};
 
 // `underway` counts the bytes of the request on its way; 0 where there is none.
 #[derive(Clone, Copy)]
@@ -35,7 +35,11 @@ impl Ends {
         ensures { turned result image.new up.new down.new ≡ delivered_of self file.now image.old up.old down.old }
     {
         let request = &up[..self.underway];
-        let heard = receiver::request(self.receiver, image, request, 0, Verdict::Good, down);
+        let given = Given {
+            readiness: 0,
+            verdict: Verdict::Good,
+        };
+        let heard = receiver::request(self.receiver, image, request, given, down);
         answer(heard.session, self.indoor, file, up, down, heard.written)
     }
 

@@ -1,8 +1,7 @@
 // A whole session: both starts, and then turns until nothing is on its way.
-ghost use Rattle.std.specs.Prelude.{◌≡◌, length};
+ghost use Rattle.std.specs.Prelude.{◌≡◌, length, Ok};
 ghost use Rattle.basis.specs.Left.{left};
 ghost use Rattle.receiver_rules.specs.Session.{receiver_start_of};
-ghost use Rattle.receiver_state.specs.declared.session.Started.TheVariants.{Made};
 ghost use Rattle.line.specs.Line.{Wide};
 ghost use Rattle.clean.specs.Run.{clean_run_of, clean_begun_of, clean_carried_of};
 ghost use Rattle.clean.specs.On.{On};
@@ -11,7 +10,7 @@ use crate::ends::Ends;
 use crate::ran::{Ended, NotRun};
 use indoor_state::plan::Release;
 use indoor_state::session::Started as Begun;
-use receiver_state::session::{Receiver, Started};
+use receiver_state::session::Receiver;
 use wire::codes;
 use wire::response::Identity;
 
@@ -30,7 +29,7 @@ pub fn run(
     ensures { left result image.new ≡ clean_run_of limit resends identity release file.now image.old }
 {
     let started = receiver::start(limit, resends, identity, image.len());
-    let Started::Made(receiver) = started else {
+    let Ok(receiver) = started else {
         return Err(NotRun::Settings);
     };
     begin(receiver, limit, resends, release, file, image)
@@ -45,7 +44,7 @@ fn begin(
     file: &[u8],
     image: &mut [u8],
 ) -> Result<Ended, NotRun>
-    requires image_value { receiver_start_of limit resends receiver.identity (length image.old) ≡ Made receiver }
+    requires image_value { receiver_start_of limit resends receiver.identity (length image.old) ≡ Ok receiver }
     requires wide { Wide release receiver.identity }
     ensures { left result image.new ≡ clean_begun_of release receiver.identity file.now image.old }
 {

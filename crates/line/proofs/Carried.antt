@@ -22,8 +22,7 @@ use Rattle.receiver_state.specs.declared.phase.Phase as receiver
 use Rattle.receiver_rules.specs.Range.{Timely}
 use Rattle.receiver_rules.specs.Decide.{receiver_decide_of}
 use Rattle.receiver_state.specs.declared.verdict.Verdict.{Verdict}
-use Rattle.receiver_state.specs.declared.step.Store.{Store}
-use Rattle.receiver_state.specs.declared.step.Store.TheVariants as Sto
+use Rattle.std.specs.Prelude.{Option, None}
 use Rattle.receiver_state.specs.declared.step.Step.{Step}
 use Rattle.receiver_rules.specs.Time.{receiver_time_of}
 use Rattle.receiver_rules.specs.Request.{Effect, image_after, request_done, receiver_request_of}
@@ -126,12 +125,12 @@ module _ (file memory : List ℕ) (release : Release) (identity : Identity) wher
 
       -- A request that puts no block leaves the image as it was.
       pub heard_lies : (m : List ℕ) (p : receiver.Phase) (q : Request) (then : Step) → x.world.receiver.phase ≡ p → x.up ≡ m ∷ []
-          → message.parsed_request_of m ≡ Ok q → receiver_decide_of p q (length memory) 0 verdict ≡ then → then.store ≡ Sto.Nowhere → x.world.image ≡ memory
+          → message.parsed_request_of m ≡ Ok q → receiver_decide_of p q (length memory) 0 verdict ≡ then → then.store ≡ None → x.world.image ≡ memory
           → (request : List ℕ) (later : List (List ℕ)) → x.up ≡ request ∷ later → (call request).image ≡ memory
       unfolding image_after
       heard_lies m p q then e rising r d nowhere lies request later f =
           let same : request ≡ m = first_same request m later [] (sym f ∙ rising) in
-          ap (λ (y : Effect). y.image) (ap call same ∙ done m p q then e r d) ∙ ap (λ (y : Store). image_after y x.world.image m) nowhere ∙ lies
+          ap (λ (y : Effect). y.image) (ap call same ∙ done m p q then e r d) ∙ ap (λ (y : Option ℕ). image_after y x.world.image m) nowhere ∙ lies
 
     abbrev pub reply : List ℕ → Left IndoorOutcome
     reply response = indoor_response_of x.world.indoor file response out

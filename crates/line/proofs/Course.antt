@@ -33,7 +33,7 @@ use Rattle.receiver_state.specs.declared.phase.Phase.TheVariants.{Idle, Transfer
 use Rattle.receiver_rules.specs.Decide.{goes_to, receiver_progress, receiver_decide_of}
 use Rattle.receiver_state.specs.declared.verdict.Verdict.{Verdict}
 use Rattle.receiver_state.specs.declared.verdict.Verdict.TheVariants as Ver
-use Rattle.receiver_state.specs.declared.step.Store.TheVariants as Sto
+use Rattle.std.specs.Prelude.{Some}
 use Rattle.receiver_state.specs.declared.step.Step.{Step}
 use Rattle.receiver_rules.proofs.ByPhase as rows
 use Rattle.receiver_rules.proofs.DataOrders as orders
@@ -151,7 +151,7 @@ module _ (file memory : List ℕ) (release : Release) (identity : Identity) wher
           let long = block_length file j in
           let few = few in
           let some : size ≡ 0 → ⊥ = λ z. omega arith in
-          let then : Step = record { phase = Transfer (receiver_progress (accepted_counts (j + 1) (256 * j + size)) (ltb size 256)); answer = Asking 0 (j + 1); store = Sto.At j } in
+          let then : Step = record { phase = Transfer (receiver_progress (accepted_counts (j + 1) (256 * j + size)) (ltb size 256)); answer = Asking 0 (j + 1); store = Some j } in
           receipt j (receiver_progress (accepted_counts (j + 1) (256 * j + size)) (ltb size 256)) q (omega arith) fit low refl (λ more. le-ltb size 256 (omega arith))
           (heard file memory release identity x s out room verdict fair.in_range (asks (Ans.Sending j)) (Transfer p) (In.Transfer q) (Req.Data j size) then (3 + j) at
           (block_read release.versions file j (omega arith))

@@ -1,6 +1,6 @@
 -- Demand 3: both ends over a line. What one call does is the definition that the contract of that call cites, on the very bytes that were
 -- sent; there is no other model of an end. This file is the whole statement, and `demand3` in proofs/Demand3.antt is its proof.
-use Rattle.std.specs.Prelude.{ℕ, suc, ◌+◌, ◌*◌, ◌≤◌, ◌<◌, true, ◌⊎◌, ◌≡◌, refl, length, take, drop}
+use Rattle.std.specs.Prelude.{ℕ, suc, ◌+◌, ◌*◌, ◌≤◌, ◌<◌, true, ◌⊎◌, ◌≡◌, refl, length, take, drop, Ok}
 use Rattle.std.proofs.Common.{inl, inr}
 use mathlib.Core.List.{List, [], ◌∷◌, ◌++◌, Memᴰ}
 use Rattle.basis.specs.Left.{Left, left}
@@ -21,8 +21,7 @@ use Rattle.receiver_rules.specs.Session.{receiver_start_of}
 use Rattle.receiver_rules.specs.Request.{Effect, receiver_request_of}
 use Rattle.receiver_rules.specs.Time.{receiver_time_of}
 use Rattle.receiver_state.specs.declared.session.Receiver.{Receiver}
-use Rattle.receiver_state.specs.declared.session.Outcome.{Outcome as ReceiverOutcome}
-use Rattle.receiver_state.specs.declared.session.Started.TheVariants as ReceiverStarted
+use Rattle.receiver_state.specs.Session.{Outcome as ReceiverOutcome}
 use Rattle.indoor_state.specs.declared.plan.Release.{Release}
 use Rattle.indoor_state.specs.declared.phase.Phase.TheVariants.{Done}
 use Rattle.indoor_rules.specs.Newer.{newer_of}
@@ -32,7 +31,6 @@ use Rattle.indoor_rules.specs.Time.{indoor_time_of}
 use Rattle.indoor_state.specs.declared.session.Indoor.{Indoor}
 use Rattle.indoor_state.specs.declared.session.Outcome.{Outcome as IndoorOutcome}
 use Rattle.indoor_state.specs.declared.session.Started.TheVariants as IndoorStarted
-use Rattle.std.specs.Prelude.{Ok}
 
 -- Both ends, the image memory, and every request and every response that was ever sent, as bytes, the newest first.
 pub record World : Type 0 where
@@ -128,7 +126,7 @@ module _ (file memory : List ℕ) (release : Release) (identity : Identity) wher
   -- Both ends start fresh, the receiver with the first two settings and the indoor end with the others, and the line holds nothing but the
   -- request that the indoor end's start wrote.
   pub record Fresh (limit resends limit' resends' : ℕ) (w : World) : Type 0 where
-    pub receiver : receiver_start_of limit resends identity (length memory) ≡ ReceiverStarted.Made w.receiver
+    pub receiver : receiver_start_of limit resends identity (length memory) ≡ Ok w.receiver
     pub out : List ℕ
     pub written : ℕ
     pub out' : List ℕ

@@ -7,7 +7,7 @@ use indoor_state::session::Indoor;
 use lossy_ends::{Indoors, Roof};
 use luck::Way;
 use receiver_state::session::Receiver;
-use receiver_state::verdict::Verdict;
+use receiver_state::verdict::{Given, Verdict};
 
 // The request in `up`. The verdict comes with the request (01, The receiver's phases), and on this line it is always good.
 #[tactic(auto, unfolding(crate::specs::Arrive::request_arrives))]
@@ -21,7 +21,11 @@ pub(crate) fn request(
 ) -> Roof
     ensures { left (left result down.new) image.new ≡ request_arrives receiver way falling image.old up.now down.old }
 {
-    let heard = receiver::request(receiver, image, way.message(up), 0, Verdict::Good, down);
+    let given = Given {
+        readiness: 0,
+        verdict: Verdict::Good,
+    };
+    let heard = receiver::request(receiver, image, way.message(up), given, down);
     lossy_ends::roof_called(heard, falling)
 }
 

@@ -16,7 +16,7 @@ use Rattle.lent.specs.Sent.{with_sent}
 use Rattle.receiver_state.specs.Phase.{accepted_of}
 use Rattle.receiver_state.specs.declared.phase.Phase.{Phase}
 use Rattle.receiver_rules.specs.Respond.{receiver_bytes_of}
-use Rattle.receiver_state.specs.declared.session.Outcome.{Outcome as ReceiverOutcome}
+use Rattle.receiver_state.specs.Session.{Outcome as ReceiverOutcome}
 use Rattle.receiver_rules.proofs.Written as receiver
 use Rattle.indoor_state.specs.declared.phase.Phase.TheVariants.{Done}
 use Rattle.indoor_rules.specs.Send.{indoor_bytes_of}

@@ -7,7 +7,7 @@ use Rattle.lossy_ends.specs.Roof.{roof_of}
 use Rattle.lossy_ends.specs.declared.indoors.Indoors.{Indoors}
 use Rattle.lossy_ends.specs.declared.roof.Roof.{Roof}
 use Rattle.luck.specs.declared.way.Way.{Way}
-use Rattle.receiver_state.specs.declared.session.Outcome.{Outcome as SessionOutcome}
+use Rattle.receiver_state.specs.Session.{Outcome as SessionOutcome}
 
 pub one_indoor_called : (heard : Outcome) (rising : Way) (r r' : Indoors)
     → r ≡ indoors_of heard rising

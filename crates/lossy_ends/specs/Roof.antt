@@ -1,6 +1,6 @@
 -- The receiver after a call, what is then on its way down, and what the call answered.
 use Rattle.receiver_state.specs.Answer.{receiver_number_of}
-use Rattle.receiver_state.specs.declared.session.Outcome.{Outcome}
+use Rattle.receiver_state.specs.Session.{Outcome}
 use Rattle.luck.specs.Way.{after_write_of}
 use Rattle.luck.specs.Called.{answered_of}
 use Rattle.luck.specs.declared.way.Way.{Way}

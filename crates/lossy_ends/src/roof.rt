@@ -3,6 +3,7 @@ ghost use Rattle.std.specs.Prelude.{◌≡◌};
 ghost use Rattle.lossy_ends.specs.Roof.{roof_of};
 
 use luck::{Answered, Way};
+use numbers::Numbered;
 use receiver_state::session::{Outcome, Receiver};
 
 #[derive(Clone, Copy)]
@@ -17,8 +18,7 @@ pub fn roof_called(heard: Outcome, falling: Way) -> Roof
     ensures { result ≡ roof_of heard falling }
 {
     let receiver = heard.session;
-    let answer = heard.answer;
-    let number = receiver_decide::answer_number(answer);
+    let number = heard.answer.number();
     Roof {
         receiver,
         down: falling.after(heard.written),

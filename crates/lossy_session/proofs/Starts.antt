@@ -12,8 +12,8 @@ use Rattle.basis.specs.Left.{left, answers, leaves}
 use Rattle.wire.specs.declared.response.Identity.{Identity}
 use Rattle.receiver_rules.specs.Session.{receiver_start_of}
 use Rattle.receiver_state.specs.declared.session.Receiver.{Receiver}
-use Rattle.receiver_state.specs.declared.session.Started as Rec
-use Rattle.receiver_state.specs.declared.session.Started.TheVariants as RecStarted
+use Rattle.receiver_state.specs.Session as Rec
+use Rattle.std.specs.Prelude.{Ok, Err}
 use Rattle.indoor_rules.specs.Start.{indoor_start_of}
 use Rattle.indoor_state.specs.Session.{indoor_start_number_of}
 use Rattle.indoor_state.specs.contracts.session.Started.{the_type}
@@ -47,7 +47,7 @@ module _ (roof indoors : Limits) (identity : Identity) (release : Release) (file
   abbrev Goes : Type 0
   Goes = Over file e memory up' down
 
-  module _ (r : Receiver) (made : receiver_start_of roof.silence roof.resends identity (length memory) ≡ RecStarted.Made r) where
+  module _ (r : Receiver) (made : receiver_start_of roof.silence roof.resends identity (length memory) ≡ Ok r) where
     started_over : (x : Ind.Started) → indoor_start_of indoors.silence indoors.resends release file up ≡ left x up' → Made e ≡ joined_of r x → Goes
     unfolding joined_of
     started_over (IndStarted.Made session written) started is =
@@ -71,10 +71,10 @@ module _ (roof indoors : Limits) (identity : Identity) (release : Release) (file
 
   made_over : (x : Rec.Started) → receiver_start_of roof.silence roof.resends identity (length memory) ≡ x → left (Made e) up' ≡ both_made_of x indoors release file up → Goes
   unfolding both_made_of
-  made_over (RecStarted.Made r) made did =
+  made_over (Ok r) made did =
       let x = indoor_start_of indoors.silence indoors.resends release file up in
       started_over r made x.answer (subst (λ (m : List ℕ). x ≡ left x.answer m) (sym (leaves did)) refl) (answers did)
-  made_over RecStarted.Refused made did = absurd (made_refused e 29 (answers did))
+  made_over (Err refusal) made did = absurd (made_refused e 29 (answers did))
 
   pub start_over : left (Made e) up' ≡ both_start_of roof indoors identity release file (length memory) up → Goes
   start_over = made_over (receiver_start_of roof.silence roof.resends identity (length memory)) refl

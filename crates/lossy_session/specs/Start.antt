@@ -1,11 +1,10 @@
 -- How both ends start: the receiver's refusal (29), then the indoor end's (29, 46, 27), or both and the first request on its way.
-use Rattle.std.specs.Prelude.{ℕ, List}
+use Rattle.std.specs.Prelude.{ℕ, List, Ok, Err}
 use Rattle.basis.specs.Left.{Left, left}
 use Rattle.wire.specs.declared.response.Identity.{Identity}
 use Rattle.receiver_rules.specs.Session.{receiver_start_of}
 use Rattle.receiver_state.specs.declared.session.Receiver.{Receiver}
-use Rattle.receiver_state.specs.declared.session.Started as Rec
-use Rattle.receiver_state.specs.declared.session.Started.TheVariants as RecStarted
+use Rattle.receiver_state.specs.Session as Rec
 use Rattle.indoor_rules.specs.Start.{indoor_start_of}
 use Rattle.indoor_state.specs.declared.plan.Release.{Release}
 use Rattle.indoor_state.specs.declared.session.Started as Ind
@@ -29,8 +28,8 @@ abbrev pub both_begin_of : Receiver → Limits → Release → List ℕ → List
 both_begin_of r indoors release file up = both_begun_of r (indoor_start_of indoors.silence indoors.resends release file up)
 
 unfoldable pub both_made_of : Rec.Started → Limits → Release → List ℕ → List ℕ → Left Started
-both_made_of (RecStarted.Made r) indoors release file up = both_begin_of r indoors release file up
-both_made_of RecStarted.Refused indoors release file up = left (Refused 29) up
+both_made_of (Ok r) indoors release file up = both_begin_of r indoors release file up
+both_made_of (Err refusal) indoors release file up = left (Refused 29) up
 
 abbrev pub both_start_of : Limits → Limits → Identity → Release → List ℕ → ℕ → List ℕ → Left Started
 both_start_of roof indoors identity release file capacity up =

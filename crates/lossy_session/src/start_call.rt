@@ -7,7 +7,8 @@ use indoor_state::plan::Release;
 use indoor_state::session::Started as Begun;
 use lossy_ends::Ends;
 use luck::Way;
-use receiver_state::session::{Receiver, Started as Made};
+use numbers::Numbered;
+use receiver_state::session::Receiver;
 use wire::response::Identity;
 
 // An end's silence limit in milliseconds and its resends, not yet tested (29).
@@ -38,8 +39,8 @@ pub fn start(
     ensures { left result up.new ≡ both_start_of roof indoors identity release file.now capacity up.old }
 {
     let made = receiver::start(roof.silence, roof.resends, identity, capacity);
-    let number = receiver::started_number(made);
-    let Made::Made(receiver) = made else {
+    let number = made.number();
+    let Ok(receiver) = made else {
         return Started::Refused(number);
     };
     begin(receiver, indoors, release, file, up)

@@ -30,7 +30,7 @@ use Rattle.receiver_rules.specs.Respond.{reply_bytes}
 use Rattle.receiver_rules.proofs.Answers.{answers_step}
 use Rattle.receiver_rules.proofs.TimeLaws.{time_passes}
 use Rattle.receiver_state.specs.declared.session.Receiver.{Receiver}
-use Rattle.receiver_state.specs.declared.session.Outcome.{Outcome as ReceiverOutcome}
+use Rattle.receiver_state.specs.Session.{Outcome as ReceiverOutcome}
 use Rattle.indoor_state.specs.Phase.{indoor_state}
 use Rattle.indoor_state.specs.Answer.{sends_of}
 use Rattle.indoor_state.specs.Step.{indoor_step}

@@ -17,8 +17,7 @@ use Rattle.receiver_state.specs.declared.answer.Answer.{Answer}
 use Rattle.receiver_state.specs.declared.phase.Phase as receiver
 use Rattle.receiver_state.specs.declared.phase.Phase.TheVariants.{Idle}
 use Rattle.receiver_state.specs.declared.session.Receiver.{Receiver}
-use Rattle.receiver_state.specs.declared.session.Started.{Started}
-use Rattle.receiver_state.specs.declared.session.Started.TheVariants as Sta
+use Rattle.receiver_state.specs.Session.{Started}
 use Rattle.receiver_rules.specs.Session.{receiver_fresh_of, receiver_start_of}
 use Rattle.receiver_rules.proofs.Fresh as receiverFresh
 use Rattle.receiver_rules.proofs.Reached.{reached_capacity}
@@ -54,7 +53,7 @@ unfolding settings_of
 settings_given P limit resends refused made =
     pick_all P (ltb limit limit_least) _ _ (λ _. refused) (λ _. pick_all P (ltb limit_most limit) _ _ (λ _. refused) (λ _. pick_all P (ltb resends_most resends) _ _ (λ _. refused) (λ _. made)))
 
-made_same : (a b : Receiver) → Sta.Made a ≡ Sta.Made b → a ≡ b
+made_same : (a b : Receiver) → ◌≡◌ {A = Started} (Ok a) (Ok b) → a ≡ b
 made_same a b e = cc
 
 indoor_same : (a b : Indoor) (w v : ℕ) (o p : List ℕ) → ◌≡◌ {A = Left IndoorStarted} (left (In.Made a w) o) (left (In.Made b v) p) → a ≡ b
@@ -62,13 +61,13 @@ indoor_same a b w v o p e = let f : In.Made a w ≡ In.Made b v = ap (λ (y : Le
 
 module _ (x : Given) where
   -- A fresh receiver is in Idle, with no silence and no resend made.
-  roof_fresh : (r : Receiver) → receiver_start_of x.outdoor.limit x.outdoor.resends x.identity (length x.memory) ≡ Sta.Made r → r ≡ roof x Idle 0 0
+  roof_fresh : (r : Receiver) → receiver_start_of x.outdoor.limit x.outdoor.resends x.identity (length x.memory) ≡ Ok r → r ≡ roof x Idle 0 0
   unfolding receiver_start_of receiver_fresh_of
   roof_fresh r =
-      pick_all (λ (y : Started). y ≡ Sta.Made r → r ≡ roof x Idle 0 0) (ltb image_size_most (length x.memory)) _ _
-      (λ _ e. absurd (receiverFresh.refused_made r e))
-      (λ _. settings_given (λ (y : Checked). receiver_fresh_of y x.identity (length x.memory) ≡ Sta.Made r → r ≡ roof x Idle 0 0) x.outdoor.limit x.outdoor.resends
-      (λ e. absurd (receiverFresh.refused_made r e)) (λ e. sym (made_same _ r e)))
+      pick_all (λ (y : Started). y ≡ Ok r → r ≡ roof x Idle 0 0) (ltb image_size_most (length x.memory)) _ _
+      (λ _ e. absurd (receiverFresh.refused_made _ r e))
+      (λ _. settings_given (λ (y : Checked). receiver_fresh_of y x.identity (length x.memory) ≡ Ok r → r ≡ roof x Idle 0 0) x.outdoor.limit x.outdoor.resends
+      (λ e. absurd (receiverFresh.refused_made _ r e)) (λ e. sym (made_same _ r e)))
 
   -- A fresh indoor end is in Identify, alike.
   indoors_fresh : (out : List ℕ) (s : Indoor) (written : ℕ) (out' : List ℕ)

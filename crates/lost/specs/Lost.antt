@@ -11,7 +11,7 @@ use Rattle.wire.specs.declared.response.Identity.{Identity}
 use Rattle.receiver_state.specs.declared.verdict.Verdict.TheVariants as Ver
 use Rattle.receiver_rules.specs.Request.{Effect, receiver_request_of}
 use Rattle.receiver_rules.specs.Time.{receiver_time_of}
-use Rattle.receiver_state.specs.declared.session.Outcome.{Outcome as ReceiverOutcome}
+use Rattle.receiver_state.specs.Session.{Outcome as ReceiverOutcome}
 use Rattle.indoor_state.specs.declared.plan.Release.{Release}
 use Rattle.indoor_state.specs.declared.phase.Reason.{Reason}
 use Rattle.indoor_state.specs.declared.phase.Phase.TheVariants.{Done, Failed}

@@ -4,49 +4,39 @@ ghost use Rattle.std.specs.Prelude.{◌≡◌, Ok};
 ghost use Rattle.basis.specs.Left.{left};
 ghost use Rattle.wire.specs.Request.{parsed_request_of as message_of};
 ghost use Rattle.receiver_rules.specs.Decide.{receiver_decide_of};
-ghost use Rattle.receiver_rules.specs.Hearing.{receiver_kept, receiver_done, heard_read_of, heard_of};
+ghost use Rattle.receiver_rules.specs.Hearing.{receiver_done, heard_read_of, heard_of};
 
 use crate::store::apply;
 use receiver_decide::{decide, out_of_range};
 use receiver_state::answer::Answer;
 use receiver_state::phase::Phase;
 use receiver_state::step::Heard;
-use receiver_state::verdict::Verdict;
+use receiver_state::verdict::Given;
 use wire::codes;
 use wire::request::Request;
 
+// An answer in `Err` changes nothing: silence and resends are not set to zero either.
 #[tactic(auto, using(basis::specs::Pick::tests), unfolding(receiver_rules::specs::Hearing::heard_of))]
 pub fn hear(
     phase: Phase,
     capacity: u32,
     image: &mut [u8],
     request: &[u8],
-    readiness: u8,
-    verdict: Verdict,
+    given: Given,
     room: usize,
-) -> Heard
-    ensures { left result image.new ≡ heard_of phase capacity image.old request.now readiness verdict room }
+) -> Result<Heard, Answer>
+    ensures { left result image.new ≡ heard_of phase capacity image.old request.now given.readiness given.verdict room }
 {
     if image.len() != capacity as usize {
-        return kept(phase, Answer::ImageLength);
+        return Err(Answer::ImageLength);
     }
     if room < codes::LONGEST {
-        return kept(phase, Answer::BufferShort);
+        return Err(Answer::BufferShort);
     }
-    if out_of_range(readiness, verdict) {
-        return kept(phase, Answer::OutOfRange);
+    if out_of_range(given) {
+        return Err(Answer::OutOfRange);
     }
-    read(phase, capacity, image, request, readiness, verdict)
-}
-
-fn kept(phase: Phase, answer: Answer) -> Heard
-    ensures { result ≡ receiver_kept phase answer }
-{
-    Heard {
-        phase,
-        answer,
-        kept: true,
-    }
+    read(phase, capacity, image, request, given)
 }
 
 #[tactic(auto, using(basis::specs::Pick::tests), unfolding(receiver_rules::specs::Hearing::heard_read_of))]
@@ -55,16 +45,15 @@ fn read(
     capacity: u32,
     image: &mut [u8],
     request: &[u8],
-    readiness: u8,
-    verdict: Verdict,
-) -> Heard
-    ensures { left result image.new ≡ heard_read_of phase capacity (message_of request.now) image.old request.now readiness verdict }
+    given: Given,
+) -> Result<Heard, Answer>
+    ensures { left result image.new ≡ heard_read_of phase capacity (message_of request.now) image.old request.now given.readiness given.verdict }
 {
     let parsed = reading::read_request(request);
     let Ok(valid) = parsed else {
-        return kept(phase, Answer::Malformed);
+        return Err(Answer::Malformed);
     };
-    take(phase, capacity, image, request, valid, readiness, verdict)
+    Ok(take(phase, capacity, image, request, valid, given))
 }
 
 fn take(
@@ -73,20 +62,15 @@ fn take(
     image: &mut [u8],
     request: &[u8],
     valid: Request,
-    readiness: u8,
-    verdict: Verdict,
+    given: Given,
 ) -> Heard
     requires { message_of request.now ≡ Ok valid }
-    ensures { left result image.new ≡ receiver_done (receiver_decide_of phase valid capacity readiness verdict) image.old request.now }
+    ensures { left (Ok result) image.new ≡ receiver_done (receiver_decide_of phase valid capacity given.readiness given.verdict) image.old request.now }
 {
-    let step = decide(phase, valid, capacity, readiness, verdict);
-    let store = step.store;
-    let answer = step.answer;
-    let phase = step.phase;
-    apply(image, request, store);
+    let step = decide(phase, valid, capacity, given);
+    apply(image, request, step.store);
     Heard {
-        phase,
-        answer,
-        kept: false,
+        phase: step.phase,
+        answer: step.answer,
     }
 }

@@ -3,7 +3,6 @@
 #![tactic(auto)]
 
 mod hearing;
-mod outcome;
 mod request_call;
 mod respond;
 mod start_call;
@@ -14,6 +13,6 @@ mod time_call;
 pub use hearing::hear;
 pub use request_call::request;
 pub use respond::{has_identity, send_answer, send_identity};
-pub use start_call::{start, started_number};
-pub use sum_call::{sum, summed_number};
+pub use start_call::start;
+pub use sum_call::sum;
 pub use time_call::time;

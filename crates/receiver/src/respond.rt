@@ -1,57 +1,36 @@
 // The response that goes out with an answer, in the first bytes of the lent buffer (01, Numbers we answer).
-ghost use Rattle.std.specs.Prelude.{◌≡◌, ◌≤◌, length};
+ghost use Rattle.std.specs.Prelude.{◌≡◌};
 ghost use Rattle.basis.specs.Left.{left};
-ghost use Rattle.wire.specs.Codes.{longest};
 ghost use Rattle.wire.specs.Written.{response_bytes};
-ghost use Rattle.wire.specs.declared.response.Response.TheVariants.{Data, Validate};
-ghost use Rattle.receiver_state.specs.Answer.{reply_of};
 ghost use Rattle.lent.specs.Written.{returns_written};
-ghost use Rattle.receiver_rules.specs.Respond.{reply_bytes};
-ghost use Rattle.receiver_rules.specs.Hearing.{has_identity, no_identity, identity_sent_of, answer_sent_of};
+ghost use Rattle.receiver_rules.specs.Respond.{reply_bytes, receiver_bytes_of};
+ghost use Rattle.receiver_rules.specs.Hearing.{has_identity, no_identity, sent_of, identity_sent_of, answer_sent_of};
 
 use receiver_decide::reply;
-use receiver_state::answer::{Answer, Reply};
+use receiver_state::answer::Answer;
+use receiver_state::session::Receiver;
 use wire::codes;
 use wire::request::Versions;
 use wire::response::{Identity, Response};
 use wire::status::Status;
 
-pub(crate) fn respond(out: &mut [u8], identity: Identity, capacity: u32, answer: Answer) -> usize
-    requires { longest ≤ length out.old }
-    ensures { left result out.new ≡ returns_written (reply_bytes (reply_of identity capacity answer)) out.old }
+// A buffer of this length has room for every response.
+type Room = [u8; codes::LONGEST];
+
+pub(crate) fn respond(out: &mut [u8], session: Receiver, answer: Answer) -> usize
+    ensures { left result out.new ≡ sent_of (receiver_bytes_of session answer) out.old }
 {
     if has_identity(answer) {
-        return send_identity(out, identity);
+        return send_identity(out, session.identity);
     }
-    send_answer(out, capacity, answer)
+    send_answer(out, session.capacity, answer)
 }
 
 // The answer to GET_FW_ID alone.
 pub fn has_identity(answer: Answer) -> bool
     ensures { result ≡ has_identity answer }
 {
-    match answer {
-        Answer::Identified => true,
-        Answer::Offered { wait: _ } => false,
-        Answer::Asking { wait: _, number: _ } => false,
-        Answer::Closed { number: _ } => false,
-        Answer::Success => false,
-        Answer::Later { wait: _ } => false,
-        Answer::Aborted => false,
-        Answer::Passed => false,
-        Answer::Malformed => false,
-        Answer::UnexpectedInitiate => false,
-        Answer::UnexpectedData => false,
-        Answer::UnexpectedValidate => false,
-        Answer::Unexpected => false,
-        Answer::NotDue { due: _ } => false,
-        Answer::PassesCapacity => false,
-        Answer::WrongFile => false,
-        Answer::VerdictBad => false,
-        Answer::OutOfRange => false,
-        Answer::BufferShort => false,
-        Answer::ImageLength => false,
-    }
+    matches!(answer, Answer::Identified)
 }
 
 // The response with the identity, to GET_FW_ID. A buffer that is too short is not written.
@@ -59,11 +38,11 @@ pub fn has_identity(answer: Answer) -> bool
 pub fn send_identity(out: &mut [u8], identity: Identity) -> usize
     ensures { left result out.new ≡ identity_sent_of identity out.old }
 {
-    if out.len() < codes::LONGEST {
+    let Some(room) = out.first_chunk_mut() else {
         return 0;
-    }
+    };
     let status = u8::from(Status::Ok);
-    write(out, Response::GetFwId { status, identity })
+    write(room, Response::GetFwId { status, identity })
 }
 
 // The response of every other answer: none of them has the identity.
@@ -71,12 +50,10 @@ pub fn send_identity(out: &mut [u8], identity: Identity) -> usize
 pub fn send_answer(out: &mut [u8], capacity: u32, answer: Answer) -> usize
     ensures { left result out.new ≡ answer_sent_of capacity answer out.old }
 {
-    if out.len() < codes::LONGEST {
+    let Some(room) = out.first_chunk_mut() else {
         return 0;
-    }
-    let identity = no_identity();
-    let sends = reply(answer, identity, capacity);
-    deliver(out, sends)
+    };
+    deliver(room, reply(answer, no_identity(), capacity))
 }
 
 fn no_identity() -> Identity
@@ -102,81 +79,56 @@ fn no_identity() -> Identity
     }
 }
 
+// Each kind is written by itself: the compiler then knows how long it is, and copies no more than that.
 #[tactic(auto, using(basis::specs::Pick::tests), unfolding(receiver_rules::specs::Respond::reply_bytes))]
-fn deliver(out: &mut [u8], reply: Reply) -> usize
-    requires { longest ≤ length out.old }
-    ensures { left result out.new ≡ returns_written (reply_bytes reply) out.old }
+fn deliver(room: &mut Room, reply: Option<Response>) -> usize
+    ensures { left result room.new ≡ returns_written (reply_bytes reply) room.old }
 {
     match reply {
-        Reply::Nothing => 0,
-        Reply::Sends(response) => send(out, response),
-    }
-}
-
-// Each kind is written by itself: the compiler then knows how long it is, and copies no more than that.
-fn send(out: &mut [u8], response: Response) -> usize
-    requires { longest ≤ length out.old }
-    ensures { left result out.new ≡ returns_written (response_bytes response) out.old }
-{
-    match response {
-        Response::GetFwId { status, identity } => write(
-            out,
+        None => 0,
+        Some(Response::GetFwId { status, identity }) => write(
+            room,
             Response::GetFwId { status, identity },
         ),
-        Response::Initiate { status, wait, size } => write(
-            out,
+        Some(Response::Initiate { status, wait, size }) => write(
+            room,
             Response::Initiate { status, wait, size },
         ),
-        Response::Data {
+        Some(Response::Data {
             status,
             wait,
             number,
-        } => data_response(out, status, wait, number),
-        Response::Validate {
+        }) => write(
+            room,
+            Response::Data {
+                status,
+                wait,
+                number,
+            },
+        ),
+        Some(Response::Validate {
             status,
             wait,
             success,
-        } => validate_response(out, status, wait, success),
-        Response::NotBuilt => write(out, Response::NotBuilt),
+        }) => write(
+            room,
+            Response::Validate {
+                status,
+                wait,
+                success,
+            },
+        ),
+        Some(Response::NotBuilt) => write(room, Response::NotBuilt),
     }
-}
-
-fn data_response(out: &mut [u8], status: u8, wait: u8, number: u16) -> usize
-    requires { longest ≤ length out.old }
-    ensures { left result out.new ≡ returns_written (response_bytes (Data status wait number)) out.old }
-{
-    write(
-        out,
-        Response::Data {
-            status,
-            wait,
-            number,
-        },
-    )
-}
-
-fn validate_response(out: &mut [u8], status: u8, wait: u8, success: bool) -> usize
-    requires { longest ≤ length out.old }
-    ensures { left result out.new ≡ returns_written (response_bytes (Validate status wait success)) out.old }
-{
-    write(
-        out,
-        Response::Validate {
-            status,
-            wait,
-            success,
-        },
-    )
 }
 
 // Inlined into each of its callers, which know the kind.
 #[inline(always)]
-fn write(out: &mut [u8], response: Response) -> usize
-    requires { longest ≤ length out.old }
-    ensures { left result out.new ≡ returns_written (response_bytes response) out.old }
+fn write(room: &mut Room, response: Response) -> usize
+    ensures { left result room.new ≡ returns_written (response_bytes response) room.old }
 {
     let message = writing::write_response(response);
     let written = message.len;
-    let _ = message.send(out);
+    let _ = message.send(room);
     written
 }

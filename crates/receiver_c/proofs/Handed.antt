@@ -13,21 +13,17 @@ use Rattle.basis.specs.Flag.{byte_small}
 use Rattle.basis.specs.Left.{Left, left}
 use Rattle.basis.specs.Lists.{spell, spelled_all}
 use Rattle.basis.specs.Pick.{pick_all, pick_yes, pick_no, not_yes, not_no}
-use Rattle.silence.specs.Settings.{settings_of}
+use Rattle.silence.specs.Settings.{Checked, out_of_limits, settings_of}
 use Rattle.silence.specs.Within.{Within}
-use Rattle.silence.specs.Settings.{Checked}
 use Rattle.silence.proofs.Laws.{made_within}
 use Rattle.wire.specs.Codes.{image_size_most}
 use Rattle.wire.specs.declared.response.Identity.{Identity}
 use Rattle.receiver_state.specs.Phase.{accepted_of}
-use Rattle.receiver_state.specs.Session.{receiver_start_number_of}
+use Rattle.receiver_state.specs.Session.{Outcome, Started, receiver_start_number_of}
 use Rattle.receiver_state.specs.declared.phase.Phase.{Phase}
 use Rattle.receiver_state.specs.declared.phase.Phase.TheVariants.{Idle, Transfer, Await, Good}
 use Rattle.receiver_state.specs.declared.session.Receiver.{Receiver}
-use Rattle.receiver_state.specs.declared.session.Outcome.{Outcome}
-use Rattle.receiver_state.specs.declared.session.Started.{Started}
-use Rattle.receiver_state.specs.declared.session.Started.TheVariants.{Refused}
-use Rattle.receiver_state.specs.declared.sum.Summed.TheVariants.{Sum, ImageLength}
+use Rattle.receiver_state.specs.declared.sum.ImageLength.{ImageLength}
 use Rattle.receiver_rules.specs.Request.{Effect, receiver_request_of}
 use Rattle.receiver_rules.specs.Session.{receiver_fresh_of, receiver_start_of, receiver_moved}
 use Rattle.receiver_rules.specs.Sum.{receiver_sum_of}
@@ -133,7 +129,7 @@ module _ (settings numbers bytes : List ℕ) (capacity : ℕ) where
   start_taken within room = rw (start_made (word_at settings 0) (word_at settings 1) identity capacity within room)
 
   -- A refused start leaves no session: 29 and zeros.
-  pub start_refused : receiver_start_of (word_at settings 0) (word_at settings 1) identity capacity ≡ Refused → started ≡ left 29 zero_words
+  pub start_refused : receiver_start_of (word_at settings 0) (word_at settings 1) identity capacity ≡ Err out_of_limits → started ≡ left 29 zero_words
   unfolding harsolvek_receiver_start started_words
   start_refused e = rw e
 
@@ -255,8 +251,8 @@ module _ (w image : List ℕ) where
   sum_29 e = pick_yes _ _ _ (not_yes _ e)
 
 -- A sum is handed out as it is, and a refused one is 0.
-pub sum_rows : (s : ℕ) → (receiver_sum_said (Sum s) ≡ receiver_summed 0 s) × (receiver_sum_said ImageLength ≡ receiver_summed 28 0)
-sum_rows s = (refl, refl)
+pub sum_rows : (s : ℕ) (r : ImageLength) → (receiver_sum_said (Ok s) ≡ receiver_summed 0 s) × (receiver_sum_said (Err r) ≡ receiver_summed 28 0)
+sum_rows s r = (refl, refl)
 
 -- All words that are handed out are a session's.
 pub handed_session : {w : List ℕ} → HandedReceiver w → Stands w

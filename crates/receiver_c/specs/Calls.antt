@@ -1,21 +1,16 @@
 -- What the receiver's calls for C return and leave: what the rules say of the session that the words are, and 29 where they are none.
-use Rattle.std.specs.Prelude.{ℕ, Bool, true, false, not, List, ltb, leb, eqb}
+use Rattle.std.specs.Prelude.{ℕ, Bool, true, false, not, List, Ok, Err, ltb, leb, eqb}
 use Rattle.basis.specs.Pick.{pick}
 use Rattle.basis.specs.Left.{Left, left}
 use Rattle.wire.specs.Codes.{longest}
 use Rattle.wire.specs.declared.response.Identity.{Identity}
 use Rattle.receiver_state.specs.Answer.{receiver_number_of}
-use Rattle.receiver_state.specs.Session.{receiver_start_number_of}
-use Rattle.receiver_state.specs.Sum.{image_sum_number_of}
+use Rattle.receiver_state.specs.Session.{Outcome, Started, receiver_start_number_of}
+use Rattle.receiver_state.specs.Sum.{Summed, image_sum_number_of}
 use Rattle.receiver_rules.specs.Session.{receiver_start_of}
 use Rattle.receiver_rules.specs.Request.{Effect, receiver_request_of}
 use Rattle.receiver_rules.specs.Time.{receiver_time_of}
 use Rattle.receiver_rules.specs.Sum.{receiver_sum_of}
-use Rattle.receiver_state.specs.declared.session.Started.{Started}
-use Rattle.receiver_state.specs.declared.session.Started.TheVariants.{Made, Refused}
-use Rattle.receiver_state.specs.declared.session.Outcome.{Outcome}
-use Rattle.receiver_state.specs.declared.sum.Summed.{Summed}
-use Rattle.receiver_state.specs.declared.sum.Summed.TheVariants.{Sum, ImageLength}
 use Rattle.width.specs.Words.{word_at}
 use Rattle.receiver_c.specs.Words.{session_at, words_of, zero_words, laid, is_receiver_session}
 use Rattle.receiver_c.specs.Verdict.{verdict_of}
@@ -37,8 +32,8 @@ identity_of numbers bytes = record {
 
 -- A refused start leaves no session.
 unfoldable pub started_words : Started → List ℕ
-started_words (Made r) = words_of r
-started_words Refused = zero_words
+started_words (Ok r) = words_of r
+started_words (Err refusal) = zero_words
 
 abbrev pub receiver_started : Started → Left ℕ
 receiver_started started = left (receiver_start_number_of started) (started_words started)
@@ -107,8 +102,8 @@ receiver_summed number sum = record { number = number; sum = sum }
 
 -- A refused sum is 0.
 abbrev pub sum_value_of : Summed → ℕ
-sum_value_of (Sum s) = s
-sum_value_of ImageLength = 0
+sum_value_of (Ok s) = s
+sum_value_of (Err refusal) = 0
 
 abbrev pub receiver_sum_said : Summed → ReceiverSummed
 receiver_sum_said s = receiver_summed (image_sum_number_of s) (sum_value_of s)

@@ -10,9 +10,7 @@ use width::halves;
 pub(crate) fn pack(words: &mut [u32; 14], session: Receiver)
     ensures { words.new ≡ words_of session }
 {
-    let settings = session.settings;
     let identity = session.identity;
-    let phase = session.phase;
     let versions = identity.versions;
     let maker = halves(identity.vendor, identity.product);
     let chip = chip_word(identity.hardware, identity.silicon, versions.first);
@@ -20,8 +18,8 @@ pub(crate) fn pack(words: &mut [u32; 14], session: Receiver)
     let bank = bank_word(versions.fourth, identity.bank, identity.flags1);
     let flags = flags_word(identity.flags2, identity.flags3, identity.flags4);
     *words = [
-        settings.limit as u32,
-        settings.resends as u32,
+        u32::from(session.settings.limit),
+        u32::from(session.settings.resends),
         session.capacity,
         0,
         0,
@@ -35,23 +33,25 @@ pub(crate) fn pack(words: &mut [u32; 14], session: Receiver)
         bank,
         flags,
     ];
-    store(words, phase, session.silence, session.resends);
+    store(words, session.phase, session.silence, session.resends);
 }
 
 fn chip_word(hardware: u8, silicon: u8, first: u16) -> u32
     ensures { result ≡ hardware + 256 * silicon + 65536 * first }
 {
-    hardware as u32 + 256 * (silicon as u32) + 65536 * (first as u32)
+    let [low, high] = first.to_le_bytes();
+    u32::from_le_bytes([hardware, silicon, low, high])
 }
 
 fn bank_word(fourth: u16, bank: u8, flags1: u8) -> u32
     ensures { result ≡ fourth + 65536 * bank + 16777216 * flags1 }
 {
-    fourth as u32 + 65536 * (bank as u32) + 16777216 * (flags1 as u32)
+    let [low, high] = fourth.to_le_bytes();
+    u32::from_le_bytes([low, high, bank, flags1])
 }
 
 fn flags_word(flags2: u8, flags3: u8, flags4: u8) -> u32
     ensures { result ≡ flags2 + 256 * flags3 + 65536 * flags4 }
 {
-    flags2 as u32 + 256 * (flags3 as u32) + 65536 * (flags4 as u32)
+    u32::from_le_bytes([flags2, flags3, flags4, 0])
 }

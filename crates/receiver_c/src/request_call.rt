@@ -1,8 +1,7 @@
 // One request: the session that the words say makes its own call, and what that changes is laid into the words.
-ghost use Rattle.std.specs.Prelude.{◌≡◌, ◌≤◌, length};
+ghost use Rattle.std.specs.Prelude.{◌≡◌};
 ghost use Rattle.basis.specs.Left.{left};
-ghost use Rattle.lent.specs.Written.{returns_written};
-ghost use Rattle.wire.specs.Codes.{longest};
+ghost use Rattle.receiver_rules.specs.Hearing.{sent_of};
 ghost use Rattle.receiver_rules.specs.Respond.{receiver_bytes_of};
 ghost use Rattle.receiver_c.specs.Words.{session_at};
 ghost use Rattle.receiver_c.specs.Calls.{receiver_called, harsolvek_receiver_request};
@@ -13,7 +12,9 @@ use crate::unpack::{unpack_identity, unpack_phase};
 use crate::verdict::verdict_of;
 use crate::words;
 use crate::words::NO_SESSION;
+use numbers::Numbered;
 use receiver_state::answer::Answer;
+use receiver_state::verdict::Given;
 use width::to_byte;
 
 #[unsafe(no_mangle)]
@@ -32,39 +33,39 @@ pub extern "C" fn harsolvek_receiver_request_raw(
         *written = 0;
         return NO_SESSION;
     }
-    let phase = unpack_phase(words);
-    let readiness = to_byte(given[0]);
     let later = to_byte(given[2]);
-    let verdict = verdict_of(given[1], later);
+    let given = Given {
+        readiness: to_byte(given[0]),
+        verdict: verdict_of(given[1], later),
+    };
     let heard = receiver::hear(
-        phase,
+        unpack_phase(words),
         words[words::CAPACITY],
         image,
         request,
-        readiness,
-        verdict,
+        given,
         out.len(),
     );
-    let next = heard.phase;
-    let answer = heard.answer;
-    if heard.kept {
-        *written = 0;
-        return receiver_decide::answer_number(answer) as u64;
+    match heard {
+        Err(answer) => {
+            *written = 0;
+            u64::from(answer.number())
+        }
+        Ok(heard) => {
+            store(words, heard.phase, 0, 0);
+            *written = respond(words, out, heard.answer);
+            u64::from(heard.answer.number())
+        }
     }
-    store(words, next, 0, 0);
-    *written = respond(words, out, answer);
-    receiver_decide::answer_number(answer) as u64
 }
 
 // The identity is unpacked only where it is sent.
 #[tactic(auto, using(basis::specs::Pick::tests), unfolding(crate::specs::Words::session_at))]
 fn respond(words: &[u32; 14], out: &mut [u8], answer: Answer) -> usize
-    requires { longest ≤ length out.old }
-    ensures { left result out.new ≡ returns_written (receiver_bytes_of (session_at words.now) answer) out.old }
+    ensures { left result out.new ≡ sent_of (receiver_bytes_of (session_at words.now) answer) out.old }
 {
     if receiver::has_identity(answer) {
-        let identity = unpack_identity(words);
-        return receiver::send_identity(out, identity);
+        return receiver::send_identity(out, unpack_identity(words));
     }
     receiver::send_answer(out, words[words::CAPACITY], answer)
 }

@@ -4,7 +4,9 @@ ghost use Rattle.basis.specs.Left.{left};
 ghost use Rattle.receiver_c.specs.Calls.{identity_of, started_words, harsolvek_receiver_start};
 
 use crate::pack::pack;
-use receiver_state::session::Started;
+use numbers::Numbered;
+use receiver_state::session::Receiver;
+use silence::OutOfLimits;
 use width::{to_byte, to_half};
 use wire::request::Versions;
 use wire::response::Identity;
@@ -25,7 +27,7 @@ pub extern "C" fn harsolvek_receiver_start_raw(
     let identity = identity_of(numbers, bytes);
     let started = receiver::start(limit, resends, identity, capacity);
     leave(words, started);
-    receiver::started_number(started) as u64
+    u64::from(started.number())
 }
 
 #[tactic(auto, using(basis::specs::Pick::tests), unfolding(crate::specs::Calls::identity_of))]
@@ -53,11 +55,11 @@ fn identity_of(numbers: &[u16; 6], bytes: &[u8; 7]) -> Identity
 }
 
 #[tactic(auto, using(basis::specs::Pick::tests), unfolding(crate::specs::Calls::started_words))]
-fn leave(words: &mut [u32; 14], started: Started)
+fn leave(words: &mut [u32; 14], started: Result<Receiver, OutOfLimits>)
     ensures { words.new ≡ started_words started }
 {
     match started {
-        Started::Made(session) => pack(words, session),
-        Started::Refused => *words = [0; 14],
+        Ok(session) => pack(words, session),
+        Err(_) => *words = [0; 14],
     }
 }

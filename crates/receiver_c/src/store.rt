@@ -12,8 +12,8 @@ pub(crate) fn store(words: &mut [u32; 14], phase: Phase, silence: u16, resends: 
     ensures { words.new ≡ laid_phase words.old phase silence resends }
 {
     store_phase(words, phase);
-    words[words::SILENCE] = silence as u32;
-    words[words::RESENDS] = resends as u32;
+    words[words::SILENCE] = u32::from(silence);
+    words[words::RESENDS] = u32::from(resends);
 }
 
 fn store_phase(words: &mut [u32; 14], phase: Phase)
@@ -39,7 +39,7 @@ fn lay(words: &mut [u32; 14], code: u32, blocks: u16, bytes: u32, short: bool)
     ensures { words.new ≡ laid_numbers words.old code blocks bytes (byte_of short) }
 {
     words[words::PHASE] = code;
-    words[words::BLOCKS] = blocks as u32;
+    words[words::BLOCKS] = u32::from(blocks);
     words[words::BYTES] = bytes;
-    words[words::LAST_SHORT] = short as u32;
+    words[words::LAST_SHORT] = u32::from(short);
 }

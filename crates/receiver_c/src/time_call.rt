@@ -7,6 +7,7 @@ use crate::store::store;
 use crate::unpack::unpack;
 use crate::words;
 use crate::words::NO_SESSION;
+use numbers::Numbered;
 use width::to_half;
 use wire::codes;
 
@@ -36,36 +37,25 @@ pub extern "C" fn harsolvek_receiver_time_raw(
 fn grown(silence: u32, elapsed: u32) -> u64
     ensures { result ≡ silence + elapsed }
 {
-    silence as u64 + elapsed as u64
+    u64::from(silence) + u64::from(elapsed)
 }
 
 #[tactic(auto, using(basis::specs::Pick::tests), unfolding(crate::specs::Calls::only_counts))]
 fn only_counts(phase: u32, silence: u64, limit: u32, room: usize) -> bool
     ensures { result ≡ only_counts phase silence limit room }
 {
-    if room < codes::LONGEST {
-        return false;
-    }
-    if limit as u64 <= silence {
-        return false;
-    }
-    if phase == words::TRANSFER {
-        return true;
-    }
-    phase == words::AWAIT
+    codes::LONGEST <= room
+        && silence < u64::from(limit)
+        && matches!(phase, words::TRANSFER | words::AWAIT)
 }
 
 #[tactic(auto, using(basis::specs::Pick::tests), unfolding(crate::specs::Calls::timed_at))]
 fn pass(words: &mut [u32; 14], elapsed: u32, out: &mut [u8], written: &mut usize) -> u64
     ensures { receiver_timed result written.new words.new out.new ≡ timed_at words.old elapsed out.old }
 {
-    let session = unpack(words);
-    let narrow = to_half(elapsed);
-    let outcome = receiver::time(session, narrow, out);
+    let outcome = receiver::time(unpack(words), to_half(elapsed), out);
     let next = outcome.session;
-    let phase = next.phase;
-    let answer = outcome.answer;
-    store(words, phase, next.silence, next.resends);
+    store(words, next.phase, next.silence, next.resends);
     *written = outcome.written;
-    receiver_decide::answer_number(answer) as u64
+    u64::from(outcome.answer.number())
 }

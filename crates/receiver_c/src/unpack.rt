@@ -18,13 +18,11 @@ pub(crate) fn unpack(words: &[u32; 14]) -> Receiver
         limit: (words[words::LIMIT] % 65536) as u16,
         resends: (words[words::RESENDS_ALLOWED] % 256) as u8,
     };
-    let identity = unpack_identity(words);
-    let phase = unpack_phase(words);
     Receiver {
         settings,
-        identity,
+        identity: unpack_identity(words),
         capacity: words[words::CAPACITY],
-        phase,
+        phase: unpack_phase(words),
         silence: (words[words::SILENCE] % 65536) as u16,
         resends: (words[words::RESENDS] % 256) as u8,
     }
@@ -76,17 +74,16 @@ pub(crate) fn unpack_phase(words: &[u32; 14]) -> Phase
 fn phase_of(code: u32, blocks: u16, bytes: u32, short: u32) -> Phase
     ensures { result ≡ receiver_phase_of code (accepted_counts blocks bytes) short }
 {
-    if code == words::TRANSFER {
-        return Phase::Transfer(Progress {
-            accepted: Accepted { blocks, bytes },
-            short: short == 1,
-        });
+    let accepted = Accepted { blocks, bytes };
+    match code {
+        words::TRANSFER => {
+            Phase::Transfer(Progress {
+                accepted,
+                short: short == 1,
+            })
+        }
+        words::AWAIT => Phase::Await(accepted),
+        words::GOOD => Phase::Good(accepted),
+        _ => Phase::Idle,
     }
-    if code == words::AWAIT {
-        return Phase::Await(Accepted { blocks, bytes });
-    }
-    if code == words::GOOD {
-        return Phase::Good(Accepted { blocks, bytes });
-    }
-    Phase::Idle
 }

@@ -9,14 +9,10 @@ use receiver_state::verdict::Verdict;
 pub(crate) fn verdict_of(code: u32, later: u8) -> Verdict
     ensures { result ≡ verdict_of code later }
 {
-    if code == 1 {
-        return Verdict::Good;
+    match code {
+        1 => Verdict::Good,
+        2 => Verdict::Bad,
+        3 => Verdict::Later(later),
+        _ => Verdict::Later(0),
     }
-    if code == 2 {
-        return Verdict::Bad;
-    }
-    if code == 3 {
-        return Verdict::Later(later);
-    }
-    Verdict::Later(0)
 }

@@ -1,29 +1,23 @@
 -- Each public contract leaves one answer and one state of the lent memory. Written from the contracts by tools/contracts.
-use Rattle.std.specs.Prelude.{ℕ, ◌≡◌, Bool}
+use Rattle.std.specs.Prelude.{ℕ, ◌≡◌, Bool, Option}
 use Rattle.basis.specs.Only.{only}
 use Rattle.receiver_rules.specs.Decide.{receiver_decide_of}
 use Rattle.receiver_rules.specs.Range.{out_of_range}
 use Rattle.receiver_rules.specs.Tick.{receiver_tick_of}
-use Rattle.receiver_state.specs.Answer.{receiver_number_of, reply_of}
+use Rattle.receiver_state.specs.Answer.{reply_of}
 use Rattle.receiver_state.specs.Phase.{nothing_accepted, accepted_of}
 use Rattle.receiver_state.specs.declared.answer.Answer.{Answer}
-use Rattle.receiver_state.specs.declared.answer.Reply.{Reply}
+use Rattle.wire.specs.declared.response.Response.{Response}
 use Rattle.receiver_state.specs.declared.phase.Accepted.{Accepted}
 use Rattle.receiver_state.specs.declared.phase.Phase.{Phase}
 use Rattle.receiver_state.specs.declared.step.Step.{Step}
 use Rattle.receiver_state.specs.declared.step.Tick.{Tick}
-use Rattle.receiver_state.specs.declared.verdict.Verdict.{Verdict}
+use Rattle.receiver_state.specs.declared.verdict.Given.{Given}
 use Rattle.silence.specs.declared.Settings.{Settings}
 use Rattle.wire.specs.declared.request.Request.{Request}
 use Rattle.wire.specs.declared.response.Identity.{Identity}
 
-pub one_answer_number : (answer : Answer) (r r' : ℕ)
-    → r ≡ receiver_number_of answer
-    → r' ≡ receiver_number_of answer
-    → r ≡ r'
-one_answer_number answer r r' is is' = only is is'
-
-pub one_reply : (answer : Answer) (identity : Identity) (capacity : ℕ) (r r' : Reply)
+pub one_reply : (answer : Answer) (identity : Identity) (capacity : ℕ) (r r' : Option Response)
     → r ≡ reply_of identity capacity answer
     → r' ≡ reply_of identity capacity answer
     → r ≡ r'
@@ -41,17 +35,17 @@ pub one_accepted : (phase : Phase) (r r' : Accepted)
     → r ≡ r'
 one_accepted phase r r' is is' = only is is'
 
-pub one_out_of_range : (readiness : ℕ) (verdict : Verdict) (r r' : Bool)
-    → r ≡ out_of_range readiness verdict
-    → r' ≡ out_of_range readiness verdict
+pub one_out_of_range : (given : Given) (r r' : Bool)
+    → r ≡ out_of_range given.readiness given.verdict
+    → r' ≡ out_of_range given.readiness given.verdict
     → r ≡ r'
-one_out_of_range readiness verdict r r' is is' = only is is'
+one_out_of_range given r r' is is' = only is is'
 
-pub one_decide : (phase : Phase) (request : Request) (capacity readiness : ℕ) (verdict : Verdict) (r r' : Step)
-    → r ≡ receiver_decide_of phase request capacity readiness verdict
-    → r' ≡ receiver_decide_of phase request capacity readiness verdict
+pub one_decide : (phase : Phase) (request : Request) (capacity : ℕ) (given : Given) (r r' : Step)
+    → r ≡ receiver_decide_of phase request capacity given.readiness given.verdict
+    → r' ≡ receiver_decide_of phase request capacity given.readiness given.verdict
     → r ≡ r'
-one_decide phase request capacity readiness verdict r r' is is' = only is is'
+one_decide phase request capacity given r r' is is' = only is is'
 
 pub one_pass : (phase : Phase) (silence elapsed resends : ℕ) (settings : Settings) (r r' : Tick)
     → r ≡ receiver_tick_of phase silence elapsed resends settings

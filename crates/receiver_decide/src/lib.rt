@@ -8,7 +8,7 @@ mod range;
 mod request;
 mod time;
 
-pub use answer::{answer_number, reply};
+pub use answer::reply;
 pub use phase::{accepted, nothing_accepted};
 pub use range::out_of_range;
 pub use request::decide;

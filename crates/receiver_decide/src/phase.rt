@@ -20,7 +20,6 @@ pub fn accepted(phase: Phase) -> Accepted
     match phase {
         Phase::Idle => nothing_accepted(),
         Phase::Transfer(p) => p.accepted,
-        Phase::Await(a) => a,
-        Phase::Good(a) => a,
+        Phase::Await(a) | Phase::Good(a) => a,
     }
 }

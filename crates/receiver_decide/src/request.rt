@@ -5,28 +5,22 @@ ghost use Rattle.receiver_rules.specs.Decide.{last_number, goes_to, receiver_off
 use crate::phase::nothing_accepted;
 use receiver_state::answer::Answer;
 use receiver_state::phase::{Accepted, Phase, Progress};
-use receiver_state::step::{Step, Store};
-use receiver_state::verdict::Verdict;
+use receiver_state::step::Step;
+use receiver_state::verdict::{Given, Verdict};
 use wire::request::Request;
 
 // An image of 1,048,575 bytes has no block above this number (01, Sizes and numbers).
 const LAST_NUMBER: u16 = 4095;
 
 #[tactic(auto, using(basis::specs::Pick::tests), unfolding(receiver_rules::specs::Decide::receiver_decide_of))]
-pub fn decide(
-    phase: Phase,
-    request: Request,
-    capacity: u32,
-    readiness: u8,
-    verdict: Verdict,
-) -> Step
-    ensures { result ≡ receiver_decide_of phase request capacity readiness verdict }
+pub fn decide(phase: Phase, request: Request, capacity: u32, given: Given) -> Step
+    ensures { result ≡ receiver_decide_of phase request capacity given.readiness given.verdict }
 {
     match request {
         Request::GetFwId => to(phase, Answer::Identified),
-        Request::Initiate(_) => initiate(phase, readiness),
-        Request::Data { number, size } => data(phase, number, size, capacity, readiness),
-        Request::Validate => validate(phase, verdict),
+        Request::Initiate(_) => initiate(phase, given.readiness),
+        Request::Data { number, size } => data(phase, number, size, capacity, given.readiness),
+        Request::Validate => validate(phase, given.verdict),
         Request::Abort => abort(phase),
         Request::NotBuilt => to(phase, Answer::Unexpected),
     }
@@ -38,7 +32,7 @@ fn to(phase: Phase, answer: Answer) -> Step
     Step {
         phase,
         answer,
-        store: Store::Nowhere,
+        store: None,
     }
 }
 
@@ -47,10 +41,9 @@ fn initiate(phase: Phase, readiness: u8) -> Step
     ensures { result ≡ receiver_initiate_of phase readiness }
 {
     match phase {
-        Phase::Idle => offer(Phase::Idle, readiness),
+        Phase::Idle => offer(phase, readiness),
         Phase::Transfer(p) => initiate_in_transfer(p, readiness),
-        Phase::Await(a) => to(Phase::Await(a), Answer::UnexpectedInitiate),
-        Phase::Good(a) => to(Phase::Good(a), Answer::UnexpectedInitiate),
+        Phase::Await(_) | Phase::Good(_) => to(phase, Answer::UnexpectedInitiate),
     }
 }
 
@@ -83,10 +76,9 @@ fn data(phase: Phase, number: u16, size: usize, capacity: u32, readiness: u8) ->
     ensures { result ≡ receiver_data_of phase number size capacity readiness }
 {
     match phase {
-        Phase::Idle => to(Phase::Idle, Answer::UnexpectedData),
+        Phase::Idle | Phase::Good(_) => to(phase, Answer::UnexpectedData),
         Phase::Transfer(p) => transfer(p, number, size, capacity, readiness),
-        Phase::Await(a) => to(Phase::Await(a), Answer::Closed { number: a.blocks }),
-        Phase::Good(a) => to(Phase::Good(a), Answer::UnexpectedData),
+        Phase::Await(a) => to(phase, Answer::Closed { number: a.blocks }),
     }
 }
 
@@ -127,10 +119,7 @@ fn close(accepted: Accepted) -> Step
 fn passes_capacity(number: u16, size: usize, capacity: u32) -> bool
     ensures { result ≡ passes_capacity number size capacity }
 {
-    if LAST_NUMBER < number {
-        return true;
-    }
-    image::passes(number, size, capacity as usize)
+    LAST_NUMBER < number || image::passes(number, size, capacity as usize)
 }
 
 #[tactic(auto, using(basis::specs::Pick::tests), unfolding(receiver_rules::specs::Decide::take_block_of))]
@@ -155,7 +144,7 @@ fn take(number: u16, size: usize, readiness: u8) -> Step
             wait: readiness,
             number: next,
         },
-        store: Store::At(number),
+        store: Some(number),
     }
 }
 
@@ -164,10 +153,9 @@ fn validate(phase: Phase, verdict: Verdict) -> Step
     ensures { result ≡ receiver_validate_of phase verdict }
 {
     match phase {
-        Phase::Idle => to(Phase::Idle, Answer::UnexpectedValidate),
-        Phase::Transfer(p) => to(Phase::Transfer(p), Answer::UnexpectedValidate),
+        Phase::Idle | Phase::Transfer(_) => to(phase, Answer::UnexpectedValidate),
         Phase::Await(a) => judge(a, verdict),
-        Phase::Good(a) => to(Phase::Good(a), Answer::Success),
+        Phase::Good(_) => to(phase, Answer::Success),
     }
 }
 
@@ -187,9 +175,7 @@ fn abort(phase: Phase) -> Step
     ensures { result ≡ receiver_abort_of phase }
 {
     match phase {
-        Phase::Idle => to(Phase::Idle, Answer::Unexpected),
-        Phase::Transfer(_) => to(Phase::Idle, Answer::Aborted),
-        Phase::Await(_) => to(Phase::Idle, Answer::Aborted),
-        Phase::Good(a) => to(Phase::Good(a), Answer::Unexpected),
+        Phase::Idle | Phase::Good(_) => to(phase, Answer::Unexpected),
+        Phase::Transfer(_) | Phase::Await(_) => to(Phase::Idle, Answer::Aborted),
     }
 }

@@ -5,6 +5,8 @@ use mathlib.Core.Path.{◌≡◌}
 use mathlib.Core.List.{List}
 use borrow.Author.Tests.{lt-ltb, le-ltb}
 use lib.ListN.{length, take}
+use Rattle.std.specs.Prelude.{Ok, Err}
+use Rattle.wire.specs.Header.{malformed}
 use Rattle.basis.specs.Pick.{pick, eq_differ, ne_differ}
 use Rattle.lent.specs.Written.{written_into}
 use Rattle.image.specs.Sum as sums
@@ -20,9 +22,6 @@ use Rattle.receiver_rules.specs.Request.{effect, image_after, request_read_of, r
 use Rattle.receiver_rules.specs.Respond.{receiver_bytes_of}
 use Rattle.receiver_rules.specs.Sum.{receiver_sum_of}
 use Rattle.receiver_state.specs.declared.session.Receiver.{Receiver}
-use Rattle.receiver_state.specs.declared.sum.Summed.TheVariants as Summed
-use Rattle.std.specs.Prelude.{Ok}
-use Rattle.wire.specs.Header.{malformed}
 
 module _ (r : Receiver) (image request : List ℕ) (readiness : ℕ) (verdict : Verdict) (out : List ℕ) where
   pub answers_28 : (length image ≡ r.capacity → ⊥) → receiver_request_of r image request readiness verdict out ≡ effect (receiver_returns r ImageLength 0) image out
@@ -65,10 +64,10 @@ module _ (r : Receiver) (image request : List ℕ) (readiness : ℕ) (verdict : 
 
 -- The sum: 28, or the sum of the accepted bytes.
 module _ (r : Receiver) (image : List ℕ) where
-  pub sum_28 : (length image ≡ r.capacity → ⊥) → receiver_sum_of r image ≡ Summed.ImageLength
+  pub sum_28 : (length image ≡ r.capacity → ⊥) → receiver_sum_of r image ≡ Err (record {})
   unfolding receiver_sum_of pick
   sum_28 h = rw (ne_differ (length image) r.capacity h)
 
-  pub sum_0 : length image ≡ r.capacity → receiver_sum_of r image ≡ Summed.Sum (sums.sum_of (take (accepted_of r.phase).bytes image))
+  pub sum_0 : length image ≡ r.capacity → receiver_sum_of r image ≡ Ok (sums.sum_of (take (accepted_of r.phase).bytes image))
   unfolding receiver_sum_of pick
   sum_0 h = rw (eq_differ (length image) r.capacity h)

@@ -11,7 +11,7 @@ use Rattle.receiver_state.specs.Phase.{accepted_counts}
 use Rattle.receiver_rules.specs.Decide.{goes_to, receiver_progress, passes_capacity, close_transfer_of, take_block_of, receiver_transfer_of, receiver_data_of, receiver_decide_of}
 use Rattle.receiver_state.specs.declared.phase.Progress.{Progress}
 use Rattle.receiver_state.specs.declared.phase.Phase.TheVariants.{Idle, Transfer, Await}
-use Rattle.receiver_state.specs.declared.step.Store.TheVariants.{At}
+use Rattle.std.specs.Prelude.{Some}
 use Rattle.receiver_state.specs.declared.verdict.Verdict.{Verdict}
 use Rattle.receiver_state.specs.declared.step.Step.{Step}
 use Rattle.receiver_rules.proofs.Within.{number_passes, end_passes, none_passes}
@@ -58,7 +58,7 @@ module _ (p : Progress) (number size capacity readiness : ℕ) (verdict : Verdic
         pub takes : number ≤ 4095 → 256 * number + size ≤ capacity → then ≡ record {
           phase = Transfer (receiver_progress (accepted_counts (number + 1) (256 * number + size)) (ltb size 256));
           answer = Asking readiness (number + 1);
-          store = At number;
+          store = Some number;
         }
         unfolding receiver_decide_of receiver_data_of receiver_transfer_of take_block_of pick
         takes low fits = rw (eq_differ number p.accepted.blocks due, ne_eqb size 0 some, whole, none_passes number size capacity low fits)

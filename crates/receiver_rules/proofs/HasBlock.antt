@@ -11,18 +11,16 @@ use Rattle.receiver_rules.proofs.Owes.{Puts, decide_row}
 use Rattle.receiver_state.specs.declared.phase.Phase.{Phase}
 use Rattle.receiver_state.specs.declared.phase.Phase.TheVariants.{Idle, Transfer, Await, Good}
 use Rattle.receiver_state.specs.declared.verdict.Verdict.{Verdict}
-use Rattle.receiver_state.specs.declared.step.Store.{Store}
-use Rattle.receiver_state.specs.declared.step.Store.TheVariants.{Nowhere, At}
+use Rattle.std.specs.Prelude.{Option, Some, None, Ok}
 use Rattle.receiver_rules.specs.Request.{HasBlock}
-use Rattle.std.specs.Prelude.{Ok}
 
 module _ (m : List ℕ) (valid : Request) (capacity : ℕ) (e : message.parsed_request_of m ≡ Ok valid) where
-  put_has : (before then : Phase) (s : Store) → Puts before valid capacity then s → HasBlock s m
-  put_has before then Nowhere h = tt
-  put_has Idle then (At number) h = absurd h
-  put_has (Transfer p) then (At number) h = (request_sized m (Req.Data number h.size) (e ∙ ap (λ x. Ok x) h.is_data)).0
-  put_has (Await a) then (At number) h = absurd h
-  put_has (Good a) then (At number) h = absurd h
+  put_has : (before then : Phase) (s : Option ℕ) → Puts before valid capacity then s → HasBlock s m
+  put_has before then None h = tt
+  put_has Idle then (Some number) h = absurd h
+  put_has (Transfer p) then (Some number) h = (request_sized m (Req.Data number h.size) (e ∙ ap (λ x. Ok x) h.is_data)).0
+  put_has (Await a) then (Some number) h = absurd h
+  put_has (Good a) then (Some number) h = absurd h
 
   pub decide_has : (phase : Phase) (readiness : ℕ) (verdict : Verdict) → HasBlock (receiver_decide_of phase valid capacity readiness verdict).store m
   decide_has phase readiness verdict =

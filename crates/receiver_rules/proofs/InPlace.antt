@@ -14,7 +14,7 @@ use Rattle.receiver_state.specs.declared.phase.Phase.TheVariants.{Idle, Transfer
 use Rattle.receiver_rules.specs.Sum.{receiver_sum_of}
 use Rattle.receiver_rules.specs.History.{in_order, Reached}
 use Rattle.receiver_state.specs.declared.session.Receiver.{Receiver}
-use Rattle.receiver_state.specs.declared.sum.Summed.TheVariants.{Sum}
+use Rattle.std.specs.Prelude.{Ok}
 use Rattle.receiver_rules.proofs.Answers.{sum_0}
 use Rattle.receiver_rules.proofs.Held.{Sizes, short_of, Counts, Held, whole_bytes, nothing_counts}
 use Rattle.receiver_rules.proofs.Reached.{reached_holds, reached_capacity}
@@ -76,5 +76,5 @@ module _ {r : Receiver} {image : List ℕ} {taken : List (List ℕ)} (h : Reache
   idle_nothing e = (rw e refl, rw e at (reached_holds h))
 
   -- The image sum is the sum of the accepted blocks.
-  pub sum_theirs : length image ≡ r.capacity → receiver_sum_of r image ≡ Sum (sums.sum_of (in_order taken))
-  sum_theirs lent = sum_0 r image lent ∙ ap (λ x. Sum (sums.sum_of x)) in_place
+  pub sum_theirs : length image ≡ r.capacity → receiver_sum_of r image ≡ Ok (sums.sum_of (in_order taken))
+  sum_theirs lent = sum_0 r image lent ∙ ap (λ x. Ok (sums.sum_of x)) in_place

@@ -12,15 +12,14 @@ use Rattle.receiver_state.specs.declared.phase.Accepted.{Accepted}
 use Rattle.receiver_state.specs.declared.phase.Phase.{Phase}
 use Rattle.receiver_state.specs.declared.phase.Phase.TheVariants.{Idle, Good}
 use Rattle.receiver_state.specs.declared.verdict.Verdict.{Verdict}
-use Rattle.receiver_state.specs.declared.step.Store.{Store}
-use Rattle.receiver_state.specs.declared.step.Store.TheVariants.{Nowhere}
+use Rattle.std.specs.Prelude.{Option, None}
 use Rattle.receiver_state.specs.declared.step.Step.{Step}
 use Rattle.receiver_rules.specs.Request.{Effect, image_after, receiver_request_of}
 use Rattle.receiver_state.specs.declared.session.Receiver.{Receiver}
 use Rattle.receiver_rules.proofs.Walk.{request_walk}
 
 -- A step that puts no block keeps the image.
-nowhere_keeps : (s : Store) (image request : List ℕ) → s ≡ Nowhere → image_after s image request ≡ image
+nowhere_keeps : (s : Option ℕ) (image request : List ℕ) → s ≡ None → image_after s image request ≡ image
 unfolding image_after
 nowhere_keeps s image request e = rw e
 

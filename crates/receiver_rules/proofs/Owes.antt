@@ -18,8 +18,7 @@ use Rattle.receiver_state.specs.declared.phase.Phase.{Phase}
 use Rattle.receiver_state.specs.declared.phase.Phase.TheVariants.{Idle, Transfer, Await, Good}
 use Rattle.receiver_state.specs.declared.verdict.Verdict.{Verdict}
 use Rattle.receiver_state.specs.declared.verdict.Verdict.TheVariants as Ver
-use Rattle.receiver_state.specs.declared.step.Store.{Store}
-use Rattle.receiver_state.specs.declared.step.Store.TheVariants.{Nowhere, At}
+use Rattle.std.specs.Prelude.{Option, Some, None}
 use Rattle.receiver_state.specs.declared.step.Step.{Step}
 use Rattle.receiver_rules.proofs.Within.{within}
 
@@ -71,17 +70,17 @@ pub record Taken (p : Progress) (q : Request) (capacity number : ℕ) (next : Ph
   pub fits : 256 * number + size ≤ capacity
   pub counted : next ≡ Transfer (receiver_progress (accepted_counts (number + 1) (256 * number + size)) (ltb size 256))
 
-abbrev pub Puts : Phase → Request → ℕ → Phase → Store → Type 0
-Puts before q capacity next Nowhere = Unit
-Puts Idle q capacity next (At number) = ⊥
-Puts (Transfer p) q capacity next (At number) = Taken p q capacity number next
-Puts (Await a) q capacity next (At number) = ⊥
-Puts (Good a) q capacity next (At number) = ⊥
+abbrev pub Puts : Phase → Request → ℕ → Phase → Option ℕ → Type 0
+Puts before q capacity next None = Unit
+Puts Idle q capacity next (Some number) = ⊥
+Puts (Transfer p) q capacity next (Some number) = Taken p q capacity number next
+Puts (Await a) q capacity next (Some number) = ⊥
+Puts (Good a) q capacity next (Some number) = ⊥
 
 pub record Row (before : Phase) (q : Request) (capacity : ℕ) (verdict : Verdict) (s : Step) : Type 0 where
   pub heard : keeps_all (receiver_number_of s.answer) ≡ false
-  pub keeps : When (keeps_phase (receiver_number_of s.answer)) ((s.phase ≡ before) × (s.store ≡ Nowhere))
-  pub goes_idle_lem : When (goes_idle (receiver_number_of s.answer)) ((s.phase ≡ Idle) × (s.store ≡ Nowhere))
+  pub keeps : When (keeps_phase (receiver_number_of s.answer)) ((s.phase ≡ before) × (s.store ≡ None))
+  pub goes_idle_lem : When (goes_idle (receiver_number_of s.answer)) ((s.phase ≡ Idle) × (s.store ≡ None))
   pub stays : Stays before s.phase
   pub enters : Enters before q verdict s.phase
   pub puts : Puts before q capacity s.phase s.store

@@ -20,13 +20,12 @@ use Rattle.receiver_state.specs.Answer.{get_fw_id_reply, initiate_reply, data_re
 use Rattle.receiver_state.specs.Phase.{accepted_of}
 use Rattle.receiver_state.specs.declared.answer.Answer.{Answer}
 use Rattle.receiver_state.specs.declared.answer.Answer.TheVariants.{Identified, Offered, Asking, Closed, Success, Later, Aborted, Passed, Malformed, UnexpectedInitiate, UnexpectedData, UnexpectedValidate, Unexpected, NotDue, PassesCapacity, WrongFile, VerdictBad, OutOfRange, BufferShort, ImageLength}
-use Rattle.receiver_state.specs.declared.answer.Reply.{Reply}
-use Rattle.receiver_state.specs.declared.answer.Reply.TheVariants.{Nothing, Sends}
+use Rattle.std.specs.Prelude.{Option, Some, None, Ok}
 use Rattle.receiver_state.specs.declared.phase.Accepted.{Accepted}
 use Rattle.receiver_state.specs.declared.phase.Phase.{Phase}
 use Rattle.receiver_state.specs.declared.phase.Phase.TheVariants.{Idle, Transfer, Await, Good}
 use Rattle.receiver_state.specs.declared.phase.Progress.{Progress}
-use Rattle.receiver_state.specs.declared.session.Outcome.{Outcome}
+use Rattle.receiver_state.specs.Session.{Outcome}
 use Rattle.receiver_state.specs.declared.session.Receiver.{Receiver}
 use Rattle.receiver_state.specs.declared.step.Step.{Step}
 use Rattle.receiver_state.specs.declared.verdict.Verdict.{Verdict}
@@ -39,7 +38,6 @@ use Rattle.receiver_rules.specs.Time.{receiver_time_of}
 use Rattle.receiver_rules.proofs.InPlace.{limits}
 use Rattle.receiver_rules.proofs.Walk.{request_walk, time_walk}
 use Rattle.receiver_rules.proofs.Written.{Leads, read_back, request_leads, time_leads}
-use Rattle.std.specs.Prelude.{Ok}
 
 -- The block numbers of an answer have 16 bits.
 abbrev Numbered : Answer → Type 0
@@ -141,9 +139,9 @@ tick_numbered (Good a) silence elapsed made settings few = tt
 abbrev pub Sixteen : Identity → Type 0
 Sixteen i = (i.vendor < 65536) × (i.product < 65536) × Words i.versions
 
-abbrev Readable : Reply → Type 0
-Readable Nothing = Unit
-Readable (Sends sent) = Answerable sent
+abbrev Readable : Option Response → Type 0
+Readable None = Unit
+Readable (Some sent) = Answerable sent
 
 module _ (identity : Identity) (words : Sixteen identity) (capacity : ℕ) (room : capacity ≤ image_size_most) where
   reply_readable : (answer : Answer) → Numbered answer → Readable (reply_of identity capacity answer)
@@ -171,7 +169,7 @@ module _ (identity : Identity) (words : Sixteen identity) (capacity : ℕ) (room
 
 -- What an answer sends, a reader finds in the bytes.
 abbrev pub Finds : Receiver → Outcome → List ℕ → Type 0
-Finds r outcome out = (sent : Response) → reply_of r.identity r.capacity outcome.answer ≡ Sends sent
+Finds r outcome out = (sent : Response) → reply_of r.identity r.capacity outcome.answer ≡ Some sent
     → parsed_response_of (take outcome.written out) ≡ Ok (as_read sent)
 
 module _ {r : Receiver} {image₀ : List ℕ} {taken : List (List ℕ)} (reached : Reached r image₀ taken) (words : Sixteen r.identity) where

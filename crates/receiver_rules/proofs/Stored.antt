@@ -19,13 +19,11 @@ use Rattle.receiver_state.specs.declared.phase.Progress.{Progress}
 use Rattle.receiver_state.specs.declared.phase.Phase.{Phase}
 use Rattle.receiver_state.specs.declared.phase.Phase.TheVariants.{Idle, Transfer, Await, Good}
 use Rattle.receiver_state.specs.declared.verdict.Verdict.{Verdict}
-use Rattle.receiver_state.specs.declared.step.Store.{Store}
-use Rattle.receiver_state.specs.declared.step.Store.TheVariants.{Nowhere, At}
+use Rattle.std.specs.Prelude.{Option, Some, None, Ok}
 use Rattle.receiver_rules.specs.Request.{image_after}
 use Rattle.receiver_state.specs.declared.session.Receiver.{Receiver}
 use Rattle.receiver_rules.proofs.Walk.{request_walk}
 use Rattle.receiver_rules.proofs.Laws.{after, next}
-use Rattle.std.specs.Prelude.{Ok}
 
 -- A taken block, and the image that it leaves: the block in its place, and every byte before and behind it as it was.
 pub record Stored (before : Phase) (capacity : ℕ) (request image image' : List ℕ) (then : Phase) : Type 0 where
@@ -48,7 +46,7 @@ pub record Stored (before : Phase) (capacity : ℕ) (request image image' : List
 
 module _ (image request : List ℕ) (capacity : ℕ) (room : length image ≡ capacity) where
   pub taken_stored : (p : Progress) (q : Request) (number : ℕ) (then : Phase) → message.parsed_request_of request ≡ Ok q → Taken p q capacity number then
-      → Stored (Transfer p) capacity request image (image_after (At number) image request) then
+      → Stored (Transfer p) capacity request image (image_after (Some number) image request) then
   unfolding image_after
   taken_stored p q number then e t =
       let parsed : message.parsed_request_of request ≡ Ok (Req.Data number t.size) = e ∙ ap (λ x. Ok x) t.is_data in
@@ -77,19 +75,19 @@ module _ (image request : List ℕ) (capacity : ℕ) (room : length image ≡ ca
         counted = t.counted;
       })
 
-  store_image : (before : Phase) (q : Request) (then : Phase) (s : Store) → message.parsed_request_of request ≡ Ok q → Puts before q capacity then s
+  store_image : (before : Phase) (q : Request) (then : Phase) (s : Option ℕ) → message.parsed_request_of request ≡ Ok q → Puts before q capacity then s
       → (image_after s image request ≡ image) ⊎ Stored before capacity request image (image_after s image request) then
   unfolding image_after
-  store_image before q then Nowhere e h = inl refl
-  store_image Idle q then (At number) e h = absurd h
-  store_image (Transfer p) q then (At number) e h = inr (taken_stored p q number then e h)
-  store_image (Await a) q then (At number) e h = absurd h
-  store_image (Good a) q then (At number) e h = absurd h
+  store_image before q then None e h = inl refl
+  store_image Idle q then (Some number) e h = absurd h
+  store_image (Transfer p) q then (Some number) e h = inr (taken_stored p q number then e h)
+  store_image (Await a) q then (Some number) e h = absurd h
+  store_image (Good a) q then (Some number) e h = absurd h
 
-store_length : (image request : List ℕ) (s : Store) → length (image_after s image request) ≡ length image
+store_length : (image request : List ℕ) (s : Option ℕ) → length (image_after s image request) ≡ length image
 unfolding image_after
-store_length image request Nowhere = refl
-store_length image request (At number) = put_length image (256 * number) (drop 4 request)
+store_length image request None = refl
+store_length image request (Some number) = put_length image (256 * number) (drop 4 request)
 
 module _ (r : Receiver) (image request : List ℕ) (readiness : ℕ) (verdict : Verdict) (out : List ℕ) where
   -- The image changes only when a non-empty block with the due number that fits is taken, and then only in that block's place.

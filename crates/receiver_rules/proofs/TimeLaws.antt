@@ -22,7 +22,7 @@ use Rattle.receiver_rules.specs.Time.{receiver_elapsed_of, receiver_time_of}
 use Rattle.receiver_rules.specs.Respond.{receiver_bytes_of}
 use Rattle.receiver_state.specs.declared.step.Tick.{Tick}
 use Rattle.receiver_state.specs.declared.session.Receiver.{Receiver}
-use Rattle.receiver_state.specs.declared.session.Outcome.{Outcome}
+use Rattle.receiver_state.specs.Session.{Outcome}
 use Rattle.receiver_rules.proofs.Walk.{time_walk}
 
 same_lasts : (phase : Phase) → Lasts phase phase

@@ -30,8 +30,7 @@ use Rattle.receiver_rules.proofs.Walk.{request_walk, time_walk}
 use Rattle.receiver_rules.proofs.Laws.{good_stays}
 use Rattle.receiver_rules.proofs.TimeLaws.{time_good}
 use Rattle.receiver_rules.proofs.Written.{first_bytes, request_leads, time_leads}
-use Rattle.std.specs.Prelude.{Ok}
-use Rattle.wire.specs.Header.{malformed}
+use Rattle.std.specs.Prelude.{Ok, Err}
 
 -- A VALIDATE response with the success bit.
 abbrev pub Succeeds : Parsed → Type 0
@@ -40,7 +39,7 @@ Succeeds (Ok (Res.Initiate status wait size)) = ⊥
 Succeeds (Ok (Res.Data status wait number)) = ⊥
 Succeeds (Ok (Res.Validate status wait success)) = success ≡ true
 Succeeds (Ok Res.NotBuilt) = ⊥
-Succeeds malformed = ⊥
+Succeeds (Err refusal) = ⊥
 
 -- A message from a receiver in this phase has the success bit only where the phase is Good.
 abbrev pub Truthful : Phase → List ℕ → Type 0

@@ -20,7 +20,7 @@ use Rattle.receiver_rules.specs.Session.{receiver_returns}
 use Rattle.receiver_rules.specs.Request.{Effect, request_kept, request_done, request_read_of, receiver_request_of}
 use Rattle.receiver_rules.specs.Time.{receiver_ticked_of, receiver_elapsed_of, receiver_time_of}
 use Rattle.receiver_state.specs.declared.session.Receiver.{Receiver}
-use Rattle.receiver_state.specs.declared.session.Outcome.{Outcome}
+use Rattle.receiver_state.specs.Session.{Outcome}
 use Rattle.std.specs.Prelude.{Ok, Err}
 use Rattle.wire.specs.Header.{malformed}
 

@@ -18,8 +18,7 @@ use Rattle.wire.specs.declared.request.Request.TheVariants as Req
 use Rattle.wire.specs.declared.response.Response.{Response}
 use Rattle.receiver_state.specs.Answer.{reply_of}
 use Rattle.receiver_state.specs.declared.answer.Answer.{Answer}
-use Rattle.receiver_state.specs.declared.answer.Reply.{Reply}
-use Rattle.receiver_state.specs.declared.answer.Reply.TheVariants.{Nothing, Sends}
+use Rattle.std.specs.Prelude.{Option, Some, None, Ok}
 use Rattle.receiver_rules.specs.Decide.{receiver_decide_of, receiver_abort_of}
 use Rattle.receiver_rules.specs.Tick.{receiver_tick_of}
 use Rattle.receiver_state.specs.declared.phase.Phase.{Phase}
@@ -29,14 +28,13 @@ use Rattle.receiver_rules.specs.Respond.{reply_bytes, receiver_bytes_of}
 use Rattle.receiver_rules.specs.Request.{receiver_request_of}
 use Rattle.receiver_rules.specs.Time.{receiver_time_of}
 use Rattle.receiver_state.specs.declared.session.Receiver.{Receiver}
-use Rattle.receiver_state.specs.declared.session.Outcome.{Outcome}
+use Rattle.receiver_state.specs.Session.{Outcome}
 use Rattle.receiver_rules.proofs.Walk.{request_walk, time_walk}
-use Rattle.std.specs.Prelude.{Ok}
 
-reply_fits : (reply : Reply) → length (reply_bytes reply) ≤ 22
+pub reply_fits : (reply : Option Response) → length (reply_bytes reply) ≤ 22
 unfolding reply_bytes
-reply_fits Nothing = omega arith
-reply_fits (Sends sent) = response_fits sent
+reply_fits None = omega arith
+reply_fits (Some sent) = response_fits sent
 
 written_length : (r : Receiver) (answer : Answer) (out : List ℕ) → longest ≤ length out → length (written_into (receiver_bytes_of r answer) out) ≡ length out
 written_length r answer out room =
@@ -60,7 +58,7 @@ module _ (r : Receiver) (out : List ℕ) (outcome : Outcome) (out' : List ℕ) (
   first_bytes = rw (l.written, l.first) (take-append_seam (receiver_bytes_of r outcome.answer) (drop (length (receiver_bytes_of r outcome.answer)) out))
 
   -- What was written is one message: a reader finds the answer's response in it.
-  pub read_back : (sent : Response) → reply_of r.identity r.capacity outcome.answer ≡ Sends sent → Answerable sent
+  pub read_back : (sent : Response) → reply_of r.identity r.capacity outcome.answer ≡ Some sent → Answerable sent
       → response.parsed_response_of (take outcome.written out') ≡ Ok (as_read sent)
   unfolding reply_bytes
   read_back sent e can = rw (first_bytes, e) (response_back sent can)

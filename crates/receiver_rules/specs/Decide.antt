@@ -1,5 +1,5 @@
 -- What the receiver does with a well-formed request, by its phase: a definition for each row (01, The receiver's phases).
-use Rattle.std.specs.Prelude.{ℕ, ◌+◌, Bool, true, false, ltb, eqb}
+use Rattle.std.specs.Prelude.{ℕ, ◌+◌, Bool, true, false, Some, None, ltb, eqb}
 use Rattle.basis.specs.Pick.{pick, differ}
 use Rattle.image.specs.Blocks.{block_size, place_of, block_passes_of}
 use Rattle.wire.specs.declared.request.Request.{Request}
@@ -13,12 +13,11 @@ use Rattle.receiver_state.specs.declared.verdict.Verdict.{Verdict}
 use Rattle.receiver_state.specs.declared.verdict.Verdict.TheVariants as Ver
 use Rattle.receiver_state.specs.declared.answer.Answer.{Answer}
 use Rattle.receiver_state.specs.declared.answer.Answer.TheVariants.{Identified, Offered, Asking, Closed, Success, Later, Aborted, UnexpectedInitiate, UnexpectedData, UnexpectedValidate, Unexpected, NotDue, PassesCapacity, WrongFile, VerdictBad}
-use Rattle.receiver_state.specs.declared.step.Store.TheVariants.{Nowhere, At}
 use Rattle.receiver_state.specs.declared.step.Step.{Step}
 
 -- The phase after the request, and the answer; no block is put.
 abbrev pub goes_to : Phase → Answer → Step
-goes_to phase answer = record { phase = phase; answer = answer; store = Nowhere }
+goes_to phase answer = record { phase = phase; answer = answer; store = None }
 
 abbrev pub receiver_progress : Accepted → Bool → Progress
 receiver_progress accepted short = record { accepted = accepted; short = short }
@@ -57,7 +56,7 @@ unfoldable pub take_block_of : ℕ → ℕ → ℕ → Step
 take_block_of number size readiness = record {
   phase = Transfer (receiver_progress (accepted_counts (number + 1) (place_of number + size)) (ltb size block_size));
   answer = Asking readiness (number + 1);
-  store = At number;
+  store = Some number;
 }
 
 -- DATA in Transfer: 22, 24, 23, or taken.

@@ -1,5 +1,5 @@
 -- A request in two parts: what it does, without the identity, and then the response.
-use Rattle.std.specs.Prelude.{ℕ, Bool, true, false, List, ltb, length}
+use Rattle.std.specs.Prelude.{ℕ, Bool, true, false, List, Result, Ok, Err, ltb, length}
 use Rattle.basis.specs.Left.{Left, left}
 use Rattle.basis.specs.Pick.{pick, differ}
 use Rattle.lent.specs.Written.{returns_written}
@@ -18,29 +18,29 @@ use Rattle.receiver_rules.specs.Range.{out_of_range}
 use Rattle.receiver_rules.specs.Request.{image_after}
 use Rattle.receiver_rules.specs.Respond.{reply_bytes}
 use Rattle.receiver_state.specs.declared.step.Heard.{Heard}
-use Rattle.std.specs.Prelude.{Ok, Err}
 
-abbrev pub heard : Phase → Answer → Bool → Heard
-heard phase answer kept = record { phase = phase; answer = answer; kept = kept }
+abbrev pub heard : Phase → Answer → Heard
+heard phase answer = record { phase = phase; answer = answer }
 
-abbrev pub receiver_kept : Phase → Answer → Heard
-receiver_kept phase answer = heard phase answer true
+-- A request that was refused unheard: nothing changes, and silence and resends are not set to zero either.
+abbrev pub receiver_kept : Answer → Result Heard Answer
+receiver_kept answer = Err answer
 
-abbrev pub receiver_done : Step → List ℕ → List ℕ → Left Heard
-receiver_done step image request = left (heard step.phase step.answer false) (image_after step.store image request)
+abbrev pub receiver_done : Step → List ℕ → List ℕ → Left (Result Heard Answer)
+receiver_done step image request = left (Ok (heard step.phase step.answer)) (image_after step.store image request)
 
 -- 20, and then what the request asks for
-unfoldable pub heard_read_of : Phase → ℕ → Parsed → List ℕ → List ℕ → ℕ → Verdict → Left Heard
-heard_read_of phase capacity (Err refusal) image request readiness verdict = left (receiver_kept phase Malformed) image
+unfoldable pub heard_read_of : Phase → ℕ → Parsed → List ℕ → List ℕ → ℕ → Verdict → Left (Result Heard Answer)
+heard_read_of phase capacity (Err refusal) image request readiness verdict = left (receiver_kept Malformed) image
 heard_read_of phase capacity (Ok valid) image request readiness verdict =
     receiver_done (receiver_decide_of phase valid capacity readiness verdict) image request
 
 -- 28, 27, 26, 20, and then what the request asks for; `room` is the output buffer's length
-unfoldable pub heard_of : Phase → ℕ → List ℕ → List ℕ → ℕ → Verdict → ℕ → Left Heard
+unfoldable pub heard_of : Phase → ℕ → List ℕ → List ℕ → ℕ → Verdict → ℕ → Left (Result Heard Answer)
 heard_of phase capacity image request readiness verdict room =
-    pick (differ (length image) capacity) (left (receiver_kept phase ImageLength) image)
-    (pick (ltb room longest) (left (receiver_kept phase BufferShort) image)
-    (pick (out_of_range readiness verdict) (left (receiver_kept phase OutOfRange) image)
+    pick (differ (length image) capacity) (left (receiver_kept ImageLength) image)
+    (pick (ltb room longest) (left (receiver_kept BufferShort) image)
+    (pick (out_of_range readiness verdict) (left (receiver_kept OutOfRange) image)
     (heard_read_of phase capacity (message.parsed_request_of request) image request readiness verdict)))
 
 -- The answer to GET_FW_ID alone.

@@ -1,7 +1,7 @@
 -- Any calls from a fresh session, each lent the same memory or one of another length, and the blocks that were accepted: found by the requests,
 -- the numbers answered and the phases alone, never by the receiver's own counts (01, Programs that should not pass: accepted is tied to bytes in
 -- place).
-use Rattle.std.specs.Prelude.{ℕ, Bool, false, ◌&&◌, ◌≡◌, List, [], ◌∷◌, ◌++◌, ltb, eqb, length, drop}
+use Rattle.std.specs.Prelude.{ℕ, Bool, false, ◌&&◌, ◌≡◌, List, [], ◌∷◌, ◌++◌, ltb, eqb, length, drop, Ok, Err}
 use Rattle.basis.specs.Pick.{pick}
 use Rattle.wire.specs.Codes.{data_head}
 use Rattle.wire.specs.Request as message
@@ -16,9 +16,7 @@ use Rattle.receiver_rules.specs.Session.{receiver_start_of}
 use Rattle.receiver_rules.specs.Request.{receiver_request_of}
 use Rattle.receiver_rules.specs.Time.{receiver_time_of}
 use Rattle.receiver_state.specs.declared.session.Receiver.{Receiver}
-use Rattle.receiver_state.specs.declared.session.Outcome.{Outcome}
-use Rattle.receiver_state.specs.declared.session.Started.TheVariants.{Made}
-use Rattle.std.specs.Prelude.{Ok, Err}
+use Rattle.receiver_state.specs.Session.{Outcome}
 
 -- A DATA request with a non-empty block that was answered 0.
 abbrev pub block_answered : Parsed → ℕ → Bool
@@ -74,7 +72,7 @@ in_order (block ∷ taken) = in_order taken ++ block
 -- A session, the image, and the accepted blocks, the newest first, after any calls. A call that is lent memory of another length (28) does not
 -- touch the image.
 pub data Reached : Receiver → List ℕ → List (List ℕ) → Type 0 where
-  starts : (limit resends : ℕ) (identity : Identity) (capacity : ℕ) (r : Receiver) (image : List ℕ) → receiver_start_of limit resends identity capacity ≡ Made r → Reached r image []
+  starts : (limit resends : ℕ) (identity : Identity) (capacity : ℕ) (r : Receiver) (image : List ℕ) → receiver_start_of limit resends identity capacity ≡ Ok r → Reached r image []
   asks : {r : Receiver} {image : List ℕ} {taken : List (List ℕ)} → Reached r image taken → (request : List ℕ) (readiness : ℕ) (verdict : Verdict) (out : List ℕ)
       → Reached (receiver_request_of r image request readiness verdict out).outcome.session (receiver_request_of r image request readiness verdict out).image
       (taken_after r request (receiver_request_of r image request readiness verdict out).outcome taken)

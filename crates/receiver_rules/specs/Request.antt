@@ -1,5 +1,5 @@
 -- What one request does: everything that the call returns and leaves, for every session, image, request, readiness, verdict and buffer.
-use Rattle.std.specs.Prelude.{ℕ, ◌≤◌, List, ltb, length, drop}
+use Rattle.std.specs.Prelude.{ℕ, ◌≤◌, List, Option, Some, None, ltb, length, drop}
 use Rattle.basis.specs.Pick.{pick, differ}
 use Rattle.lent.specs.Written.{written_into}
 use Rattle.image.specs.Blocks.{put_block_of}
@@ -11,13 +11,11 @@ use Rattle.receiver_rules.specs.Decide.{receiver_decide_of}
 use Rattle.receiver_state.specs.declared.verdict.Verdict.{Verdict}
 use Rattle.receiver_state.specs.declared.answer.Answer.{Answer}
 use Rattle.receiver_state.specs.declared.answer.Answer.TheVariants.{Malformed, OutOfRange, BufferShort, ImageLength}
-use Rattle.receiver_state.specs.declared.step.Store.{Store}
-use Rattle.receiver_state.specs.declared.step.Store.TheVariants.{Nowhere, At}
 use Rattle.receiver_state.specs.declared.step.Step.{Step}
 use Rattle.receiver_rules.specs.Session.{receiver_returns, receiver_moved}
 use Rattle.receiver_rules.specs.Respond.{receiver_bytes_of}
 use Rattle.receiver_state.specs.declared.session.Receiver.{Receiver}
-use Rattle.receiver_state.specs.declared.session.Outcome.{Outcome}
+use Rattle.receiver_state.specs.Session.{Outcome}
 use Rattle.std.specs.Prelude.{Ok, Err}
 
 -- What a request call returns, and the image and the output buffer that it leaves.
@@ -34,14 +32,14 @@ abbrev pub request_kept : Receiver → Answer → List ℕ → List ℕ → Effe
 request_kept r answer image out = effect (receiver_returns r answer 0) image out
 
 -- The block is the part of the request from its fifth byte.
-unfoldable pub image_after : Store → List ℕ → List ℕ → List ℕ
-image_after Nowhere image request = image
-image_after (At number) image request = (put_block_of image number (drop data_head request)).memory
+unfoldable pub image_after : Option ℕ → List ℕ → List ℕ → List ℕ
+image_after None image request = image
+image_after (Some number) image request = (put_block_of image number (drop data_head request)).memory
 
 -- A request whose block is put into the image has the four bytes before the block.
-abbrev pub HasBlock : Store → List ℕ → Type 0
-HasBlock Nowhere request = Unit
-HasBlock (At number) request = data_head ≤ length request
+abbrev pub HasBlock : Option ℕ → List ℕ → Type 0
+HasBlock None request = Unit
+HasBlock (Some number) request = data_head ≤ length request
 
 -- A well-formed request sets silence and resends to zero, also one that is answered 21 to 25.
 abbrev pub request_done : Receiver → Step → List ℕ → List ℕ → List ℕ → Effect

@@ -10,7 +10,7 @@ use Rattle.receiver_state.specs.declared.step.Tick.{Tick}
 use Rattle.receiver_rules.specs.Session.{receiver_returns, receiver_moved}
 use Rattle.receiver_rules.specs.Respond.{receiver_bytes_of}
 use Rattle.receiver_state.specs.declared.session.Receiver.{Receiver}
-use Rattle.receiver_state.specs.declared.session.Outcome.{Outcome}
+use Rattle.receiver_state.specs.Session.{Outcome}
 
 -- What the call returns and leaves once its tick is decided.
 abbrev pub receiver_ticked_of : Receiver → Tick → List ℕ → Left Outcome

@@ -1,5 +1,7 @@
 // What a call of the receiver answers: document 01's number, and the response that goes out with it.
-use wire::response::Response;
+ghost use Rattle.receiver_state.specs.Answer.{receiver_number_of};
+
+use numbers::Numbered;
 
 #[derive(Clone, Copy)]
 pub enum Answer {
@@ -29,9 +31,32 @@ pub enum Answer {
     ImageLength,
 }
 
-// At most one response goes out with an answer.
-#[derive(Clone, Copy)]
-pub enum Reply {
-    Nothing,
-    Sends(Response),
+// 01, Numbers we answer.
+impl Numbered for Answer {
+    ghost number_of = { receiver_number_of };
+
+    fn number(self) -> u8 {
+        match self {
+            Answer::Identified
+            | Answer::Offered { .. }
+            | Answer::Asking { .. }
+            | Answer::Closed { .. }
+            | Answer::Success
+            | Answer::Later { .. }
+            | Answer::Aborted
+            | Answer::Passed => 0,
+            Answer::Malformed => 20,
+            Answer::UnexpectedInitiate
+            | Answer::UnexpectedData
+            | Answer::UnexpectedValidate
+            | Answer::Unexpected => 21,
+            Answer::NotDue { .. } => 22,
+            Answer::PassesCapacity => 23,
+            Answer::WrongFile => 24,
+            Answer::VerdictBad => 25,
+            Answer::OutOfRange => 26,
+            Answer::BufferShort => 27,
+            Answer::ImageLength => 28,
+        }
+    }
 }

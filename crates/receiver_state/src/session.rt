@@ -15,16 +15,5 @@ pub struct Receiver {
     pub resends: u8,
 }
 
-#[derive(Clone, Copy)]
-pub enum Started {
-    Made(Receiver),
-    Refused,
-}
-
-// What a request and a time call return: the session after it, the answer, and how many bytes of the output buffer were written.
-#[derive(Clone, Copy)]
-pub struct Outcome {
-    pub session: Receiver,
-    pub answer: Answer,
-    pub written: usize,
-}
+// What a request and a time call return.
+pub type Outcome = lent::Outcome<Receiver, Answer>;

@@ -2,26 +2,19 @@
 use crate::answer::Answer;
 use crate::phase::Phase;
 
-// Where in the image the request's block is put: nowhere, or at 256 × this number.
-#[derive(Clone, Copy)]
-pub enum Store {
-    Nowhere,
-    At(u16),
-}
-
+// `store`: the request's block is put into the image, at 256 × this number.
 #[derive(Clone, Copy)]
 pub struct Step {
     pub phase: Phase,
     pub answer: Answer,
-    pub store: Store,
+    pub store: Option<u16>,
 }
 
-// The phase after the request and the answer. `kept`: nothing changes, and silence and resends are not set to zero either.
+// The phase after a request that was heard, and its answer.
 #[derive(Clone, Copy)]
 pub struct Heard {
     pub phase: Phase,
     pub answer: Answer,
-    pub kept: bool,
 }
 
 #[derive(Clone, Copy)]

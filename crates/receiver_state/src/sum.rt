@@ -1,6 +1,17 @@
-// What the receiver answers where it is asked for the image sum (01, Sizes and numbers).
+// Why the receiver gives no image sum (01, Sizes and numbers).
+ghost use Rattle.receiver_state.specs.Sum.{length_number_of};
+
+use numbers::Numbered;
+
+// The lent memory is not as long as the capacity.
 #[derive(Clone, Copy)]
-pub enum Summed {
-    Sum(u16),
-    ImageLength,
+pub struct ImageLength;
+
+// 01, Numbers we answer.
+impl Numbered for ImageLength {
+    ghost number_of = { length_number_of };
+
+    fn number(self) -> u8 {
+        28
+    }
 }

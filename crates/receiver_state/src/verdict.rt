@@ -1,7 +1,16 @@
-// The verdict on the image that comes with each request (01, The receiver's phases). Checking the signature is not built here.
+// What comes with each request (01, The receiver's phases). Checking the signature is not built here.
+
+// The verdict on the image.
 #[derive(Clone, Copy)]
 pub enum Verdict {
     Good,
     Bad,
     Later(u8),
+}
+
+// `readiness` is the wait before the next block.
+#[derive(Clone, Copy)]
+pub struct Given {
+    pub readiness: u8,
+    pub verdict: Verdict,
 }

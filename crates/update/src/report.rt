@@ -12,7 +12,6 @@ use indoor_state::phase::{Phase, Reason};
 use lossy_ends::Ends;
 use lossy_session::Judged;
 use receiver_state::session::Receiver;
-use receiver_state::sum::Summed;
 use std::fmt;
 use std::io::Error;
 
@@ -115,8 +114,8 @@ impl fmt::Display for Why {
 fn held(to: Streams, receiver: Receiver, image: &[u8]) -> Result<(), Error> {
     let bytes = receiver_decide::accepted(receiver.phase).bytes;
     match receiver::sum(receiver, image) {
-        Summed::Sum(sum) => to.say(format_args!("image: {bytes} bytes, sum {sum}")),
-        Summed::ImageLength => to.say(format_args!("image: {bytes} bytes, sum unknown")),
+        Ok(sum) => to.say(format_args!("image: {bytes} bytes, sum {sum}")),
+        Err(_) => to.say(format_args!("image: {bytes} bytes, sum unknown")),
     }
 }
 

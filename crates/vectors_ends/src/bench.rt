@@ -1,6 +1,6 @@
 // The state that a script's lines work on: the sessions of both ends, how much memory is lent to each, and the text after the last line of each.
 use indoor_state::session::Indoor;
-use receiver_state::session::Started;
+use receiver_state::session::Receiver;
 use saying::Said;
 use wire::codes;
 
@@ -26,10 +26,10 @@ pub(crate) struct Bench {
     pub indoors: Indoors,
 }
 
-// The receiver's part. `session` is `Refused` before the first start too: there is no session.
+// The receiver's part. There is no session before the first start, nor after one that is refused.
 #[derive(Clone, Copy)]
 pub(crate) struct Outdoors {
-    pub session: Started,
+    pub session: Option<Receiver>,
     pub lent: Lent,
     pub said: Said,
 }
@@ -55,7 +55,7 @@ impl Bench {
         };
         Bench {
             outdoors: Outdoors {
-                session: Started::Refused,
+                session: None,
                 lent,
                 said: Said::nothing(),
             },

@@ -1,17 +1,17 @@
 // The receiver's calls, on the memories as they are lent: a request, whole blocks in a row, time, the sum.
 use crate::verdict;
-use crate::verdict::{Given, Judged};
+use crate::verdict::Judged;
 use crate::word::Call;
 use receiver_state::session::{Outcome, Receiver};
-use receiver_state::sum::Summed;
-use receiver_state::verdict::Verdict;
+use receiver_state::sum::ImageLength;
+use receiver_state::verdict::{Given, Verdict};
 use script::Field;
 use wire::codes;
 
 #[derive(Clone, Copy)]
 pub(crate) enum Called {
     Ended(Outcome),
-    Summed(Summed),
+    Summed(Result<u16, ImageLength>),
     NotUnderstood,
 }
 
@@ -60,13 +60,11 @@ fn spelled(
         return Called::NotUnderstood;
     }
     let bytes = spelled.bytes;
-    let verdict = given.verdict;
     let outcome = receiver::request(
         receiver,
         image,
         script::upto(&bytes, spelled.len),
-        given.readiness,
-        verdict,
+        given,
         buffer,
     );
     Called::Ended(outcome)
@@ -103,7 +101,11 @@ fn block(receiver: Receiver, image: &mut [u8], buffer: &mut [u8]) -> Outcome {
     request[1] = codes::DATA;
     request[2] = low;
     request[3] = (number / 256) as u8;
-    receiver::request(receiver, image, &request, 0, Verdict::Good, buffer)
+    let given = Given {
+        readiness: 0,
+        verdict: Verdict::Good,
+    };
+    receiver::request(receiver, image, &request, given, buffer)
 }
 
 fn time(words: &[u8], receiver: Receiver, buffer: &mut [u8]) -> Called {

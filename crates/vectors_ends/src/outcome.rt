@@ -1,24 +1,25 @@
 // The text after a call of the receiver: its number, the bytes written, the phase, and then silence and resends made.
 use crate::phase;
-use receiver_state::session::{Outcome, Receiver, Started};
-use receiver_state::sum::Summed;
+use numbers::Numbered;
+use receiver_state::session::{Outcome, Receiver};
+use receiver_state::sum::ImageLength;
 use saying::Said;
+use silence::OutOfLimits;
 
 pub(crate) fn outcome_text(outcome: Outcome, buffer: &[u8]) -> Said {
-    let answer = outcome.answer;
     let session = outcome.session;
     let said = Said::nothing()
-        .number(receiver_decide::answer_number(answer) as u64)
+        .number(u64::from(outcome.answer.number()))
         .text(b" :")
         .shown(script::upto(buffer, outcome.written));
     with_state(said, session)
 }
 
-pub(crate) fn start_text(started: Started) -> Said {
-    let said = Said::nothing().number(receiver::started_number(started) as u64);
+pub(crate) fn start_text(started: Result<Receiver, OutOfLimits>) -> Said {
+    let said = Said::nothing().number(u64::from(started.number()));
     match started {
-        Started::Made(session) => with_state(said, session),
-        Started::Refused => said,
+        Ok(session) => with_state(said, session),
+        Err(_) => said,
     }
 }
 
@@ -30,10 +31,10 @@ fn with_state(said: Said, session: Receiver) -> Said {
         .number(session.resends as u64)
 }
 
-pub(crate) fn sum_text(summed: Summed) -> Said {
-    let said = Said::nothing().number(receiver::summed_number(summed) as u64);
+pub(crate) fn sum_text(summed: Result<u16, ImageLength>) -> Said {
+    let said = Said::nothing().number(u64::from(summed.number()));
     match summed {
-        Summed::Sum(sum) => said.text(b" :").number(sum as u64),
-        Summed::ImageLength => said,
+        Ok(sum) => said.text(b" :").number(u64::from(sum)),
+        Err(_) => said,
     }
 }

@@ -4,7 +4,6 @@ use crate::call::Called;
 use crate::lend::Lending;
 use crate::word::{Act, Call};
 use crate::{bench, call, lend, outcome};
-use receiver_state::session::Started;
 use saying::Said;
 use script::Field;
 use wire::codes;
@@ -57,15 +56,15 @@ fn start(words: &[u8], outdoors: Outdoors) -> Outdoors {
     if !capacity.is_last(words) {
         return outdoors.says(Said::not_understood());
     }
-    let session = receiver::start(limit.word(), resends.byte(), identity(), capacity.value);
+    let started = receiver::start(limit.word(), resends.byte(), identity(), capacity.value);
     let lent = Lent {
         memory: capacity.value,
         buffer: codes::LONGEST,
     };
     Outdoors {
-        session,
+        session: started.ok(),
         lent,
-        said: outcome::start_text(session),
+        said: outcome::start_text(started),
     }
 }
 
@@ -91,7 +90,7 @@ fn called(
     buffer: &mut [u8],
 ) -> Outdoors {
     let session = outdoors.session;
-    let Started::Made(receiver) = session else {
+    let Some(receiver) = session else {
         return outdoors.says(Said::nothing().text(b" no session"));
     };
     bench::unwrite(buffer);
@@ -110,8 +109,7 @@ fn called(
 fn after(called: Called, outdoors: Outdoors, buffer: &[u8]) -> Outdoors {
     match called {
         Called::Ended(outcome) => {
-            let left = outcome.session;
-            let session = Started::Made(left);
+            let session = Some(outcome.session);
             let lent = outdoors.lent;
             Outdoors {
                 session,

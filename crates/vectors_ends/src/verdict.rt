@@ -1,11 +1,5 @@
-// The readiness wait and the verdict that come with a request (01, The receiver's phases).
+// The verdict that comes with a request (01, The receiver's phases).
 use receiver_state::verdict::Verdict;
-
-#[derive(Clone, Copy)]
-pub(crate) struct Given {
-    pub readiness: u8,
-    pub verdict: Verdict,
-}
 
 #[derive(Clone, Copy)]
 pub(crate) enum Judged {

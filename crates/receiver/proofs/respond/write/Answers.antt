@@ -11,4 +11,4 @@ unfolding message_of
 returns c =
     let a = c.args in
     let fits = response_fits a.response in
-    rw (leaves c.send.ensures, c.write_response-message.ensures, sends_whole (response_bytes a.response) a.out.now fits (omega arith))
+    rw (leaves c.send.ensures, c.write_response-message.ensures, sends_whole (response_bytes a.response) a.room.now fits (let long = c.fits-room in omega arith))

@@ -5,4 +5,4 @@ use Rattle.receiver_c.proofs.start_call.harsolvek_receiver_start_raw.Goals as go
 pub returns : goal.returns
 unfolding harsolvek_receiver_start
 returns c =
-    rw (c.started_number.ensures, c.leave.ensures, c.start-started.ensures, c.identity_of-identity.ensures, c.to_byte-resends.ensures, c.to_half-limit.ensures, start_narrow _ _ _ _)
+    rw (c.from.ensures, c.number.ensures, c.leave.ensures, c.start-started.ensures, c.identity_of-identity.ensures, c.to_byte-resends.ensures, c.to_half-limit.ensures, start_narrow _ _ _ _)

@@ -6,5 +6,5 @@ use Rattle.receiver_c.proofs.time_call.pass.Goals as goal
 pub returns : goal.returns
 unfolding timed_at
 returns c =
-    rw (c.answer_number.ensures, c.store.ensures, ← (session_narrow _ _ _), ← c.unpack-session.ensures, ← c.to_half-narrow.ensures)
+    rw (c.from.ensures, c.number.ensures, c.store.ensures, ← (session_narrow _ _ _), ← c.unpack.ensures, ← c.to_half.ensures)
     (ap (receiver_passed _) c.time-outcome.ensures)
