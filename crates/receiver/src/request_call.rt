@@ -17,7 +17,14 @@ pub fn request(
 ) -> Outcome
     ensures { effect result image.new out.new ≡ receiver_request_of session image.old request.now given.readiness given.verdict out.old }
 {
-    let heard = hear(session.phase, session.capacity, image, request, given, out.len());
+    let heard = hear(
+        session.phase,
+        session.capacity,
+        image,
+        request,
+        given,
+        out.len(),
+    );
     match heard {
         Err(answer) => Outcome::unwritten(session, answer),
         Ok(heard) => {

@@ -94,11 +94,13 @@ fn deliver(room: &mut Room, reply: Option<Response>) -> usize
             room,
             Response::Initiate { status, wait, size },
         ),
-        Some(Response::Data {
-            status,
-            wait,
-            number,
-        }) => write(
+        Some(
+            Response::Data {
+                status,
+                wait,
+                number,
+            },
+        ) => write(
             room,
             Response::Data {
                 status,
@@ -106,11 +108,13 @@ fn deliver(room: &mut Room, reply: Option<Response>) -> usize
                 number,
             },
         ),
-        Some(Response::Validate {
-            status,
-            wait,
-            success,
-        }) => write(
+        Some(
+            Response::Validate {
+                status,
+                wait,
+                success,
+            },
+        ) => write(
             room,
             Response::Validate {
                 status,

@@ -26,11 +26,19 @@ pub fn pass(phase: Phase, silence: u16, elapsed: u16, resends: u8, settings: Set
                 wait: 0,
                 number: p.accepted.blocks,
             };
-            on_grown(phase, again, silence::grow(silence, elapsed, resends, settings))
+            on_grown(
+                phase,
+                again,
+                silence::grow(silence, elapsed, resends, settings),
+            )
         }
         Phase::Await(a) => {
             let again = Answer::Closed { number: a.blocks };
-            on_grown(phase, again, silence::grow(silence, elapsed, resends, settings))
+            on_grown(
+                phase,
+                again,
+                silence::grow(silence, elapsed, resends, settings),
+            )
         }
     }
 }
