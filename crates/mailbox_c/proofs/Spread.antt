@@ -1,111 +1,79 @@
 -- Eight bits side by side, and a byte for each: either way in a few steps on one number.
-use Prim.Native.Nat.{ℕ, ◌+◌, ◌*◌, ◌/◌, ◌%◌, ◌<◌, ◌^◌}
+use Prim.Native.Nat.{ℕ, zero, suc, ◌≤◌, ◌+◌, ◌*◌, ◌/◌, ◌%◌, ◌<◌, ◌^◌}
 use mathlib.Core.Bool.{Bool, true, false}
-use mathlib.Core.Path.{◌≡◌, refl, sym, ◌∙◌, ap}
+use mathlib.Core.Logic.{inl, inr}
+use mathlib.Core.Path.{◌≡◌, refl, ◌∙◌, ap}
+use native.Mathlib.Nat.{eq-or-lt_of_le}
 use native.Mathlib.Omega.{arith}
 use borrow.Author.Tests.{eqb-true}
 use lib.Dec.{eqb}
 use Rattle.basis.specs.Flag.{byte_of}
 use Rattle.basis.specs.Pick.{pick, pick_both}
 
--- What lies from bit 7 on does not reach the bits below.
-module _ (n y : ℕ) where
-  low_1 : (n + 128 * y) / 2 % 2 ≡ n / 2 % 2
-  low_1 = let apart : (n + 128 * y) / 2 ≡ n / 2 + 64 * y = omega arith in rw apart (omega arith)
+-- Seven bits spread to their bytes: seen to be right for each of the 128 that there are.
+every_below : (ℕ → Bool) → ℕ → Bool
+every_below test zero = true
+every_below test (suc n) = pick (test n) (every_below test n) false
 
-  low_2 : (n + 128 * y) / 4 % 2 ≡ n / 4 % 2
-  low_2 = let apart : (n + 128 * y) / 4 ≡ n / 4 + 32 * y = omega arith in rw apart (omega arith)
+each_below : (test : ℕ → Bool) (m : ℕ) → every_below test m ≡ true → (n : ℕ) → n < m → test n ≡ true
+unfolding every_below
+each_below test zero e n h = absurd (omega arith)
+each_below test (suc m) e n h =
+    let both = pick_both (test m) (every_below test m) e in
+    let within : n ≤ m = omega arith in
+    elim (eq-or-lt_of_le within) [ inl same ↦ ap test same ∙ both.0 | inr low ↦ each_below test m both.1 n low ]
 
-  low_3 : (n + 128 * y) / 8 % 2 ≡ n / 8 % 2
-  low_3 = let apart : (n + 128 * y) / 8 ≡ n / 8 + 16 * y = omega arith in rw apart (omega arith)
+abbrev spread_bit : ℕ → ℕ → ℕ → Bool
+spread_bit n from place = eqb (n * 0x040810204081 / from % 256 % 2) (n / place % 2)
 
-  low_4 : (n + 128 * y) / 16 % 2 ≡ n / 16 % 2
-  low_4 = let apart : (n + 128 * y) / 16 ≡ n / 16 + 8 * y = omega arith in rw apart (omega arith)
+spread_right : ℕ → Bool
+spread_right n =
+    pick (eqb (n * 0x040810204081 % 256 % 2) (n % 2))
+    (pick (spread_bit n 0x100 2)
+    (pick (spread_bit n 0x10000 4)
+    (pick (spread_bit n 0x1000000 8)
+    (pick (spread_bit n 0x100000000 16) (pick (spread_bit n 0x10000000000 32) (spread_bit n 0x1000000000000 64) false) false)
+    false)
+    false)
+    false)
+    false
 
-  low_5 : (n + 128 * y) / 32 % 2 ≡ n / 32 % 2
-  low_5 = let apart : (n + 128 * y) / 32 ≡ n / 32 + 4 * y = omega arith in rw apart (omega arith)
+all_spread : every_below spread_right 128 ≡ true
+unfolding every_below spread_right pick
+all_spread = refl
 
-  low_6 : (n + 128 * y) / 64 % 2 ≡ n / 64 % 2
-  low_6 = let apart : (n + 128 * y) / 64 ≡ n / 64 + 2 * y = omega arith in rw apart (omega arith)
-
--- Seven copies of seven bits, side by side: from copy k on there are that copy and those above it, so that its bit k lies at 8 k.
-module _ (n : ℕ) (h : n < 128) where
-  abbrev copies : ℕ
-  copies = n * 0x040810204081
-
-  spread_0 : copies % 2 ≡ n % 2
-  spread_0 = omega arith
-
-  spread_1 : copies / 0x100 % 2 ≡ n / 2 % 2
-  spread_1 =
-      let above : copies / 0x80 ≡ n + 128 * (n * 270549121) = omega arith in
-      let twice : copies / 0x100 ≡ copies / 0x80 / 2 = omega arith in
-      rw (twice, above) (low_1 n (n * 270549121))
-
-  spread_2 : copies / 0x10000 % 2 ≡ n / 4 % 2
-  spread_2 =
-      let above : copies / 0x4000 ≡ n + 128 * (n * 2113665) = omega arith in
-      let twice : copies / 0x10000 ≡ copies / 0x4000 / 4 = omega arith in
-      rw (twice, above) (low_2 n (n * 2113665))
-
-  spread_3 : copies / 0x1000000 % 2 ≡ n / 8 % 2
-  spread_3 =
-      let above : copies / 0x200000 ≡ n + 128 * (n * 16513) = omega arith in
-      let twice : copies / 0x1000000 ≡ copies / 0x200000 / 8 = omega arith in
-      rw (twice, above) (low_3 n (n * 16513))
-
-  spread_4 : copies / 0x100000000 % 2 ≡ n / 16 % 2
-  spread_4 =
-      let above : copies / 0x10000000 ≡ n + 128 * (n * 129) = omega arith in
-      let twice : copies / 0x100000000 ≡ copies / 0x10000000 / 16 = omega arith in
-      rw (twice, above) (low_4 n (n * 129))
-
-  spread_5 : copies / 0x10000000000 % 2 ≡ n / 32 % 2
-  spread_5 =
-      let above : copies / 0x800000000 ≡ n + 128 * (n * 1) = omega arith in
-      let twice : copies / 0x10000000000 ≡ copies / 0x800000000 / 32 = omega arith in
-      rw (twice, above) (low_5 n (n * 1))
-
-  spread_6 : copies / 0x1000000000000 % 2 ≡ n / 64 % 2
-  spread_6 =
-      let above : copies / 0x40000000000 ≡ n + 128 * (n * 0) = omega arith in
-      let twice : copies / 0x1000000000000 ≡ copies / 0x40000000000 / 64 = omega arith in
-      rw (twice, above) (low_6 n (n * 0))
-
-odd_byte : (n : ℕ) → n % 256 % 2 ≡ n % 2
-odd_byte n = omega arith
-
--- The flags of any bits, by the lowest seven.
 module _ (bits : ℕ) where
   abbrev low : ℕ
   low = bits % 128
 
-  few : low < 128
-  few = omega arith
+  -- The flags of any bits, by the lowest seven.
+  pub record Spread : Type 0 where
+    pub flag_0 : low * 0x040810204081 % 256 % 2 ≡ bits % 2
+    pub flag_1 : low * 0x040810204081 / 0x100 % 256 % 2 ≡ bits / 2 % 2
+    pub flag_2 : low * 0x040810204081 / 0x10000 % 256 % 2 ≡ bits / 4 % 2
+    pub flag_3 : low * 0x040810204081 / 0x1000000 % 256 % 2 ≡ bits / 8 % 2
+    pub flag_4 : low * 0x040810204081 / 0x100000000 % 256 % 2 ≡ bits / 16 % 2
+    pub flag_5 : low * 0x040810204081 / 0x10000000000 % 256 % 2 ≡ bits / 32 % 2
+    pub flag_6 : low * 0x040810204081 / 0x1000000000000 % 256 % 2 ≡ bits / 64 % 2
 
-  whole : low + 128 * (bits / 128) ≡ bits
-  whole = omega arith
-
-  pub flag_0 : low * 0x040810204081 % 256 % 2 ≡ bits % 2
-  flag_0 = odd_byte _ ∙ spread_0 low few ∙ omega arith
-
-  pub flag_1 : low * 0x040810204081 / 0x100 % 256 % 2 ≡ bits / 2 % 2
-  flag_1 = odd_byte _ ∙ spread_1 low few ∙ sym (low_1 low (bits / 128)) ∙ ap (λ (n : ℕ). n / 2 % 2) whole
-
-  pub flag_2 : low * 0x040810204081 / 0x10000 % 256 % 2 ≡ bits / 4 % 2
-  flag_2 = odd_byte _ ∙ spread_2 low few ∙ sym (low_2 low (bits / 128)) ∙ ap (λ (n : ℕ). n / 4 % 2) whole
-
-  pub flag_3 : low * 0x040810204081 / 0x1000000 % 256 % 2 ≡ bits / 8 % 2
-  flag_3 = odd_byte _ ∙ spread_3 low few ∙ sym (low_3 low (bits / 128)) ∙ ap (λ (n : ℕ). n / 8 % 2) whole
-
-  pub flag_4 : low * 0x040810204081 / 0x100000000 % 256 % 2 ≡ bits / 16 % 2
-  flag_4 = odd_byte _ ∙ spread_4 low few ∙ sym (low_4 low (bits / 128)) ∙ ap (λ (n : ℕ). n / 16 % 2) whole
-
-  pub flag_5 : low * 0x040810204081 / 0x10000000000 % 256 % 2 ≡ bits / 32 % 2
-  flag_5 = odd_byte _ ∙ spread_5 low few ∙ sym (low_5 low (bits / 128)) ∙ ap (λ (n : ℕ). n / 32 % 2) whole
-
-  pub flag_6 : low * 0x040810204081 / 0x1000000000000 % 256 % 2 ≡ bits / 64 % 2
-  flag_6 = odd_byte _ ∙ spread_6 low few ∙ sym (low_6 low (bits / 128)) ∙ ap (λ (n : ℕ). n / 64 % 2) whole
+  pub spreads : Spread
+  unfolding spread_right
+  spreads =
+      let a = pick_both _ _ (each_below spread_right 128 all_spread low (omega arith)) in
+      let b = pick_both _ _ a.1 in
+      let c = pick_both _ _ b.1 in
+      let d = pick_both _ _ c.1 in
+      let e = pick_both _ _ d.1 in
+      let f = pick_both _ _ e.1 in
+      record {
+        flag_0 = eqb-true _ _ a.0 ∙ omega arith;
+        flag_1 = eqb-true _ _ b.0 ∙ omega arith;
+        flag_2 = eqb-true _ _ c.0 ∙ omega arith;
+        flag_3 = eqb-true _ _ d.0 ∙ omega arith;
+        flag_4 = eqb-true _ _ e.0 ∙ omega arith;
+        flag_5 = eqb-true _ _ f.0 ∙ omega arith;
+        flag_6 = eqb-true _ _ f.1 ∙ omega arith;
+      }
 
 -- Flags gathered from their bytes: seen to be right for each of the 256 that there are.
 every : (Bool → Bool) → Bool

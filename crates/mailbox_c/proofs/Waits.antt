@@ -8,7 +8,7 @@ use native.Mathlib.Numerals.{unary_clauses}
 use lib.Dec.{eqb}
 use lib.ListN.{length, get_or}
 use lib.Pow.{pow_pos, pow_mono}
-use native.Mathlib.Nat.{lt_of_lt_of_le}
+use native.Mathlib.Nat.{lt_of_lt_of_le, div-div-eq-div-mul}
 use Rattle.basis.specs.Lists.{spell, spelled_all}
 use Rattle.basis.specs.Flag.{byte_of, byte_flag, flag_byte, byte_small}
 use Rattle.mailbox_c.specs.Waiting.{flags_of, bits_of}
@@ -55,24 +55,6 @@ module _ (b : Bool) (rest : ℕ) where
   above : (byte_of b + 2 * rest) / 2 ≡ rest
   above = let few = byte_small b in omega arith
 
-half_4 : (n : ℕ) → n / 4 ≡ n / 2 / 2
-half_4 n = omega arith
-
-half_8 : (n : ℕ) → n / 8 ≡ n / 4 / 2
-half_8 n = omega arith
-
-half_16 : (n : ℕ) → n / 16 ≡ n / 8 / 2
-half_16 n = omega arith
-
-half_32 : (n : ℕ) → n / 32 ≡ n / 16 / 2
-half_32 n = omega arith
-
-half_64 : (n : ℕ) → n / 64 ≡ n / 32 / 2
-half_64 n = omega arith
-
-half_128 : (n : ℕ) → n / 128 ≡ n / 64 / 2
-half_128 n = omega arith
-
 module _ (a b c d e f g h : Bool) where
   abbrev from_8 : ℕ
   from_8 = byte_of h + 2 * 0
@@ -103,12 +85,12 @@ module _ (a b c d e f g h : Bool) where
   eight_back =
       let halved : (n k m : ℕ) → n / k ≡ m → n / k / 2 ≡ m / 2 = λ n k m p. ap (λ (x : ℕ). x / 2) p in
       let at-2 : all / 2 ≡ from_2 = above a from_2 in
-      let at-3 : all / 4 ≡ from_3 = half_4 all ∙ halved all 2 from_2 at-2 ∙ above b from_3 in
-      let at-4 : all / 8 ≡ from_4 = half_8 all ∙ halved all 4 from_3 at-3 ∙ above c from_4 in
-      let at_5 : all / 16 ≡ from_5 = half_16 all ∙ halved all 8 from_4 at-4 ∙ above d from_5 in
-      let at-6 : all / 32 ≡ from_6 = half_32 all ∙ halved all 16 from_5 at_5 ∙ above e from_6 in
-      let at_7 : all / 64 ≡ from_7 = half_64 all ∙ halved all 32 from_6 at-6 ∙ above f from_7 in
-      let at_8 : all / 128 ≡ from_8 = half_128 all ∙ halved all 64 from_7 at_7 ∙ above g from_8 in
+      let at-3 : all / 4 ≡ from_3 = sym (div-div-eq-div-mul all 2 2) ∙ halved all 2 from_2 at-2 ∙ above b from_3 in
+      let at-4 : all / 8 ≡ from_4 = sym (div-div-eq-div-mul all 4 2) ∙ halved all 4 from_3 at-3 ∙ above c from_4 in
+      let at_5 : all / 16 ≡ from_5 = sym (div-div-eq-div-mul all 8 2) ∙ halved all 8 from_4 at-4 ∙ above d from_5 in
+      let at-6 : all / 32 ≡ from_6 = sym (div-div-eq-div-mul all 16 2) ∙ halved all 16 from_5 at_5 ∙ above e from_6 in
+      let at_7 : all / 64 ≡ from_7 = sym (div-div-eq-div-mul all 32 2) ∙ halved all 32 from_6 at-6 ∙ above f from_7 in
+      let at_8 : all / 128 ≡ from_8 = sym (div-div-eq-div-mul all 64 2) ∙ halved all 64 from_7 at_7 ∙ above g from_8 in
       rw (at-2, at-3, at-4, at_5, at-6, at_7, at_8, lowest a from_2, lowest b from_3, lowest c from_4, lowest d from_5, lowest e from_6, lowest f from_7, lowest g from_8, lowest h 0)
 
 pub flags_back : (l : List Bool) → length l ≡ 8 → flags_of (bits_of l) ≡ l
