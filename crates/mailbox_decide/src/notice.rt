@@ -34,10 +34,7 @@ fn present(state: State, connector: u8, reason: u16) -> Step
 fn heard(notifications: Notifications, reason: u16) -> bool
     ensures { result ≡ heard_of notifications reason }
 {
-    match notifications {
-        Notifications::Off => false,
-        Notifications::On { mask } => meets(reason, mask),
-    }
+    matches!(notifications, Notifications::On { mask } if meets(reason, mask))
 }
 
 // A bit in common outside bit 0.
