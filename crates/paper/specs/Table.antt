@@ -1,10 +1,10 @@
 -- P1 to P12 (01, Bench examples): what each one asks of the definitions, and what the paper prints for it.
-use Rattle.std.specs.Prelude.{ℕ, List, [], ◌∷◌, map, ◌≡◌, replicate, drop}
+use Rattle.std.specs.Prelude.{ℕ, List, [], ◌∷◌, map, ◌≡◌, replicate, drop, Ok}
 use Rattle.image.specs.Blocks.{blocks_of}
 use Rattle.image.specs.Sum.{sum_of}
 use Rattle.wire.specs.Written.{response_bytes}
 use Rattle.wire.specs.declared.response.Response.TheVariants.{Initiate}
-use Rattle.mailbox_rules.specs.Mailbox.{fresh_mailbox, mailbox_cci_of}
+use Rattle.mailbox_rules.specs.Mailbox.{fresh_mailbox, mailbox_fresh_of, mailbox_cci_of}
 use Rattle.mailbox_rules.specs.Events.{Event, writes, changes}
 use Rattle.mailbox_rules.specs.History.{history_from}
 use Rattle.mailbox_state.specs.declared.mailbox.Mailbox.{Mailbox}
@@ -57,6 +57,7 @@ table =
     ∷ row (cci (control 0x06 0x00 0x00 ∷ control 0x01 0x00 0x00 ∷ [])) (0x08000000 ∷ [])
     ∷ []
 
--- Every row of the table comes out as the paper prints it.
-abbrev pub Paper : Type 0
-Paper = map (λ (r : Row). value_of r.example) table ≡ map (λ (r : Row). r.printed) table
+-- A start with two connectors makes the mailbox that P9 to P12 begin with, and every row of the table comes out as the paper prints it.
+pub record Paper : Type 0 where
+  pub started : mailbox_fresh_of 2 ≡ Ok (fresh_mailbox 2)
+  pub rows : map (λ (r : Row). value_of r.example) table ≡ map (λ (r : Row). r.printed) table
