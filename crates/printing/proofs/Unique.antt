@@ -11,6 +11,12 @@ pub one_digits : (value : ℕ) (r r' : List ℕ)
     → r ≡ r'
 one_digits value r r' is is' = only is is'
 
+pub one_text : (self : Line) (r r' : List ℕ)
+    → r ≡ self
+    → r' ≡ self
+    → r ≡ r'
+one_text self r r' is is' = only is is'
+
 pub one_line_of : (cci number : ℕ) (r r' : Line)
     → r ≡ text_of cci number
     → r' ≡ text_of cci number
@@ -28,9 +34,3 @@ pub one_none : (r r' : Line)
     → r' ≡ []
     → r ≡ r'
 one_none r r' is is' = only is is'
-
-pub one_text : (self : Line) (r r' : List ℕ)
-    → r ≡ self
-    → r' ≡ self
-    → r ≡ r'
-one_text self r r' is is' = only is is'

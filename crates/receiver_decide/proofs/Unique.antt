@@ -1,5 +1,5 @@
 -- Each public contract leaves one answer and one state of the lent memory. Written from the contracts by tools/contracts.
-use Rattle.std.specs.Prelude.{ℕ, ◌≡◌, Bool, Option}
+use Rattle.std.specs.Prelude.{ℕ, Option, ◌≡◌, Bool}
 use Rattle.basis.specs.Only.{only}
 use Rattle.receiver_rules.specs.Decide.{receiver_decide_of}
 use Rattle.receiver_rules.specs.Range.{out_of_range}
@@ -7,7 +7,6 @@ use Rattle.receiver_rules.specs.Tick.{receiver_tick_of}
 use Rattle.receiver_state.specs.Answer.{reply_of}
 use Rattle.receiver_state.specs.Phase.{nothing_accepted, accepted_of}
 use Rattle.receiver_state.specs.declared.answer.Answer.{Answer}
-use Rattle.wire.specs.declared.response.Response.{Response}
 use Rattle.receiver_state.specs.declared.phase.Accepted.{Accepted}
 use Rattle.receiver_state.specs.declared.phase.Phase.{Phase}
 use Rattle.receiver_state.specs.declared.step.Step.{Step}
@@ -16,6 +15,7 @@ use Rattle.receiver_state.specs.declared.verdict.Given.{Given}
 use Rattle.silence.specs.declared.Settings.{Settings}
 use Rattle.wire.specs.declared.request.Request.{Request}
 use Rattle.wire.specs.declared.response.Identity.{Identity}
+use Rattle.wire.specs.declared.response.Response.{Response}
 
 pub one_reply : (answer : Answer) (identity : Identity) (capacity : ℕ) (r r' : Option Response)
     → r ≡ reply_of identity capacity answer

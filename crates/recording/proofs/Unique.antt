@@ -1,14 +1,13 @@
 -- Each public contract leaves one answer and one state of the lent memory. Written from the contracts by tools/contracts.
-use Rattle.std.specs.Prelude.{List, ℕ, ◌≡◌}
+use Rattle.std.specs.Prelude.{List, ℕ, Result, ◌≡◌}
 use Rattle.basis.specs.Left.{left}
 use Rattle.basis.specs.Only.{only}
 use Rattle.recording.specs.Reading.{next_record_of}
 use Rattle.recording.specs.Writing.{record_write_of}
+use Rattle.recording.specs.declared.reader.Ending.{Ending}
+use Rattle.recording.specs.declared.reader.Found.{Found}
 use Rattle.recording.specs.declared.record.Record.{Record}
 use Rattle.recording.specs.declared.writer.TooShort.{TooShort}
-use Rattle.std.specs.Prelude.{Result}
-use Rattle.recording.specs.declared.reader.Found.{Found}
-use Rattle.recording.specs.declared.reader.Ending.{Ending}
 
 pub one_next : (recording : List ℕ) (at : ℕ) (r r' : Result Found Ending)
     → r ≡ next_record_of recording at
