@@ -29,9 +29,7 @@ pub fn run(
     ensures { left result image.new ≡ clean_run_of limit resends identity release file.now image.old }
 {
     let started = receiver::start(limit, resends, identity, image.len());
-    let Ok(receiver) = started else {
-        return Err(NotRun::Settings);
-    };
+    let receiver = started.map_err(|_| NotRun::Settings)?;
     begin(receiver, limit, resends, release, file, image)
 }
 
