@@ -4,8 +4,6 @@ use mathlib.Core.Path.{◌≡◌, refl, sym, ◌∙◌, ap, subst}
 use mathlib.Core.List.{List, [], ◌∷◌}
 use native.Mathlib.Omega.{arith}
 use borrow.Author.Tests.{ne_eqb, le-ltb, ltb-true}
-use denote.Enum.Declared.{tag_of}
-use types.Run.{OneOf, miss}
 use lib.Dec.{eqb, ltb}
 use lib.ListN.{length, take, length-take}
 use Rattle.std.proofs.Common.{Ok, Err}
@@ -23,11 +21,10 @@ use Rattle.receiver_state.specs.declared.session.Receiver.{Receiver}
 use Rattle.receiver_state.specs.Session.{Started as ReceiverStarted}
 use Rattle.receiver_rules.proofs.Fresh.{refused_made}
 use Rattle.indoor_state.specs.declared.plan.Release.{Release}
+use Rattle.indoor_state.specs.Session.{IndoorStart}
 use Rattle.indoor_rules.specs.Start.{indoor_begin_of, indoor_started_of, indoor_start_of}
 use Rattle.indoor_state.specs.declared.session.Indoor.{Indoor}
 use Rattle.indoor_state.specs.declared.session.Started.{Started}
-use Rattle.indoor_state.specs.declared.session.Started.TheVariants as Ind
-use Rattle.indoor_state.specs.contracts.session.Started.{the_type}
 use Rattle.indoor_rules.proofs.Fresh.{start_fresh}
 use Rattle.line.specs.Line.{Wide}
 use Rattle.line.specs.Line as line
@@ -51,11 +48,12 @@ made_settings limit resends identity capacity r =
     (λ _ e. absurd (refused_made _ r e))
     (λ _. made_checked identity capacity r (settings_of limit resends))
 
-abbrev NotMade : Started → Type 0
-NotMade x = OneOf (1 ∷ 2 ∷ 3 ∷ []) (tag_of the_type x)
+abbrev pub NotMade : IndoorStart → Type 0
+NotMade (Ok begun) = ⊥
+NotMade (Err refused) = Unit
 
 module _ (release : Release) (identity : Identity) (file up memory : List ℕ) (room : 260 ≤ length up) where
-  abbrev Refuses : Left Started → Type 0
+  abbrev Refuses : Left IndoorStart → Type 0
   Refuses x = NotMade x.answer → left (Err FileSize) memory ≡ clean_begun_of release identity file memory
 
   begin_refuses : (s : Settings) → Refuses (indoor_begin_of s release file up)
@@ -65,11 +63,11 @@ module _ (release : Release) (identity : Identity) (file up memory : List ℕ) (
       (λ a. pick_all Refuses (ltb image_size_most (length file)) _ _ (λ b _. rw (a, b))
       (λ b. pick_all Refuses (ltb (length up) longest) _ _
       (λ short _. let few = ltb-true (length up) longest short in absurd (omega arith))
-      (λ _ h. absurd (miss (1 ∷ 2 ∷ 3 ∷ []) 0 tt h))))
+      (λ _ h. absurd h)))
 
   module _ (limit resends : ℕ) (r : Receiver) (made : receiver_start_of limit resends r.identity (length memory) ≡ Ok r) where
     -- With settings that made a receiver and a buffer of 260 bytes, the start refuses nothing but the file's length (46).
-    pub start_refuses : (x : Started) (up' : List ℕ) → left x up' ≡ indoor_start_of limit resends release file up → NotMade x
+    pub start_refuses : (x : IndoorStart) (up' : List ℕ) → left x up' ≡ indoor_start_of limit resends release file up → NotMade x
         → left (Err FileSize) memory ≡ clean_begun_of release identity file memory
     unfolding indoor_started_of
     start_refuses x up' e =
@@ -77,41 +75,41 @@ module _ (release : Release) (identity : Identity) (file up memory : List ℕ) (
         let same : left x up' ≡ indoor_begin_of s.0 release file up = e ∙ ap (λ (y : Checked). indoor_started_of y release file up) s.1 in
         subst Refuses (sym same) (begin_refuses s.0)
 
-    module _ (x : Started) (up' : List ℕ) (did : left x up' ≡ indoor_start_of limit resends release file up) (session : Indoor) (written : ℕ) (is : x ≡ Ind.Made session written) where
-      started : indoor_start_of limit resends release file up ≡ left (Ind.Made session written) up'
-      started = sym did ∙ ap (λ (y : Started). left y up') is
+    module _ (x : IndoorStart) (up' : List ℕ) (did : left x up' ≡ indoor_start_of limit resends release file up) (begun : Started) (is : x ≡ Ok begun) where
+      started : indoor_start_of limit resends release file up ≡ left (Ok begun) up'
+      started = sym did ∙ ap (λ (y : IndoorStart). left y up') is
 
       -- A file that was taken is carried.
-      pub start_carries : clean_carried_of session.plan.release identity file memory ≡ clean_begun_of release identity file memory
+      pub start_carries : clean_carried_of begun.session.plan.release identity file memory ≡ clean_begun_of release identity file memory
       unfolding clean_begun_of pick
       start_carries =
-          let f = start_fresh release file up limit resends session written up' started in
+          let f = start_fresh release file up limit resends begun.session begun.written up' started in
           let some = f.some in
           rw (ne_eqb (length file) 0 (λ z. omega arith), le-ltb image_size_most (length file) f.most, f.offered)
 
       pub start_on : Wide release r.identity → length up' ≡ 260
-          → On file memory session.plan.release r.identity (ends_underway r session written) memory up' 0
+          → On file memory begun.session.plan.release r.identity (ends_underway r begun.session begun.written) memory up' 0
       start_on wide long =
-          let f = start_fresh release file up limit resends session written up' started in
+          let f = start_fresh release file up limit resends begun.session begun.written up' started in
           let two = ap length f.written in
-          let cut = length-take written up' in
-          let one : with_sent written up' [] ≡ take written up' ∷ [] = one_goes written up' (λ z. omega arith) in
-          let w : line.World = clean_world (ends_underway r session written) memory (take written up' ∷ []) [] in
+          let cut = length-take begun.written up' in
+          let one : with_sent begun.written up' [] ≡ take begun.written up' ∷ [] = one_goes begun.written up' (λ z. omega arith) in
+          let w : line.World = clean_world (ends_underway r begun.session begun.written) memory (take begun.written up' ∷ []) [] in
           let fresh : line.Fresh file memory release r.identity limit resends limit resends w = record {
             receiver = made;
             out = up;
-            written = written;
+            written = begun.written;
             out' = up';
             indoor = started;
             image = refl;
             requests = refl;
             responses = refl;
           } in
-          subst (λ (q : Release). On file memory q r.identity (ends_underway r session written) memory up' 0) (sym f.offered)
+          subst (λ (q : Release). On file memory q r.identity (ends_underway r begun.session begun.written) memory up' 0) (sym f.offered)
           (record {
             wide = wide;
             deliveries = 0;
-            requests = take written up' ∷ [];
+            requests = take begun.written up' ∷ [];
             responses = [];
             clean = subst (λ (m : List (List ℕ)). line.Clean file memory release r.identity 0 (line.line w m [])) (sym one) (line.begins limit resends limit resends w fresh);
             count = let single = ap (λ (m : List (List ℕ)). length m) one in omega arith;

@@ -23,7 +23,7 @@ use Rattle.indoor_state.specs.declared.phase.Phase.{Phase}
 use Rattle.indoor_state.specs.declared.phase.Phase.TheVariants.{Done, Failed}
 use Rattle.indoor_rules.specs.Newer.{newer_of}
 use Rattle.indoor_rules.specs.Response.{indoor_response_of}
-use Rattle.indoor_state.specs.declared.session.Outcome.{Outcome}
+use Rattle.indoor_state.specs.Session.{IndoorOutcome}
 use Rattle.indoor_rules.proofs.Written.{response_leads, written_most, response_length}
 use Rattle.line.specs.Line.{Line, line, AtRest, up, down, Clean, delivers, carried_up, carried_down}
 use Rattle.line.proofs.Course.{safe}
@@ -46,7 +46,7 @@ module _ (file memory : List ℕ) (release : Release) (identity : Identity) (e :
   abbrev x : Effect
   x = receiver_request_of e.receiver image (take e.underway upper) 0 Ver.Good lower
 
-  abbrev y : Left Outcome
+  abbrev y : Left IndoorOutcome
   y = indoor_response_of e.indoor file (take x.outcome.written x.out) upper
 
   heard : Clean file memory release identity (suc on.deliveries) (carried_up (clean_line_of e image upper on.requests on.responses) [] x)

@@ -7,7 +7,7 @@ use Rattle.receiver_rules.specs.Request.{Effect, receiver_request_of}
 use Rattle.receiver_state.specs.declared.session.Receiver.{Receiver}
 use Rattle.indoor_rules.specs.Response.{indoor_response_of}
 use Rattle.indoor_state.specs.declared.session.Indoor.{Indoor}
-use Rattle.indoor_state.specs.declared.session.Outcome.{Outcome}
+use Rattle.indoor_state.specs.Session.{IndoorOutcome}
 use Rattle.clean.specs.declared.ends.Ends.{Ends}
 
 abbrev pub ends_underway : Receiver → Indoor → ℕ → Ends
@@ -21,7 +21,7 @@ pub record Answered : Type 0 where
 abbrev pub answered : Ends → List ℕ → Answered
 answered e up = record { ends = e; up = up }
 
-abbrev pub after_response_of : Receiver → Left Outcome → Answered
+abbrev pub after_response_of : Receiver → Left IndoorOutcome → Answered
 after_response_of receiver x = answered (ends_underway receiver x.answer.session x.answer.written) x.memory
 
 unfoldable pub answer_of : Receiver → Indoor → List ℕ → List ℕ → List ℕ → ℕ → Answered

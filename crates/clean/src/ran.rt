@@ -25,7 +25,7 @@ impl Numbered for Ended {
 
     fn number(self) -> u8 {
         match self.phase {
-            Phase::Failed(reason) => indoor_decide::reason_number(reason),
+            Phase::Failed(reason) => reason.number(),
             _ => 0,
         }
     }

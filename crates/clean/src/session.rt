@@ -9,7 +9,6 @@ ghost use Rattle.clean.specs.On.{On};
 use crate::ends::Ends;
 use crate::ran::{Ended, NotRun};
 use indoor_state::plan::Release;
-use indoor_state::session::Started as Begun;
 use receiver_state::session::Receiver;
 use wire::codes;
 use wire::response::Identity;
@@ -47,14 +46,13 @@ fn begin(
     ensures { left result image.new ≡ clean_begun_of release receiver.identity file.now image.old }
 {
     let mut up = [0u8; codes::LONGEST];
-    let begun = indoor::start(limit, resends, release, file, &mut up);
-    let Begun::Made { session, written } = begun else {
+    let Ok(begun) = indoor::start(limit, resends, release, file, &mut up) else {
         return Err(NotRun::FileSize);
     };
     let ends = Ends {
         receiver,
-        indoor: session,
-        underway: written,
+        indoor: begun.session,
+        underway: begun.written,
     };
     carry(ends, file, image, &mut up)
 }

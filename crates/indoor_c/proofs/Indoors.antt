@@ -19,13 +19,11 @@ use Rattle.silence.proofs.Laws.{made_within, within_made}
 use Rattle.wire.specs.Codes.{longest, image_size_most}
 use Rattle.indoor_state.specs.Answer.{indoor_number_of}
 use Rattle.indoor_state.specs.Phase.{indoor_state}
-use Rattle.indoor_state.specs.Session.{indoor_start_number_of}
+use Rattle.indoor_state.specs.Session.{IndoorStart, indoor_made, indoor_start_number_of, IndoorOutcome}
 use Rattle.indoor_state.specs.declared.phase.Phase.TheVariants.{Identify}
 use Rattle.indoor_state.specs.declared.plan.Release.{Release}
 use Rattle.indoor_state.specs.declared.session.Indoor.{Indoor}
-use Rattle.indoor_state.specs.declared.session.Outcome.{Outcome}
-use Rattle.indoor_state.specs.declared.session.Started.{Started}
-use Rattle.indoor_state.specs.declared.session.Started.TheVariants.{Made, Settings, FileSize, BufferShort}
+use Rattle.indoor_state.specs.declared.session.StartRefused.TheVariants.{Settings, FileSize, BufferShort}
 use Rattle.indoor_rules.specs.Start.{indoor_begin_of, indoor_started_of, indoor_start_of}
 use Rattle.indoor_rules.specs.Response.{indoor_response_of}
 use Rattle.indoor_rules.specs.Time.{indoor_time_of}
@@ -42,7 +40,7 @@ use Rattle.indoor_c.proofs.Inverse.{words_back, silence_back, resends_back, limi
 use Rattle.indoor_c.proofs.Widths.{response_fits, time_fits}
 use Rattle.std.specs.Prelude.{Ok, Err}
 
-made_same : (a b : silence.Settings) → Ok a ≡ Ok b → a ≡ b
+made_same : (a b : silence.Settings) → ◌≡◌ {A = Checked} (Ok a) (Ok b) → a ≡ b
 made_same a b e = cc
 
 -- Settings that were made are within the limits.
@@ -52,7 +50,7 @@ within_own limit resends settings e =
     subst (λ (s : silence.Settings). Within s.limit s.resends) (made_same _ settings (sym (within_made limit resends within) ∙ e)) within
 
 -- What a start leaves where it is taken.
-abbrev Began : Left Started → Type 0
+abbrev Began : Left IndoorStart → Type 0
 Began x = indoor_start_number_of x.answer ≡ 0 → (length (began_of x.answer).memory ≡ 13) × (is_indoor_session (began_of x.answer).memory ≡ true)
 
 fresh_fits : IndoorStateFits (indoor_state Identify 0 0)
@@ -78,7 +76,7 @@ module _ (release : Release) (file out : List ℕ) where
 
 -- A start that is taken leaves the words of its session; a refused one leaves zeros, its number, and the buffer as it was.
 module _ (settings release file out : List ℕ) where
-  abbrev started : Left Started
+  abbrev started : Left IndoorStart
   started = indoor_start_of (word_at settings 0) (word_at settings 1) (release_of release) file out
 
   start_began : Began started
@@ -90,20 +88,20 @@ module _ (settings release file out : List ℕ) where
   start_long : (harsolvek_indoor_start settings release file out).number ≡ 0 → length (harsolvek_indoor_start settings release file out).words ≡ 13
   start_long e = (start_began e).0
 
-  pub start_taken : (s : Indoor) (written : ℕ) (m : List ℕ) → started ≡ left (Made s written) m
+  pub start_taken : (s : Indoor) (written : ℕ) (m : List ℕ) → started ≡ left (indoor_made s written) m
       → harsolvek_indoor_start settings release file out ≡ indoor_called 0 written (words_of s) m
   unfolding began_of
   start_taken s written m e = rw e
 
-  pub start_29 : started ≡ left Settings out → harsolvek_indoor_start settings release file out ≡ indoor_called 29 0 no_words out
+  pub start_29 : started ≡ left (Err Settings) out → harsolvek_indoor_start settings release file out ≡ indoor_called 29 0 no_words out
   unfolding began_of
   start_29 e = rw e
 
-  pub start_46 : started ≡ left FileSize out → harsolvek_indoor_start settings release file out ≡ indoor_called 46 0 no_words out
+  pub start_46 : started ≡ left (Err FileSize) out → harsolvek_indoor_start settings release file out ≡ indoor_called 46 0 no_words out
   unfolding began_of
   start_46 e = rw e
 
-  pub start_27 : started ≡ left BufferShort out → harsolvek_indoor_start settings release file out ≡ indoor_called 27 0 no_words out
+  pub start_27 : started ≡ left (Err BufferShort) out → harsolvek_indoor_start settings release file out ≡ indoor_called 27 0 no_words out
   unfolding began_of
   start_27 e = rw e
 
@@ -127,7 +125,7 @@ length_laid : (w : List ℕ) (s : Indoor) → length (laid w s) ≡ length w
 length_laid w s = simp length-set
 
 module _ (w file response out : List ℕ) where
-  abbrev heard : Left Outcome
+  abbrev heard : Left IndoorOutcome
   heard = indoor_response_of (session_at w) file response out
 
   pub response_29 : is_indoor_session w ≡ false → harsolvek_indoor_response w file response out ≡ indoor_called 29 0 w out
@@ -154,7 +152,7 @@ module _ (w file response out : List ℕ) where
     response_long = ap (λ x. length x.words) (response_through ok) ∙ length_laid w heard.answer.session ∙ long
 
 module _ (w file : List ℕ) (elapsed : ℕ) (out : List ℕ) where
-  abbrev passed : Left Outcome
+  abbrev passed : Left IndoorOutcome
   passed = indoor_time_of (session_at w) file elapsed out
 
   pub time_29 : is_indoor_session w ≡ false → harsolvek_indoor_time w file elapsed out ≡ indoor_called 29 0 w out

@@ -36,8 +36,7 @@ use Rattle.indoor_rules.specs.Time.{indoor_time_of}
 use Rattle.indoor_rules.proofs.Walk.{response_walk, time_walk}
 use Rattle.indoor_c.specs.PhaseWords.{phase_words_of}
 use Rattle.indoor_c.specs.Valid.{IndoorStateFits}
-use Rattle.std.specs.Prelude.{Ok}
-use Rattle.wire.specs.Header.{malformed}
+use Rattle.std.specs.Prelude.{Ok, Err}
 
 -- The numbers that a response of bytes can say.
 abbrev Says : Response → Type 0
@@ -49,7 +48,7 @@ Says Res.NotBuilt = Unit
 
 abbrev Reads : Parsed → Type 0
 Reads (Ok r) = Says r
-Reads malformed = Unit
+Reads (Err refusal) = Unit
 
 read_says : (m : List ℕ) → Bytes m → Reads (parsed_response_of m)
 unfolding parsed_response_of response_of_type identified_in initiated_in receipt_in validated_in

@@ -1,15 +1,12 @@
 -- What the indoor end's calls for C answer and leave: the same as the session's own call on the session that the words say, and 29 where they
 -- are no session's.
-use Rattle.std.specs.Prelude.{ℕ, not, List}
+use Rattle.std.specs.Prelude.{ℕ, not, List, Ok, Err}
 use Rattle.basis.specs.Pick.{pick}
 use Rattle.basis.specs.Left.{Left, left}
 use Rattle.indoor_state.specs.Answer.{indoor_number_of}
-use Rattle.indoor_state.specs.Session.{indoor_start_number_of}
+use Rattle.indoor_state.specs.Session.{IndoorStart, indoor_start_number_of, IndoorOutcome}
 use Rattle.indoor_state.specs.declared.plan.Release.{Release}
 use Rattle.indoor_state.specs.declared.session.Indoor.{Indoor}
-use Rattle.indoor_state.specs.declared.session.Outcome.{Outcome}
-use Rattle.indoor_state.specs.declared.session.Started.{Started}
-use Rattle.indoor_state.specs.declared.session.Started.TheVariants.{Made, Settings, FileSize, BufferShort}
 use Rattle.indoor_rules.specs.Start.{indoor_start_of}
 use Rattle.indoor_rules.specs.Response.{indoor_response_of}
 use Rattle.indoor_rules.specs.Time.{indoor_time_of}
@@ -38,13 +35,11 @@ abbrev pub filled : Indoor → ℕ → Left ℕ
 filled s written = left written (words_of s)
 
 -- How many bytes a start wrote, and the words: all zero where it was refused.
-unfoldable pub began_of : Started → Left ℕ
-began_of (Made s written) = filled s written
-began_of Settings = left 0 no_words
-began_of FileSize = left 0 no_words
-began_of BufferShort = left 0 no_words
+unfoldable pub began_of : IndoorStart → Left ℕ
+began_of (Ok made) = filled made.session made.written
+began_of (Err refused) = left 0 no_words
 
-abbrev pub indoor_started : Left Started → IndoorCalled
+abbrev pub indoor_started : Left IndoorStart → IndoorCalled
 indoor_started x = indoor_called (indoor_start_number_of x.answer) (began_of x.answer).answer (began_of x.answer).memory x.memory
 
 -- `settings` are the limit and the resends, as wide as they came.
@@ -52,10 +47,10 @@ abbrev pub harsolvek_indoor_start : List ℕ → List ℕ → List ℕ → List 
 harsolvek_indoor_start settings release file out = indoor_started (indoor_start_of (word_at settings 0) (word_at settings 1) (release_of release) file out)
 
 -- The number of an outcome, and the words with its session.
-abbrev pub left_of : List ℕ → Outcome → Left ℕ
+abbrev pub left_of : List ℕ → IndoorOutcome → Left ℕ
 left_of w o = left (indoor_number_of o.answer) (laid w o.session)
 
-abbrev pub indoor_left : List ℕ → Left Outcome → IndoorCalled
+abbrev pub indoor_left : List ℕ → Left IndoorOutcome → IndoorCalled
 indoor_left w x = indoor_called (left_of w x.answer).answer x.answer.written (left_of w x.answer).memory x.memory
 
 -- 29, and nothing changes.

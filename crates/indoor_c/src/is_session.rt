@@ -25,33 +25,19 @@ pub(crate) const NO_SESSION: u64 = 29;
 pub extern "C" fn harsolvek_indoor_is_session_raw(words: &[u32; 13]) -> u64
     ensures { result ≡ byte_of (is_indoor_session words.now) }
 {
-    is_session(words) as u64
+    u64::from(is_session(words))
 }
 
+#[tactic(auto, using(basis::specs::Pick::tests), unfolding(crate::specs::Words::is_indoor_session, silence::specs::Settings::settings_of))]
 pub(crate) fn is_session(words: &[u32; 13]) -> bool
     ensures { result ≡ is_indoor_session words.now }
 {
-    if words[words::LIMIT] < LIMIT_LEAST {
-        return false;
-    }
-    if LIMIT_MOST < words[words::LIMIT] {
-        return false;
-    }
-    if RESENDS_MOST < words[words::RESENDS] {
-        return false;
-    }
-    if words[words::LENGTH] == 0 {
-        return false;
-    }
-    if LENGTH_MOST < words[words::LENGTH] {
-        return false;
-    }
-    if HALF_MOST < words[words::SILENCE] {
-        return false;
-    }
-    if BYTE_MOST < words[words::RESENT] {
-        return false;
-    }
-    let numbers = phase_words(words);
-    numbers.is_phase()
+    LIMIT_LEAST <= words[words::LIMIT]
+        && words[words::LIMIT] <= LIMIT_MOST
+        && words[words::RESENDS] <= RESENDS_MOST
+        && words[words::LENGTH] != 0
+        && words[words::LENGTH] <= LENGTH_MOST
+        && words[words::SILENCE] <= HALF_MOST
+        && words[words::RESENT] <= BYTE_MOST
+        && phase_words(words).is_phase()
 }

@@ -5,7 +5,8 @@ ghost use Rattle.indoor_c.specs.Calls.{began_of, indoor_called, harsolvek_indoor
 
 use crate::store::{clear, fill};
 use indoor_state::plan::Release;
-use indoor_state::session::Started;
+use indoor_state::session::{StartRefused, Started};
+use numbers::Numbered;
 use width::{to_byte, to_half};
 use wire::request::Versions;
 
@@ -25,9 +26,8 @@ pub extern "C" fn harsolvek_indoor_start_raw(
     let resends = to_byte(settings[1]);
     let release = release_of(release);
     let started = indoor::start(limit, resends, release, file, out);
-    let number = indoor::started_number(started);
     *written = began(words, started);
-    number as u64
+    u64::from(started.number())
 }
 
 fn release_of(numbers: &[u16; 6]) -> Release
@@ -48,13 +48,11 @@ fn release_of(numbers: &[u16; 6]) -> Release
 
 // The session's words, or zeros, and how many bytes were written.
 #[tactic(auto, unfolding(crate::specs::Calls::began_of))]
-fn began(words: &mut [u32; 13], started: Started) -> usize
+fn began(words: &mut [u32; 13], started: Result<Started, StartRefused>) -> usize
     ensures { left result words.new ≡ began_of started }
 {
     match started {
-        Started::Made { session, written } => fill(words, session, written),
-        Started::Settings => clear(words),
-        Started::FileSize => clear(words),
-        Started::BufferShort => clear(words),
+        Ok(made) => fill(words, made),
+        Err(_) => clear(words),
     }
 }

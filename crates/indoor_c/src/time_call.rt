@@ -8,7 +8,6 @@ use crate::phase_words::VALIDATE;
 use crate::store::leave;
 use crate::unpack::session_at;
 use crate::words;
-use crate::words::wide;
 use width::to_half;
 use wire::codes;
 
@@ -28,7 +27,7 @@ pub extern "C" fn harsolvek_indoor_time_raw(
     }
     if only_counts(words, file.len(), elapsed, out.len()) {
         *written = 0;
-        words[words::SILENCE] = words[words::SILENCE] + elapsed;
+        words[words::SILENCE] += elapsed;
         return 0;
     }
     let session = session_at(words);
@@ -42,25 +41,16 @@ pub extern "C" fn harsolvek_indoor_time_raw(
 fn only_counts(words: &[u32; 13], length: usize, elapsed: u32, room: usize) -> bool
     ensures { result ≡ only_counts words.now length elapsed room }
 {
-    if length != wide(words[words::LENGTH]) {
-        return false;
-    }
-    if room < codes::LONGEST {
-        return false;
-    }
-    if VALIDATE < words[words::PHASE] {
-        return false;
-    }
-    if words[words::WAIT] != 0 {
-        return false;
-    }
-    stays_below(words[words::SILENCE], elapsed, words[words::LIMIT])
+    length == words[words::LENGTH] as usize
+        && codes::LONGEST <= room
+        && words[words::PHASE] <= VALIDATE
+        && words[words::WAIT] == 0
+        && stays_below(words[words::SILENCE], elapsed, words[words::LIMIT])
 }
 
 // The sum is taken in a wider type, so that it cannot wrap.
 fn stays_below(silence: u32, elapsed: u32, limit: u32) -> bool
     ensures { result ≡ ltb (silence + elapsed) limit }
 {
-    let sum = silence as u64 + elapsed as u64;
-    sum < limit as u64
+    u64::from(silence) + u64::from(elapsed) < u64::from(limit)
 }

@@ -4,6 +4,7 @@ ghost use Rattle.indoor_c.specs.Words.{phase_words_at, session_at};
 
 use crate::phase_words::PhaseWords;
 use crate::words;
+use crate::words::{high, low};
 use indoor_state::phase::State;
 use indoor_state::plan::{Plan, Release};
 use indoor_state::session::Indoor;
@@ -15,18 +16,18 @@ pub(crate) fn session_at(words: &[u32; 13]) -> Indoor
     ensures { result ≡ session_at words.now }
 {
     let settings = Settings {
-        limit: (words[words::LIMIT] % 65536) as u16,
+        limit: low(words[words::LIMIT]),
         resends: (words[words::RESENDS] % 256) as u8,
     };
     let versions = Versions {
-        first: (words[words::VERSIONS] % 65536) as u16,
-        second: (words[words::VERSIONS] / 65536 % 65536) as u16,
-        third: (words[words::VERSIONS_BEHIND] % 65536) as u16,
-        fourth: (words[words::VERSIONS_BEHIND] / 65536 % 65536) as u16,
+        first: low(words[words::VERSIONS]),
+        second: high(words[words::VERSIONS]),
+        third: low(words[words::VERSIONS_BEHIND]),
+        fourth: high(words[words::VERSIONS_BEHIND]),
     };
     let release = Release {
-        vendor: (words[words::PRODUCT] % 65536) as u16,
-        product: (words[words::PRODUCT] / 65536 % 65536) as u16,
+        vendor: low(words[words::PRODUCT]),
+        product: high(words[words::PRODUCT]),
         versions,
     };
     let plan = Plan {
@@ -34,11 +35,9 @@ pub(crate) fn session_at(words: &[u32; 13]) -> Indoor
         release,
         length: words[words::LENGTH],
     };
-    let numbers = phase_words(words);
-    let phase = numbers.phase();
     let state = State {
-        phase,
-        silence: (words[words::SILENCE] % 65536) as u16,
+        phase: phase_words(words).phase(),
+        silence: low(words[words::SILENCE]),
         resends: (words[words::RESENT] % 256) as u8,
     };
     Indoor { plan, state }

@@ -1,5 +1,6 @@
 // The thirteen words of a session and their places, in the order of include/harsolvek.h.
 ghost use Rattle.std.specs.Prelude.{◌≡◌};
+ghost use Rattle.width.specs.Halves.{low_half, high_half};
 
 pub(crate) const WORDS: usize = 13;
 
@@ -30,10 +31,17 @@ pub(crate) const VERSIONS: usize = 11;
 
 pub(crate) const VERSIONS_BEHIND: usize = 12;
 
-pub(crate) fn wide(word: u32) -> usize
-    ensures { result ≡ word }
+// The low half of a word, and its high half.
+pub(crate) fn low(word: u32) -> u16
+    ensures { result ≡ low_half word }
 {
-    word as usize
+    (word % 65536) as u16
+}
+
+pub(crate) fn high(word: u32) -> u16
+    ensures { result ≡ high_half word }
+{
+    (word / 65536 % 65536) as u16
 }
 
 // The number of words: a caller compares it with its header's.

@@ -1,35 +1,12 @@
 -- Each public contract leaves one answer and one state of the lent memory. Written from the contracts by tools/contracts.
-use Rattle.std.specs.Prelude.{ℕ, ◌≡◌}
+use Rattle.std.specs.Prelude.{◌≡◌, ℕ}
 use Rattle.basis.specs.Only.{only}
 use Rattle.indoor_rules.specs.Decide.{indoor_decide_of}
 use Rattle.indoor_rules.specs.Tick.{indoor_tick_of}
-use Rattle.indoor_state.specs.Answer.{indoor_number_of, sends_of}
-use Rattle.indoor_state.specs.Phase.{reason_number}
-use Rattle.indoor_state.specs.declared.answer.Answer.{Answer}
-use Rattle.indoor_state.specs.declared.answer.Sends.{Sends}
-use Rattle.indoor_state.specs.declared.phase.Reason.{Reason}
 use Rattle.indoor_state.specs.declared.phase.State.{State}
 use Rattle.indoor_state.specs.declared.plan.Plan.{Plan}
 use Rattle.indoor_state.specs.declared.step.Step.{Step}
 use Rattle.wire.specs.declared.response.Response.{Response}
-
-pub one_answer_number : (answer : Answer) (r r' : ℕ)
-    → r ≡ indoor_number_of answer
-    → r' ≡ indoor_number_of answer
-    → r ≡ r'
-one_answer_number answer r r' is is' = only is is'
-
-pub one_reason_number : (reason : Reason) (r r' : ℕ)
-    → r ≡ reason_number reason
-    → r' ≡ reason_number reason
-    → r ≡ r'
-one_reason_number reason r r' is is' = only is is'
-
-pub one_answer_sends : (answer : Answer) (r r' : Sends)
-    → r ≡ sends_of answer
-    → r' ≡ sends_of answer
-    → r ≡ r'
-one_answer_sends answer r r' is is' = only is is'
 
 pub one_decide : (plan : Plan) (state : State) (response : Response) (r r' : Step)
     → r ≡ indoor_decide_of plan state response

@@ -2,13 +2,11 @@
 // (01, The indoor end's phases).
 #![tactic(auto)]
 
-mod answer;
 mod compare;
 mod response;
 mod sent;
 mod step;
 mod time;
 
-pub use answer::{answer_number, answer_sends, reason_number};
 pub use response::decide;
 pub use time::pass;

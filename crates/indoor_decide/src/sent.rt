@@ -22,11 +22,10 @@ pub(crate) fn sent(plan: Plan, number: u16, emptied: bool) -> Phase
     })
 }
 
+// Whether the empty block has gone out once this one has.
+#[tactic(auto, using(basis::specs::Pick::tests), unfolding(indoor_rules::specs::Step::emptied_by))]
 fn emptied_by(plan: Plan, number: u16, emptied: bool) -> bool
     ensures { result ≡ emptied_by plan number emptied }
 {
-    if emptied {
-        return true;
-    }
-    number as usize == last(plan)
+    emptied || usize::from(number) == last(plan)
 }

@@ -18,12 +18,12 @@ use Rattle.indoor_rules.specs.Response.{response_read_of, indoor_response_of}
 use Rattle.indoor_rules.specs.Time.{indoor_time_of}
 use Rattle.indoor_state.specs.declared.step.Step.{Step}
 use Rattle.indoor_state.specs.declared.session.Indoor.{Indoor}
-use Rattle.indoor_state.specs.declared.session.Outcome.{Outcome}
+use Rattle.indoor_state.specs.Session.{IndoorOutcome}
 use Rattle.std.specs.Prelude.{Ok}
 use Rattle.wire.specs.Header.{malformed}
 
 -- What a call returns and leaves of a step, each field under its own name.
-abbrev stepped : Indoor → List ℕ → List ℕ → Step → Left Outcome
+abbrev stepped : Indoor → List ℕ → List ℕ → Step → Left IndoorOutcome
 stepped s file out step =
     left (record {
       session = record { plan = s.plan; state = step.state };

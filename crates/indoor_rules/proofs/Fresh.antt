@@ -1,5 +1,6 @@
 -- What a session that was started begins with: Identify, the file that was lent, GET_FW_ID written, and silence below the limit.
 use Prim.Native.Nat.{ℕ, ◌≤◌, ◌<◌}
+use Rattle.std.specs.Prelude.{Ok, Err}
 use mathlib.Core.Path.{◌≡◌, refl}
 use mathlib.Core.List.{List, [], ◌∷◌}
 use native.Mathlib.Omega.{arith}
@@ -18,9 +19,7 @@ use Rattle.indoor_state.specs.declared.plan.Release.{Release}
 use Rattle.indoor_state.specs.declared.phase.Phase.TheVariants.{Identify}
 use Rattle.indoor_rules.specs.Start.{indoor_begin_of, indoor_started_of, indoor_start_of}
 use Rattle.indoor_state.specs.declared.session.Indoor.{Indoor}
-use Rattle.indoor_state.specs.declared.session.Started.{Started}
-use Rattle.indoor_state.specs.declared.session.Started.TheVariants as Sta
-use Rattle.std.specs.Prelude.{Ok, Err}
+use Rattle.indoor_state.specs.Session.{IndoorStart, indoor_made}
 
 pub record Fresh (release : Release) (file : List ℕ) (s : Indoor) (first : List ℕ) : Type 0 where
   pub offered : s.plan.release ≡ release
@@ -32,13 +31,11 @@ pub record Fresh (release : Release) (file : List ℕ) (s : Indoor) (first : Lis
   pub below : s.state.silence < s.plan.settings.limit
 
 module _ (release : Release) (file out : List ℕ) where
-  abbrev Begins : Started → List ℕ → Type 0
-  Begins (Sta.Made s written) out' = Fresh release file s (take written out')
-  Begins Sta.Settings out' = Unit
-  Begins Sta.FileSize out' = Unit
-  Begins Sta.BufferShort out' = Unit
+  abbrev Begins : IndoorStart → List ℕ → Type 0
+  Begins (Ok made) out' = Fresh release file made.session (take made.written out')
+  Begins (Err refused) out' = Unit
 
-  abbrev B : Left Started → Type 0
+  abbrev B : Left IndoorStart → Type 0
   B x = Begins x.answer x.memory
 
   begin_fresh : (settings : Settings) → 1 ≤ settings.limit → B (indoor_begin_of settings release file out)
@@ -56,6 +53,6 @@ module _ (release : Release) (file out : List ℕ) where
   checked_fresh (Ok settings) some = begin_fresh settings (some settings refl)
   checked_fresh (Err refusal) some = tt
 
-  pub start_fresh : (limit resends : ℕ) (s : Indoor) (written : ℕ) (out' : List ℕ) → indoor_start_of limit resends release file out ≡ left (Sta.Made s written) out'
+  pub start_fresh : (limit resends : ℕ) (s : Indoor) (written : ℕ) (out' : List ℕ) → indoor_start_of limit resends release file out ≡ left (indoor_made s written) out'
       → Fresh release file s (take written out')
   start_fresh limit resends s written out' e = rw e at (checked_fresh (settings_of limit resends) (made_some limit resends))

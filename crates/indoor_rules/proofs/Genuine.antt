@@ -1,5 +1,6 @@
 -- A reader finds in the bytes that go out with an answer just the request that was meant.
 use Prim.Native.Nat.{ℕ, ◌≤◌, ◌<◌}
+use Rattle.std.specs.Prelude.{Option, Some, None}
 use mathlib.Core.Path.{◌≡◌, refl}
 use mathlib.Core.List.{List, [], append-nil}
 use native.Mathlib.Omega.{arith}
@@ -19,7 +20,7 @@ use Rattle.indoor_state.specs.Answer.{sends_of}
 use Rattle.indoor_state.specs.declared.plan.Plan.{Plan}
 use Rattle.indoor_state.specs.declared.answer.Answer.{Answer}
 use Rattle.indoor_state.specs.declared.answer.Sends.{Sends}
-use Rattle.indoor_state.specs.declared.answer.Sends.TheVariants.{Nothing, GetFwId, Initiate, Block, Validate, Abort}
+use Rattle.indoor_state.specs.declared.answer.Sends.TheVariants.{GetFwId, Initiate, Block, Validate, Abort}
 use Rattle.indoor_rules.proofs.Owes.{Within}
 use Rattle.indoor_rules.specs.Send.{block_bytes, sends_bytes, indoor_bytes_of}
 use Rattle.indoor_rules.specs.History.{Genuine}
@@ -52,15 +53,15 @@ module _ (versions : Versions) (file : List ℕ) where
       → Genuine versions file (request_bytes r) (message.parsed_request_of (request_bytes r))
   whole_genuine r can h = read_as (request_bytes r) (Ok r) (whole_read r can) h
 
-  sends_genuine : (plan : Plan) (sends : Sends) → Words versions → plan.length ≡ length file → length file ≤ image_size_most → Within plan sends → (length (sends_bytes versions file sends) ≡ 0 → ⊥)
+  sends_genuine : (plan : Plan) (sends : Option Sends) → Words versions → plan.length ≡ length file → length file ≤ image_size_most → Within plan sends → (length (sends_bytes versions file sends) ≡ 0 → ⊥)
       → Genuine versions file (sends_bytes versions file sends) (message.parsed_request_of (sends_bytes versions file sends))
   unfolding sends_bytes
-  sends_genuine plan Nothing words lent most h some = absurd (some refl)
-  sends_genuine plan GetFwId words lent most h some = whole_genuine Req.GetFwId refl tt
-  sends_genuine plan Initiate words lent most h some = whole_genuine (Req.Initiate versions) (refl, words) refl
-  sends_genuine plan (Block number) words lent most h some = block_genuine number most (rw (← lent) h)
-  sends_genuine plan Validate words lent most h some = whole_genuine Req.Validate refl tt
-  sends_genuine plan Abort words lent most h some = whole_genuine Req.Abort refl tt
+  sends_genuine plan None words lent most h some = absurd (some refl)
+  sends_genuine plan (Some GetFwId) words lent most h some = whole_genuine Req.GetFwId refl tt
+  sends_genuine plan (Some Initiate) words lent most h some = whole_genuine (Req.Initiate versions) (refl, words) refl
+  sends_genuine plan (Some (Block number)) words lent most h some = block_genuine number most (rw (← lent) h)
+  sends_genuine plan (Some Validate) words lent most h some = whole_genuine Req.Validate refl tt
+  sends_genuine plan (Some Abort) words lent most h some = whole_genuine Req.Abort refl tt
 
 -- What goes out with an answer, where anything does, is genuine.
 pub bytes_genuine : (plan : Plan) (file : List ℕ) (answer : Answer) → Words plan.release.versions → plan.length ≡ length file → length file ≤ image_size_most

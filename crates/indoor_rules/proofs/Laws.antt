@@ -1,5 +1,6 @@
 -- The paper's sentences on the indoor end's calls, as laws of the definitions (01, The indoor end's phases; 01, Numbers we answer).
 use Prim.Native.Nat.{ℕ, ◌≤◌, ◌<◌}
+use Rattle.std.specs.Prelude.{None}
 use mathlib.Core.Bool.{Bool, true, true≢false, ◌||◌}
 use mathlib.Core.Path.{◌≡◌, refl, sym, ap}
 use mathlib.Core.List.{List}
@@ -20,7 +21,6 @@ use Rattle.indoor_state.specs.declared.phase.Phase.TheVariants.{Done, Failed}
 use Rattle.indoor_state.specs.declared.phase.State.{State}
 use Rattle.indoor_state.specs.declared.answer.Answer.{Answer}
 use Rattle.indoor_state.specs.declared.answer.Answer.TheVariants as Ans
-use Rattle.indoor_state.specs.declared.answer.Sends.TheVariants.{Nothing}
 use Rattle.indoor_state.specs.declared.step.Step.{Step}
 use Rattle.indoor_rules.proofs.Owes.{hears, Fails, Row, Stays, decide_row}
 use Rattle.indoor_rules.proofs.Elapsed.{tick_no_time}
@@ -30,7 +30,7 @@ use Rattle.indoor_rules.specs.Send.{sends_bytes}
 use Rattle.indoor_rules.specs.Response.{indoor_response_of}
 use Rattle.indoor_rules.specs.Time.{indoor_time_of}
 use Rattle.indoor_state.specs.declared.session.Indoor.{Indoor}
-use Rattle.indoor_state.specs.declared.session.Outcome.{Outcome}
+use Rattle.indoor_state.specs.Session.{IndoorOutcome}
 use Rattle.indoor_rules.proofs.Walk.{response_walk, time_walk}
 
 -- 01, Numbers we answer: "kept"
@@ -38,7 +38,7 @@ abbrev pub keeps_all : ℕ → Bool
 keeps_all n = eqb n 20 || eqb n 21 || eqb n 27 || eqb n 28
 
 -- The session and the buffer are as they were, and nothing was written.
-abbrev pub Kept : Indoor → List ℕ → Left Outcome → Type 0
+abbrev pub Kept : Indoor → List ℕ → Left IndoorOutcome → Type 0
 Kept s out x = (x.answer.session ≡ s) × (x.memory ≡ out) × (x.answer.written ≡ 0)
 
 only_unexpected : (a : Answer) → hears (indoor_number_of a) ≡ true → keeps_all (indoor_number_of a) ≡ true → a ≡ Ans.Unexpected
@@ -83,7 +83,7 @@ rests_at before phase state x e h = rw e at h
 
 module _ (s : Indoor) (file out : List ℕ) where
   -- A step that changes nothing, with an answer that sends nothing.
-  rested : (x : Step) (answer : Answer) → sends_of answer ≡ Nothing → x ≡ indoor_step s.state answer → Kept s out (indoor_done s.plan x file out)
+  rested : (x : Step) (answer : Answer) → sends_of answer ≡ None → x ≡ indoor_step s.state answer → Kept s out (indoor_done s.plan x file out)
   unfolding sends_bytes
   rested x answer n e = (rw e, rw (e, n), rw (e, n))
 
@@ -96,7 +96,7 @@ module _ (s : Indoor) (file out : List ℕ) where
       all
 
 module _ (s : Indoor) (file response out : List ℕ) where
-  abbrev pub after : Left Outcome
+  abbrev pub after : Left IndoorOutcome
   after = indoor_response_of s file response out
 
   row : (r : Response) → Row s.plan s.state r (indoor_decide_of s.plan s.state r)
@@ -141,7 +141,7 @@ module _ (s : Indoor) (file response out : List ℕ) where
       (λ r _ _ _ e. when_met (eqb (indoor_number_of (indoor_decide_of s.plan s.state r).answer) 0) (row r).taken (eq-eqb (indoor_number_of (indoor_decide_of s.plan s.state r).answer) 0 e))
 
 module _ (s : Indoor) (file : List ℕ) (elapsed : ℕ) (out : List ℕ) where
-  abbrev pub ticked : Left Outcome
+  abbrev pub ticked : Left IndoorOutcome
   ticked = indoor_time_of s file elapsed out
 
   tick : Ticks s.plan s.state elapsed (indoor_tick_of s.plan s.state elapsed)

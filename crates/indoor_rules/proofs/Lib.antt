@@ -3,6 +3,7 @@ pub mod Compared
 pub mod Releases
 pub mod Due
 pub mod Elapsed
+pub mod Waits
 pub mod Orders
 pub mod Owes
 pub mod Ticks
@@ -14,6 +15,7 @@ pub mod Walk
 pub mod Laws
 pub mod Entering
 pub mod Written
+pub mod Front
 pub mod Genuine
 pub mod Holds
 pub mod Reached

@@ -1,5 +1,6 @@
 -- What holds of every step on a response, by its answer, the state before it and the state after it.
 use Prim.Native.Nat.{ℕ, ◌≤◌}
+use Rattle.std.specs.Prelude.{Option, Some, None}
 use mathlib.Core.Bool.{Bool, true, false, true≢false, not, ◌||◌}
 use mathlib.Core.Logic.{◌⊎◌, inl, inr}
 use mathlib.Core.Path.{◌≡◌, sym, ap}
@@ -119,13 +120,13 @@ Fit plan Done = Unit
 Fit plan (Failed reason) = Unit
 
 -- A block that goes out is one of the file's, or the empty one.
-abbrev pub Within : Plan → Sends → Type 0
-Within plan Out.Nothing = Unit
-Within plan Out.GetFwId = Unit
-Within plan Out.Initiate = Unit
-Within plan (Out.Block number) = number ≤ empty_number plan
-Within plan Out.Validate = Unit
-Within plan Out.Abort = Unit
+abbrev pub Within : Plan → Option Sends → Type 0
+Within plan None = Unit
+Within plan (Some Out.GetFwId) = Unit
+Within plan (Some Out.Initiate) = Unit
+Within plan (Some (Out.Block number)) = number ≤ empty_number plan
+Within plan (Some Out.Validate) = Unit
+Within plan (Some Out.Abort) = Unit
 
 -- The empty block had been sent, or goes out with this answer.
 abbrev pub Emptied : Plan → Phase → Answer → Type 0
@@ -167,13 +168,13 @@ Marked plan number (Validate left) = ⊥
 Marked plan number Done = ⊥
 Marked plan number (Failed reason) = ⊥
 
-abbrev pub Marks : Plan → Sends → Phase → Type 0
-Marks plan Out.Nothing next = Unit
-Marks plan Out.GetFwId next = Unit
-Marks plan Out.Initiate next = Unit
-Marks plan (Out.Block number) next = Marked plan number next
-Marks plan Out.Validate next = Unit
-Marks plan Out.Abort next = Unit
+abbrev pub Marks : Plan → Option Sends → Phase → Type 0
+Marks plan None next = Unit
+Marks plan (Some Out.GetFwId) next = Unit
+Marks plan (Some Out.Initiate) next = Unit
+Marks plan (Some (Out.Block number)) next = Marked plan number next
+Marks plan (Some Out.Validate) next = Unit
+Marks plan (Some Out.Abort) next = Unit
 
 by_last : (plan : Plan) (number : ℕ) → (false ≡ true) ⊎ (number ≡ empty_number plan) → Ans.Sending number ≡ Ans.Sending (empty_number plan)
 by_last plan number (inl e) = absurd (true≢false (sym e))

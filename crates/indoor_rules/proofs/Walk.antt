@@ -18,20 +18,20 @@ use Rattle.indoor_rules.specs.Session.{indoor_kept, indoor_done}
 use Rattle.indoor_rules.specs.Response.{response_read_of, indoor_response_of}
 use Rattle.indoor_rules.specs.Time.{indoor_time_of}
 use Rattle.indoor_state.specs.declared.session.Indoor.{Indoor}
-use Rattle.indoor_state.specs.declared.session.Outcome.{Outcome}
+use Rattle.indoor_state.specs.Session.{IndoorOutcome}
 use Rattle.std.specs.Prelude.{Ok, Err}
 
 module _ (s : Indoor) (file response out : List ℕ) where
   -- What a well-formed response does.
-  abbrev pub heard : Response → Left Outcome
+  abbrev pub heard : Response → Left IndoorOutcome
   heard r = indoor_done s.plan (indoor_decide_of s.plan s.state r) file out
 
-  read_walk : (P : Left Outcome → Type 0) (m : Parsed) → P (indoor_kept s Malformed out) → ((r : Response) → m ≡ Ok r → P (heard r)) → P (response_read_of s m file out)
+  read_walk : (P : Left IndoorOutcome → Type 0) (m : Parsed) → P (indoor_kept s Malformed out) → ((r : Response) → m ≡ Ok r → P (heard r)) → P (response_read_of s m file out)
   unfolding response_read_of
   read_walk P (Err refusal) bad good = bad
   read_walk P (Ok r) bad good = good r refl
 
-  pub response_walk : (P : Left Outcome → Type 0)
+  pub response_walk : (P : Left IndoorOutcome → Type 0)
       → P (indoor_kept s FileLength out)
       → P (indoor_kept s BufferShort out)
       → P (indoor_kept s Malformed out)
@@ -45,7 +45,7 @@ module _ (s : Indoor) (file response out : List ℕ) where
       (λ r e. good r (differ_false (length file) s.plan.length a) (ltb-false (length out) longest b) e)))
 
 module _ (s : Indoor) (file : List ℕ) (elapsed : ℕ) (out : List ℕ) where
-  pub time_walk : (P : Left Outcome → Type 0)
+  pub time_walk : (P : Left IndoorOutcome → Type 0)
       → P (indoor_kept s FileLength out)
       → P (indoor_kept s BufferShort out)
       → (length file ≡ s.plan.length → longest ≤ length out → P (indoor_done s.plan (indoor_tick_of s.plan s.state elapsed) file out))

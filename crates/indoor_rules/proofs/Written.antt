@@ -1,5 +1,6 @@
 -- What is written into the lent buffer: at most one request a call, in the first bytes (01, Numbers we answer).
 use Prim.Native.Nat.{ℕ, ◌≤◌}
+use Rattle.std.specs.Prelude.{Option, Some, None}
 use mathlib.Core.Path.{◌≡◌, refl}
 use mathlib.Core.List.{List}
 use native.Mathlib.Omega.{arith}
@@ -18,12 +19,12 @@ use Rattle.indoor_rules.specs.Tick.{indoor_tick_of}
 use Rattle.indoor_state.specs.declared.plan.Plan.{Plan}
 use Rattle.indoor_state.specs.declared.answer.Answer.{Answer}
 use Rattle.indoor_state.specs.declared.answer.Sends.{Sends}
-use Rattle.indoor_state.specs.declared.answer.Sends.TheVariants.{Nothing, GetFwId, Initiate, Block, Validate, Abort}
+use Rattle.indoor_state.specs.declared.answer.Sends.TheVariants.{GetFwId, Initiate, Block, Validate, Abort}
 use Rattle.indoor_rules.specs.Send.{block_bytes, sends_bytes, indoor_bytes_of}
 use Rattle.indoor_rules.specs.Response.{indoor_response_of}
 use Rattle.indoor_rules.specs.Time.{indoor_time_of}
 use Rattle.indoor_state.specs.declared.session.Indoor.{Indoor}
-use Rattle.indoor_state.specs.declared.session.Outcome.{Outcome}
+use Rattle.indoor_state.specs.Session.{IndoorOutcome}
 use Rattle.indoor_rules.proofs.Block.{block_most, head_four}
 use Rattle.indoor_rules.proofs.Walk.{response_walk, time_walk}
 
@@ -35,14 +36,14 @@ module _ (versions : Versions) (file : List ℕ) where
       let most = block_most file number in
       simp length-append (omega arith)
 
-  sends_fit : (sends : Sends) → length (sends_bytes versions file sends) ≤ 260
+  sends_fit : (sends : Option Sends) → length (sends_bytes versions file sends) ≤ 260
   unfolding sends_bytes
-  sends_fit Nothing = omega arith
-  sends_fit GetFwId = let fits = request_fits Req.GetFwId in omega arith
-  sends_fit Initiate = let fits = request_fits (Req.Initiate versions) in omega arith
-  sends_fit (Block number) = block_fits number
-  sends_fit Validate = let fits = request_fits Req.Validate in omega arith
-  sends_fit Abort = let fits = request_fits Req.Abort in omega arith
+  sends_fit None = omega arith
+  sends_fit (Some GetFwId) = let fits = request_fits Req.GetFwId in omega arith
+  sends_fit (Some Initiate) = let fits = request_fits (Req.Initiate versions) in omega arith
+  sends_fit (Some (Block number)) = block_fits number
+  sends_fit (Some Validate) = let fits = request_fits Req.Validate in omega arith
+  sends_fit (Some Abort) = let fits = request_fits Req.Abort in omega arith
 
 -- A message is at most 260 bytes (01, Sizes and numbers).
 pub bytes_most : (plan : Plan) (file : List ℕ) (answer : Answer) → length (indoor_bytes_of plan file answer) ≤ 260
@@ -54,11 +55,11 @@ written_length plan file answer out room =
     simp (length-append, length-drop) (omega arith)
 
 -- The buffer begins with the answer's one request, or with none; behind it all is as it was.
-pub record Leads (plan : Plan) (file out : List ℕ) (x : Left Outcome) : Type 0 where
+pub record Leads (plan : Plan) (file out : List ℕ) (x : Left IndoorOutcome) : Type 0 where
   pub first : x.memory ≡ written_into (indoor_bytes_of plan file x.answer.answer) out
   pub written : x.answer.written ≡ length (indoor_bytes_of plan file x.answer.answer)
 
-module _ (plan : Plan) (file out : List ℕ) (x : Left Outcome) (l : Leads plan file out x) where
+module _ (plan : Plan) (file out : List ℕ) (x : Left IndoorOutcome) (l : Leads plan file out x) where
   pub written_most : x.answer.written ≤ 260
   written_most =
       let fits = bytes_most plan file x.answer.answer in

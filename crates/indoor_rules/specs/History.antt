@@ -11,23 +11,21 @@ use Rattle.wire.specs.declared.request.Versions.{Versions}
 use Rattle.wire.specs.declared.request.Request.TheVariants as Req
 use Rattle.wire.specs.Request.{Parsed}
 use Rattle.indoor_state.specs.declared.plan.Release.{Release}
+use Rattle.indoor_state.specs.Session.{indoor_made, IndoorOutcome}
 use Rattle.indoor_rules.specs.Start.{indoor_start_of}
 use Rattle.indoor_rules.specs.Response.{indoor_response_of}
 use Rattle.indoor_rules.specs.Time.{indoor_time_of}
 use Rattle.indoor_state.specs.declared.session.Indoor.{Indoor}
-use Rattle.indoor_state.specs.declared.session.Outcome.{Outcome}
-use Rattle.indoor_state.specs.declared.session.Started.TheVariants.{Made}
-use Rattle.std.specs.Prelude.{Ok}
-use Rattle.wire.specs.Header.{malformed}
+use Rattle.std.specs.Prelude.{Ok, Err}
 
 -- What a call wrote is one request.
-abbrev pub sent_after : Left Outcome → List (List ℕ) → List (List ℕ)
+abbrev pub sent_after : Left IndoorOutcome → List (List ℕ) → List (List ℕ)
 sent_after x sent = with_sent x.answer.written x.memory sent
 
 module _ (file : List ℕ) where
   pub data Reached : Release → Indoor → List (List ℕ) → Type 0 where
     starts : (limit resends : ℕ) (release : Release) (out : List ℕ) (s : Indoor) (written : ℕ) (out' : List ℕ)
-        → indoor_start_of limit resends release file out ≡ left (Made s written) out'
+        → indoor_start_of limit resends release file out ≡ left (indoor_made s written) out'
         → Reached release s (take written out' ∷ [])
     hears : {release : Release} {s : Indoor} {sent : List (List ℕ)} → Reached release s sent → (lent response out : List ℕ)
         → (length lent ≡ length file → lent ≡ file)
@@ -45,7 +43,7 @@ Genuine versions file m (Ok (Req.Data number size)) = (number ≤ blocks_of (len
 Genuine versions file m (Ok Req.Validate) = Unit
 Genuine versions file m (Ok Req.Abort) = Unit
 Genuine versions file m (Ok Req.NotBuilt) = ⊥
-Genuine versions file m malformed = ⊥
+Genuine versions file m (Err refusal) = ⊥
 
 abbrev pub AllGenuine : Versions → List ℕ → List (List ℕ) → Type 0
 AllGenuine versions file [] = Unit

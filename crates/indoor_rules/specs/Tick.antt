@@ -1,5 +1,5 @@
 -- What the indoor end does when time passes (01, The indoor end's phases; 01, Sizes and numbers).
-use Rattle.std.specs.Prelude.{ℕ, ◌-◌, ltb, eqb}
+use Rattle.std.specs.Prelude.{ℕ, ◌-◌, ltb, eqb, Option, Some, None}
 use Rattle.basis.specs.Pick.{pick}
 use Rattle.silence.specs.Expiry.{grown_of}
 use Rattle.silence.specs.declared.Grown.{Grown}
@@ -40,6 +40,11 @@ resends_of plan state again elapsed = resend_on_event state.phase again (indoor_
 unfoldable pub transfer_expires_of : Plan → State → ℕ → Step
 transfer_expires_of plan state elapsed = transfer_on_event state.phase (indoor_silence_of plan state elapsed) (indoor_silence_of plan state elapsed).event
 
+-- Both by what goes out again, if anything: in Transfer nothing is resent.
+abbrev pub expires_of : Plan → State → Option Answer → ℕ → Step
+expires_of plan state (Some again) elapsed = resends_of plan state again elapsed
+expires_of plan state None elapsed = transfer_expires_of plan state elapsed
+
 -- Silence doesn't grow in a wait.
 abbrev pub waits_on : State → Phase → Step
 waits_on state phase = indoor_step (indoor_state phase state.silence state.resends) Passed
@@ -54,6 +59,13 @@ initiate_tick_of plan state wait elapsed =
     pick (eqb wait 0) (resends_of plan state Initiating elapsed)
     (pick (ltb elapsed wait) (waits_on state (Initiate (wait - elapsed)))
     (wait_over state (Initiate 0) Initiating))
+
+-- The first and the third are the same rule of another phase and request; `left` is the phase with what is left of its wait.
+unfoldable pub request_tick_of : Plan → State → ℕ → Phase → Answer → ℕ → Step
+request_tick_of plan state wait left answer elapsed =
+    pick (eqb wait 0) (resends_of plan state answer elapsed)
+    (pick (ltb elapsed wait) (waits_on state left)
+    (wait_over state left answer))
 
 unfoldable pub transfer_tick_of : Plan → State → Progress → ℕ → Step
 transfer_tick_of plan state p elapsed =

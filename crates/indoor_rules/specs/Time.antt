@@ -7,10 +7,10 @@ use Rattle.indoor_rules.specs.Tick.{indoor_tick_of}
 use Rattle.indoor_state.specs.declared.answer.Answer.TheVariants.{BufferShort, FileLength}
 use Rattle.indoor_rules.specs.Session.{indoor_kept, indoor_done}
 use Rattle.indoor_state.specs.declared.session.Indoor.{Indoor}
-use Rattle.indoor_state.specs.declared.session.Outcome.{Outcome}
+use Rattle.indoor_state.specs.Session.{IndoorOutcome}
 
 -- 28, 27, or what time does
-unfoldable pub indoor_time_of : Indoor → List ℕ → ℕ → List ℕ → Left Outcome
+unfoldable pub indoor_time_of : Indoor → List ℕ → ℕ → List ℕ → Left IndoorOutcome
 indoor_time_of s file elapsed out =
     pick (differ (length file) s.plan.length) (indoor_kept s FileLength out)
     (pick (ltb (length out) longest) (indoor_kept s BufferShort out)

@@ -1,4 +1,8 @@
 // The indoor end's state (01, The indoor end's phases).
+ghost use Rattle.std.specs.Prelude.{◌≡◌};
+ghost use Rattle.indoor_state.specs.Phase.{reason_number};
+
+use numbers::Numbered;
 
 // Why it failed: 40 to 45 (01, Numbers we answer).
 #[derive(Clone, Copy)]
@@ -9,6 +13,21 @@ pub enum Reason {
     TooLarge,
     WrongNumber,
     NotValid,
+}
+
+impl Numbered for Reason {
+    ghost number_of = { reason_number };
+
+    fn number(self) -> u8 {
+        match self {
+            Reason::Silence => 40,
+            Reason::Refused => 41,
+            Reason::NotNewer => 42,
+            Reason::TooLarge => 43,
+            Reason::WrongNumber => 44,
+            Reason::NotValid => 45,
+        }
+    }
 }
 
 // The block last asked for, the milliseconds left of the wait before it is sent (0 for no wait), and whether the empty block has been

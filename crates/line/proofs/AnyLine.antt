@@ -34,7 +34,7 @@ use Rattle.indoor_state.specs.declared.phase.Phase.TheVariants.{Done}
 use Rattle.indoor_rules.specs.Response.{indoor_response_of}
 use Rattle.indoor_rules.specs.Time.{indoor_time_of}
 use Rattle.indoor_rules.specs.History as sending
-use Rattle.indoor_state.specs.declared.session.Outcome.{Outcome as IndoorOutcome}
+use Rattle.indoor_state.specs.Session.{IndoorOutcome}
 use Rattle.indoor_rules.proofs.Entering as entering
 use Rattle.indoor_rules.proofs.Ticks.{order}
 use Rattle.indoor_rules.proofs.Fresh as indoorFresh

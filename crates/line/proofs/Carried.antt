@@ -43,7 +43,7 @@ use Rattle.indoor_rules.specs.Send.{sends_bytes}
 use Rattle.indoor_rules.specs.Session.{indoor_done as indoorDoneOf}
 use Rattle.indoor_rules.specs.Response.{indoor_response_of}
 use Rattle.indoor_rules.specs.Time.{indoor_time_of}
-use Rattle.indoor_state.specs.declared.session.Outcome.{Outcome as IndoorOutcome}
+use Rattle.indoor_state.specs.Session.{IndoorOutcome}
 use Rattle.indoor_state.specs.declared.step.Step.{Step as IndoorStep}
 use Rattle.indoor_rules.proofs.Answers.{response_step}
 use Rattle.indoor_rules.proofs.Laws as indoorLaws

@@ -29,8 +29,7 @@ use Rattle.indoor_rules.specs.Start.{indoor_start_of}
 use Rattle.indoor_rules.specs.Response.{indoor_response_of}
 use Rattle.indoor_rules.specs.Time.{indoor_time_of}
 use Rattle.indoor_state.specs.declared.session.Indoor.{Indoor}
-use Rattle.indoor_state.specs.declared.session.Outcome.{Outcome as IndoorOutcome}
-use Rattle.indoor_state.specs.declared.session.Started.TheVariants as IndoorStarted
+use Rattle.indoor_state.specs.Session.{IndoorOutcome, indoor_made}
 
 -- Both ends, the image memory, and every request and every response that was ever sent, as bytes, the newest first.
 pub record World : Type 0 where
@@ -130,7 +129,7 @@ module _ (file memory : List ℕ) (release : Release) (identity : Identity) wher
     pub out : List ℕ
     pub written : ℕ
     pub out' : List ℕ
-    pub indoor : indoor_start_of limit' resends' release file out ≡ left (IndoorStarted.Made w.indoor written) out'
+    pub indoor : indoor_start_of limit' resends' release file out ≡ left (indoor_made w.indoor written) out'
     pub image : w.image ≡ memory
     pub requests : w.requests ≡ take written out' ∷ []
     pub responses : w.responses ≡ []

@@ -20,7 +20,7 @@ use Rattle.receiver_state.specs.Session.{Outcome as ReceiverOutcome}
 use Rattle.receiver_rules.proofs.Written as receiver
 use Rattle.indoor_state.specs.declared.phase.Phase.TheVariants.{Done}
 use Rattle.indoor_rules.specs.Send.{indoor_bytes_of}
-use Rattle.indoor_state.specs.declared.session.Outcome.{Outcome as IndoorOutcome}
+use Rattle.indoor_state.specs.Session.{IndoorOutcome}
 use Rattle.indoor_rules.proofs.Written as indoor
 use Rattle.line.specs.Line.{Reached}
 use Rattle.line.proofs.Demand3.{demand3}

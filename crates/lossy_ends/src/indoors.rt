@@ -4,6 +4,7 @@ ghost use Rattle.lossy_ends.specs.Indoors.{indoors_of};
 
 use indoor_state::session::{Indoor, Outcome};
 use luck::{Answered, Way};
+use numbers::Numbered;
 
 #[derive(Clone, Copy)]
 pub struct Indoors {
@@ -17,8 +18,7 @@ pub fn indoor_called(heard: Outcome, rising: Way) -> Indoors
     ensures { result ≡ indoors_of heard rising }
 {
     let indoor = heard.session;
-    let answer = heard.answer;
-    let number = indoor_decide::answer_number(answer);
+    let number = heard.answer.number();
     Indoors {
         indoor,
         up: rising.after(heard.written),

@@ -6,8 +6,6 @@ use mathlib.Core.List.Memᴰ
 use mathlib.Core.List.{List, [], ◌∷◌}
 use native.Mathlib.Omega.{arith}
 use lib.ListN.{length, take}
-use denote.Enum.Declared.{tag_of}
-use types.Run.{OneOf, miss}
 use Rattle.basis.specs.Left.{left, answers, leaves}
 use Rattle.wire.specs.declared.response.Identity.{Identity}
 use Rattle.receiver_rules.specs.Session.{receiver_start_of}
@@ -15,11 +13,8 @@ use Rattle.receiver_state.specs.declared.session.Receiver.{Receiver}
 use Rattle.receiver_state.specs.Session as Rec
 use Rattle.std.specs.Prelude.{Ok, Err}
 use Rattle.indoor_rules.specs.Start.{indoor_start_of}
-use Rattle.indoor_state.specs.Session.{indoor_start_number_of}
-use Rattle.indoor_state.specs.contracts.session.Started.{the_type}
+use Rattle.indoor_state.specs.Session.{IndoorStart}
 use Rattle.indoor_state.specs.declared.plan.Release.{Release}
-use Rattle.indoor_state.specs.declared.session.Started as Ind
-use Rattle.indoor_state.specs.declared.session.Started.TheVariants as IndStarted
 use Rattle.line.specs.Line.{Wide, begins}
 use Rattle.lossy_ends.specs.declared.ends.Ends.{Ends}
 use Rattle.lossy_session.specs.declared.start_call.Limits.{Limits}
@@ -28,14 +23,6 @@ use Rattle.luck.specs.Way.{no_message, way_of}
 use Rattle.lossy_ends.specs.Ends.{lossy_ends}
 use Rattle.lossy_session.specs.Start.{joined_of, both_made_of, both_start_of}
 use Rattle.lossy_ends.specs.Over.{lossy_world, Over}
-
--- Where the indoor end's start refuses, its number is the answer.
-pub not_made : (r : Receiver) (x : Ind.Started) → OneOf (1 ∷ 2 ∷ 3 ∷ []) (tag_of the_type x) → Refused (indoor_start_number_of x) ≡ joined_of r x
-unfolding joined_of
-not_made r (IndStarted.Made session written) h = absurd (miss (1 ∷ 2 ∷ 3 ∷ []) 0 tt h)
-not_made r IndStarted.Settings h = refl
-not_made r IndStarted.FileSize h = refl
-not_made r IndStarted.BufferShort h = refl
 
 made_same : (a b : Ends) → Made a ≡ Made b → a ≡ b
 made_same a b e = cc
@@ -48,26 +35,24 @@ module _ (roof indoors : Limits) (identity : Identity) (release : Release) (file
   Goes = Over file e memory up' down
 
   module _ (r : Receiver) (made : receiver_start_of roof.silence roof.resends identity (length memory) ≡ Ok r) where
-    started_over : (x : Ind.Started) → indoor_start_of indoors.silence indoors.resends release file up ≡ left x up' → Made e ≡ joined_of r x → Goes
+    started_over : (x : IndoorStart) → indoor_start_of indoors.silence indoors.resends release file up ≡ left x up' → Made e ≡ joined_of r x → Goes
     unfolding joined_of
-    started_over (IndStarted.Made session written) started is =
+    started_over (Ok begun) started is =
         subst (λ (a : Ends). Over file a memory up' down) (sym (made_same _ _ is))
         (record {
           memory = memory;
           release = release;
           identity = identity;
           wide = wide;
-          requests = take written up' ∷ [];
+          requests = take begun.written up' ∷ [];
           responses = [];
           reached = begins roof.silence roof.resends indoors.silence indoors.resends
-              (lossy_world (lossy_ends r session (way_of written) no_message) memory (take written up' ∷ []) [])
-              (record { receiver = made; out = up; written = written; out' = up'; indoor = started; image = refl; requests = refl; responses = refl });
+              (lossy_world (lossy_ends r begun.session (way_of begun.written) no_message) memory (take begun.written up' ∷ []) [])
+              (record { receiver = made; out = up; written = begun.written; out' = up'; indoor = started; image = refl; requests = refl; responses = refl });
           rising = inr (Memᴰ.head refl);
           falling = inl refl;
         })
-    started_over IndStarted.Settings started is = absurd (made_refused e 29 is)
-    started_over IndStarted.FileSize started is = absurd (made_refused e 46 is)
-    started_over IndStarted.BufferShort started is = absurd (made_refused e 27 is)
+    started_over (Err refused) started is = absurd (made_refused e _ is)
 
   made_over : (x : Rec.Started) → receiver_start_of roof.silence roof.resends identity (length memory) ≡ x → left (Made e) up' ≡ both_made_of x indoors release file up → Goes
   unfolding both_made_of

@@ -7,21 +7,18 @@ use Rattle.receiver_state.specs.declared.session.Receiver.{Receiver}
 use Rattle.receiver_state.specs.Session as Rec
 use Rattle.indoor_rules.specs.Start.{indoor_start_of}
 use Rattle.indoor_state.specs.declared.plan.Release.{Release}
-use Rattle.indoor_state.specs.declared.session.Started as Ind
-use Rattle.indoor_state.specs.declared.session.Started.TheVariants as IndStarted
+use Rattle.indoor_state.specs.Session.{IndoorStart, indoor_refused_number_of}
 use Rattle.luck.specs.Way.{no_message, way_of}
 use Rattle.lossy_ends.specs.Ends.{lossy_ends}
 use Rattle.lossy_session.specs.declared.start_call.Limits.{Limits}
 use Rattle.lossy_session.specs.declared.start_call.Started.{Started}
 use Rattle.lossy_session.specs.declared.start_call.Started.TheVariants.{Made, Refused}
 
-unfoldable pub joined_of : Receiver → Ind.Started → Started
-joined_of r (IndStarted.Made session written) = Made (lossy_ends r session (way_of written) no_message)
-joined_of r IndStarted.Settings = Refused 29
-joined_of r IndStarted.FileSize = Refused 46
-joined_of r IndStarted.BufferShort = Refused 27
+unfoldable pub joined_of : Receiver → IndoorStart → Started
+joined_of r (Ok made) = Made (lossy_ends r made.session (way_of made.written) no_message)
+joined_of r (Err refused) = Refused (indoor_refused_number_of refused)
 
-abbrev pub both_begun_of : Receiver → Left Ind.Started → Left Started
+abbrev pub both_begun_of : Receiver → Left IndoorStart → Left Started
 both_begun_of r x = left (joined_of r x.answer) x.memory
 
 abbrev pub both_begin_of : Receiver → Limits → Release → List ℕ → List ℕ → Left Started

@@ -4,7 +4,7 @@ ghost use Rattle.basis.specs.Left.{left};
 ghost use Rattle.lossy_session.specs.Start.{both_start_of, both_begin_of, joined_of};
 
 use indoor_state::plan::Release;
-use indoor_state::session::Started as Begun;
+use indoor_state::session::{StartRefused, Started as Begun};
 use lossy_ends::Ends;
 use luck::Way;
 use numbers::Numbered;
@@ -60,16 +60,16 @@ fn begin(
 }
 
 #[tactic(auto, unfolding(crate::specs::Start::joined_of))]
-fn joined(receiver: Receiver, begun: Begun) -> Started
+fn joined(receiver: Receiver, begun: Result<Begun, StartRefused>) -> Started
     ensures { result ≡ joined_of receiver begun }
 {
-    let Begun::Made { session, written } = begun else {
-        return Started::Refused(indoor::started_number(begun));
-    };
-    Started::Made(Ends {
-        receiver,
-        indoor: session,
-        up: Way::sent(written),
-        down: Way::sent(0),
-    })
+    match begun {
+        Ok(begun) => Started::Made(Ends {
+            receiver,
+            indoor: begun.session,
+            up: Way::sent(begun.written),
+            down: Way::sent(0),
+        }),
+        Err(refused) => Started::Refused(refused.number()),
+    }
 }

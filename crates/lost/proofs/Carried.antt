@@ -48,7 +48,7 @@ use Rattle.indoor_rules.specs.Response.{indoor_response_of}
 use Rattle.indoor_rules.specs.Time.{indoor_time_of}
 use Rattle.indoor_rules.proofs.Answers.{response_step, time_step}
 use Rattle.indoor_state.specs.declared.session.Indoor.{Indoor}
-use Rattle.indoor_state.specs.declared.session.Outcome.{Outcome as IndoorOutcome}
+use Rattle.indoor_state.specs.Session.{IndoorOutcome}
 use Rattle.lost.specs.Lost.{Going, going, Timed, sends, older, arrived_up, arrived_down, passed}
 use Rattle.std.specs.Prelude.{Ok}
 

@@ -6,6 +6,7 @@ use mathlib.Core.List.{List, [], ◌∷◌}
 use native.Mathlib.Omega.{arith}
 use lib.Dec.{ltb, eqb}
 use lib.ListN.{length, take}
+use Rattle.std.specs.Prelude.{Ok, Err}
 use Rattle.basis.specs.Pick.{pick_all}
 use Rattle.basis.specs.Left.{Left, left}
 use Rattle.silence.specs.Settings.{limit_least, limit_most, resends_most, settings_of}
@@ -21,12 +22,12 @@ use Rattle.receiver_state.specs.Session.{Started}
 use Rattle.receiver_rules.specs.Session.{receiver_fresh_of, receiver_start_of}
 use Rattle.receiver_rules.proofs.Fresh as receiverFresh
 use Rattle.receiver_rules.proofs.Reached.{reached_capacity}
-use Rattle.indoor_state.specs.Session.{indoor_start_number_of}
+use Rattle.indoor_state.specs.Session.{IndoorStart, indoor_made, indoor_start_number_of}
 use Rattle.indoor_state.specs.declared.phase.Phase.{Phase}
 use Rattle.indoor_state.specs.declared.phase.Phase.TheVariants.{Identify, Initiate, Transfer, Validate, Done}
 use Rattle.indoor_state.specs.declared.session.Indoor.{Indoor}
 use Rattle.indoor_state.specs.declared.session.Started.{Started as IndoorStarted}
-use Rattle.indoor_state.specs.declared.session.Started.TheVariants as In
+use Rattle.indoor_state.specs.declared.session.StartRefused.TheVariants as In
 use Rattle.indoor_rules.specs.Newer.{newer_of}
 use Rattle.indoor_rules.specs.Send.{sends_bytes}
 use Rattle.indoor_rules.specs.Start.{indoor_begin_of, indoor_started_of, indoor_start_of}
@@ -56,8 +57,11 @@ settings_given P limit resends refused made =
 made_same : (a b : Receiver) → ◌≡◌ {A = Started} (Ok a) (Ok b) → a ≡ b
 made_same a b e = cc
 
-indoor_same : (a b : Indoor) (w v : ℕ) (o p : List ℕ) → ◌≡◌ {A = Left IndoorStarted} (left (In.Made a w) o) (left (In.Made b v) p) → a ≡ b
-indoor_same a b w v o p e = let f : In.Made a w ≡ In.Made b v = ap (λ (y : Left IndoorStarted). y.answer) e in cc
+begun_same : (a b : IndoorStarted) → ◌≡◌ {A = IndoorStart} (Ok a) (Ok b) → a ≡ b
+begun_same a b e = cc
+
+indoor_same : (a b : Indoor) (w v : ℕ) (o p : List ℕ) → ◌≡◌ {A = Left IndoorStart} (left (indoor_made a w) o) (left (indoor_made b v) p) → a ≡ b
+indoor_same a b w v o p e = ap (λ (x : IndoorStarted). x.session) (begun_same _ _ (ap (λ (y : Left IndoorStart). y.answer) e))
 
 module _ (x : Given) where
   -- A fresh receiver is in Idle, with no silence and no resend made.
@@ -71,17 +75,17 @@ module _ (x : Given) where
 
   -- A fresh indoor end is in Identify, alike.
   indoors_fresh : (out : List ℕ) (s : Indoor) (written : ℕ) (out' : List ℕ)
-      → indoor_start_of x.indoor.limit x.indoor.resends x.release x.file out ≡ left (In.Made s written) out' → s ≡ indoors x Identify 0 0
+      → indoor_start_of x.indoor.limit x.indoor.resends x.release x.file out ≡ left (indoor_made s written) out' → s ≡ indoors x Identify 0 0
   unfolding indoor_started_of indoor_begin_of
   indoors_fresh out s written out' =
-      let M : Left IndoorStarted → Type 0 = λ y. y ≡ left (In.Made s written) out' → s ≡ indoors x Identify 0 0 in
-      let none : (number : ℕ) (a : IndoorStarted) → indoor_start_number_of a ≡ suc number → M (left a out) = λ number a h e.
-      let zero = sym h ∙ ap (λ (y : Left IndoorStarted). indoor_start_number_of y.answer) e in absurd (omega arith) in
+      let M : Left IndoorStart → Type 0 = λ y. y ≡ left (indoor_made s written) out' → s ≡ indoors x Identify 0 0 in
+      let none : (number : ℕ) (a : IndoorStart) → indoor_start_number_of a ≡ suc number → M (left a out) = λ number a h e.
+      let zero = sym h ∙ ap (λ (y : Left IndoorStart). indoor_start_number_of y.answer) e in absurd (omega arith) in
       settings_given (λ (y : Checked). M (indoor_started_of y x.release x.file out)) x.indoor.limit x.indoor.resends
-      (none 28 In.Settings refl)
-      (pick_all M (eqb (length x.file) 0) _ _ (λ _. none 45 In.FileSize refl)
-      (λ _. pick_all M (ltb image_size_most (length x.file)) _ _ (λ _. none 45 In.FileSize refl)
-      (λ _. pick_all M (ltb (length out) longest) _ _ (λ _. none 26 In.BufferShort refl)
+      (none 28 (Err In.Settings) refl)
+      (pick_all M (eqb (length x.file) 0) _ _ (λ _. none 45 (Err In.FileSize) refl)
+      (λ _. pick_all M (ltb image_size_most (length x.file)) _ _ (λ _. none 45 (Err In.FileSize) refl)
+      (λ _. pick_all M (ltb (length out) longest) _ _ (λ _. none 26 (Err In.BufferShort) refl)
       (λ _ e. sym (indoor_same _ s _ written _ out' e)))))
 
   module _ (wide : Wide x.release x.identity) (newer : newer_of x.release x.identity ≡ true) (room : length x.file ≤ length x.memory)

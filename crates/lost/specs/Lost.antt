@@ -18,7 +18,7 @@ use Rattle.indoor_state.specs.declared.phase.Phase.TheVariants.{Done, Failed}
 use Rattle.indoor_rules.specs.Newer.{newer_of}
 use Rattle.indoor_rules.specs.Response.{indoor_response_of}
 use Rattle.indoor_rules.specs.Time.{indoor_time_of}
-use Rattle.indoor_state.specs.declared.session.Outcome.{Outcome as IndoorOutcome}
+use Rattle.indoor_state.specs.Session.{IndoorOutcome}
 use Rattle.line.specs.Line.{World, after_request, after_receiver_time, after_indoor_call, Wide, Fresh, MarkedGood}
 
 -- A message on its way, and for how many milliseconds it has been.

@@ -11,6 +11,7 @@ use crate::words::Version;
 use indoor_state::phase::{Phase, Reason};
 use lossy_ends::Ends;
 use lossy_session::Judged;
+use numbers::Numbered;
 use receiver_state::session::Receiver;
 use std::fmt;
 use std::io::Error;
@@ -97,7 +98,7 @@ struct Why(Reason);
 
 impl fmt::Display for Why {
     fn fmt<W: fmt::Write>(&self, f: &mut fmt::Formatter<W>) -> fmt::Result {
-        let number = indoor_decide::reason_number(self.0);
+        let number = self.0.number();
         let name = match self.0 {
             Reason::Silence => "silence",
             Reason::Refused => "refused",

@@ -3,13 +3,13 @@ use crate::bench::Session;
 use crate::indoor_word::{Call, Step};
 use crate::release;
 use crate::release::Offered;
-use indoor_state::session::{Indoor, Outcome, Started};
+use indoor_state::session::{Indoor, Outcome, StartRefused, Started};
 use script::Field;
 use wire::codes;
 
 #[derive(Clone, Copy)]
 pub(crate) enum Called {
-    Begun(Started),
+    Begun(Result<Started, StartRefused>),
     Ended(Outcome),
     NoSession,
     NotUnderstood,

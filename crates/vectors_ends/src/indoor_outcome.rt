@@ -1,21 +1,20 @@
 // The text after a call of the indoor end: its number, the request written, the phase, and then silence and resends made.
 use crate::{file, indoor_phase};
-use indoor_state::session::{Indoor, Outcome, Started};
+use indoor_state::session::{Indoor, Outcome, StartRefused, Started};
+use numbers::Numbered;
 use saying::Said;
 use wire::codes;
 
 pub(crate) fn outcome_text(outcome: Outcome, buffer: &[u8]) -> Said {
-    let answer = outcome.answer;
-    let session = outcome.session;
-    let said = Said::nothing().number(indoor_decide::answer_number(answer) as u64);
-    left(said, session, outcome.written, buffer)
+    let said = Said::nothing().number(u64::from(outcome.answer.number()));
+    left(said, outcome.session, outcome.written, buffer)
 }
 
-pub(crate) fn start_text(started: Started, buffer: &[u8]) -> Said {
-    let said = Said::nothing().number(indoor::started_number(started) as u64);
+pub(crate) fn start_text(started: Result<Started, StartRefused>, buffer: &[u8]) -> Said {
+    let said = Said::nothing().number(u64::from(started.number()));
     match started {
-        Started::Made { session, written } => left(said, session, written, buffer),
-        _ => said,
+        Ok(made) => left(said, made.session, made.written, buffer),
+        Err(_) => said,
     }
 }
 

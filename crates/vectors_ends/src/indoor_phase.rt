@@ -1,5 +1,6 @@
 // The indoor end's phase, with the milliseconds left of a wait (01, The indoor end's phases).
 use indoor_state::phase::{Phase, Progress};
+use numbers::Numbered;
 use saying::Said;
 
 pub(crate) fn add(said: Said, phase: Phase) -> Said {
@@ -11,7 +12,7 @@ pub(crate) fn add(said: Said, phase: Phase) -> Said {
         Phase::Done => said.text(b" Done"),
         Phase::Failed(reason) => said
             .text(b" Failed")
-            .number(indoor_decide::reason_number(reason) as u64),
+            .number(u64::from(reason.number())),
     }
 }
 

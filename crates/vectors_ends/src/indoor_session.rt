@@ -4,7 +4,7 @@ use crate::indoor_call::Called;
 use crate::indoor_word::{Act, Call};
 use crate::lend::Lending;
 use crate::{bench, indoor_call, indoor_outcome, indoor_word, lend};
-use indoor_state::session::Started;
+use indoor_state::session::{StartRefused, Started};
 use saying::Said;
 
 pub(crate) fn run(words: &[u8], indoors: Indoors, file: &[u8], buffer: &mut [u8]) -> Indoors {
@@ -80,12 +80,9 @@ fn after(called: Called, indoors: Indoors, buffer: &[u8]) -> Indoors {
 }
 
 // A start ends the session before it, also where it is refused (29, 46, 27): then there is no session.
-fn made(started: Started) -> Session {
+fn made(started: Result<Started, StartRefused>) -> Session {
     match started {
-        Started::Made {
-            session,
-            written: _,
-        } => Session::Of(session),
-        _ => Session::Nothing,
+        Ok(made) => Session::Of(made.session),
+        Err(_) => Session::Nothing,
     }
 }

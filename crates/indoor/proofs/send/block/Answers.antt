@@ -1,4 +1,4 @@
-use Rattle.std.proofs.Common.{rules, length-append}
+use Rattle.std.proofs.Common.{arith, length-append}
 use Rattle.basis.specs.Left.{answers, leaves}
 use Rattle.indoor_rules.specs.Send.{block_bytes}
 use Rattle.indoor_rules.proofs.Block.{block_written}
@@ -9,4 +9,5 @@ unfolding block_bytes
 returns c =
     let a = c.args in
     let head = c.message-head.ensures in
-    rw (leaves c.put.ensures, leaves head, answers head, c.block_at-part.ensures, block_written a.file.now a.number a.out.now (search rules), length-append)
+    let room = c.told-out in
+    rw (leaves c.put.ensures, leaves head, answers head, c.block_at-part.ensures, block_written a.file.now a.number a.out.now (omega arith), length-append)

@@ -11,4 +11,5 @@ unfolding message_of
 returns c =
     let a = c.args in
     let fits = request_fits a.request in
+    let room = c.told-out in
     rw (leaves c.send.ensures, c.write_request-message.ensures, sends_whole (request_bytes a.request) a.out.now fits (omega arith))
