@@ -1,17 +1,13 @@
 -- The order of the refusals said back, class by class, in every situation (01, Numbers we answer: PPM_RESET, 2, 3, 4, 5, 6).
-use mathlib.Core.Bool.{Bool, true, false, ◌&&◌}
+use mathlib.Core.Bool.{Bool, true, false}
 use mathlib.Core.Path.{◌≡◌, refl}
 use Rattle.std.specs.Prelude.{Ok, Err}
+use Rattle.std.proofs.Math.Bool.{and-false}
 use Rattle.basis.specs.Pick.{pick}
 use Rattle.commands.specs.declared.table.Class.TheVariants.{Reset, Cancel, Acknowledge, Enable, Run, NotSupported}
 use Rattle.mailbox_state.specs.declared.answer.Refusal.TheVariants.{NotificationsOff, CommandRuns, AcknowledgementDue, NothingToClear, NothingToCancel}
 use Rattle.mailbox_state.specs.declared.situation.Situation.{Situation}
 use Rattle.mailbox_rules.specs.Refusal.{refusal_of}
-
--- What no test of 0x05 looks at.
-and_no : (b : Bool) → (b && false) ≡ false
-and_no true = refl
-and_no false = refl
 
 -- PPM_RESET: accepted always.
 pub reset_taken : (s : Situation) → refusal_of Reset s ≡ Ok tt
@@ -41,7 +37,7 @@ pub running_3 : (s : Situation) → s.runs ≡ true → Running s
 unfolding refusal_of pick
 running_3 s runs =
     record {
-      enable = rw (and_no s.off, runs);
+      enable = rw (and-false s.off, runs);
       acknowledge = λ on. rw (on, runs);
       run = λ on. rw (on, runs);
       not_supported = λ on. rw (on, runs);
@@ -60,7 +56,7 @@ pub due_4 : (s : Situation) → s.runs ≡ false → s.due ≡ true → Due s
 unfolding refusal_of pick
 due_4 s still due =
     record {
-      enable = rw (and_no s.off, still, due);
+      enable = rw (and-false s.off, still, due);
       cancel = λ on. rw (on, still, due);
       run = λ on. rw (on, still, due);
       not_supported = λ on. rw (on, still, due);
@@ -109,7 +105,7 @@ pub free : (s : Situation) → s.runs ≡ false → s.due ≡ false → Free s
 unfolding refusal_of pick
 free s still not =
     record {
-      enable = rw (and_no s.off, still, not);
+      enable = rw (and-false s.off, still, not);
       cancel = λ on. rw (on, still, not);
       run = λ on. rw (on, still, not);
       not_supported = λ on. rw (on, still, not);

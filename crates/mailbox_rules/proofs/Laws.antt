@@ -121,17 +121,8 @@ pub fresh : (count : ℕ) → Fresh (fresh_mailbox count)
 unfolding fresh_mailbox zero_message_in cci_bits_of
 fresh count = record { cci = refl; notifications = refl; message = refl; status = refl; changes = refl }
 
--- A count from 1 to 8 makes a fresh mailbox with so many connectors.
+-- A count that is not 1 to 8 is 29, and no mailbox is made.
 module _ (count : ℕ) where
-  pub fresh_made : 1 ≤ count → count ≤ 8 → mailbox_fresh_of count ≡ Ok (fresh_mailbox count)
-  unfolding mailbox_fresh_of
-  fresh_made low high = ap counted_mailbox (counted count low high)
-
-  pub fresh_counts : (fresh_mailbox count).state.connectors ≡ count
-  unfolding fresh_mailbox
-  fresh_counts = refl
-
-  -- Any other count is 29, and no mailbox is made.
   pub fresh_29_above : 8 < count → mailbox_fresh_of count ≡ Err (record {})
   unfolding mailbox_fresh_of
   fresh_29_above h = ap counted_mailbox (many_refused count h)
@@ -139,6 +130,15 @@ module _ (count : ℕ) where
   pub fresh_29_zero : count ≡ 0 → mailbox_fresh_of count ≡ Err (record {})
   unfolding mailbox_fresh_of
   fresh_29_zero e = ap counted_mailbox (none_refused count e)
+
+  -- A count from 1 to 8 makes a fresh mailbox with so many connectors.
+  pub fresh_made : 1 ≤ count → count ≤ 8 → mailbox_fresh_of count ≡ Ok (fresh_mailbox count)
+  unfolding mailbox_fresh_of
+  fresh_made low high = ap counted_mailbox (counted count low high)
+
+  pub fresh_counts : (fresh_mailbox count).state.connectors ≡ count
+  unfolding fresh_mailbox
+  fresh_counts = refl
 
   -- What holds where none is made, and of the fresh mailbox of a count from 1 to 8, holds of every start.
   pub fresh_all : (P : Result Mailbox NoMailbox → Type 0) → P (Err (record {})) → (1 ≤ count → count ≤ 8 → P (Ok (fresh_mailbox count))) → P (mailbox_fresh_of count)

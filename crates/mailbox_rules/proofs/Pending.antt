@@ -3,14 +3,12 @@ use Prim.Native.Nat.{ℕ}
 use mathlib.Core.Bool.{Bool, true, false}
 use mathlib.Core.Logic.{◌⊎◌, inl, inr}
 use mathlib.Core.Path.{◌≡◌, refl, sym, ◌∙◌, ap}
-use native.Mathlib.Omega.{arith}
 use Rattle.std.specs.Prelude.{Ok}
 use Rattle.commands.specs.Table.{entry_of}
 use Rattle.commands.proofs.Rows.{Named, named}
 use Rattle.commands.specs.declared.table.Class.{Class}
 use Rattle.commands.specs.declared.table.Class.TheVariants as class
 use Rattle.commands.specs.declared.control.Control.{Control}
-use Rattle.mailbox_state.specs.Answer.{mailbox_number_of}
 use Rattle.mailbox_state.specs.Status.{runs_of, due_of}
 use Rattle.mailbox_state.specs.declared.situation.Situation.{Situation}
 use Rattle.mailbox_state.specs.declared.status.CommandStatus.{CommandStatus}
@@ -37,16 +35,16 @@ due_still Acknowledged e = refl
 ending : (class : Class) (s : Situation) (off completed : Bool) (code : ℕ) → s.off ≡ off → s.completed ≡ completed → s.runs ≡ false → s.due ≡ true
     → refusal_of class s ≡ Ok tt → Named code class → ResetOrAcknowledge code completed
 ending class.Reset s off completed code o c r d e h = reset h
-ending class.Acknowledge s true completed code o c r d e h = absurd (omega (arith, ap mailbox_number_of (sym (off_2 s o).acknowledge ∙ e)))
+ending class.Acknowledge s true completed code o c r d e h = cc (sym (off_2 s o).acknowledge ∙ e)
 ending class.Acknowledge s false true code o c r d e h = acknowledged h refl
-ending class.Acknowledge s false false code o c r d e h = absurd (omega (arith, ap mailbox_number_of (sym ((due_4 s r d).acknowledge o c) ∙ e)))
-ending class.Cancel s true completed code o c r d e h = absurd (omega (arith, ap mailbox_number_of (sym (off_2 s o).cancel ∙ e)))
-ending class.Cancel s false completed code o c r d e h = absurd (omega (arith, ap mailbox_number_of (sym ((due_4 s r d).cancel o) ∙ e)))
-ending class.Enable s off completed code o c r d e h = absurd (omega (arith, ap mailbox_number_of (sym (due_4 s r d).enable ∙ e)))
-ending class.Run s true completed code o c r d e h = absurd (omega (arith, ap mailbox_number_of (sym (off_2 s o).run ∙ e)))
-ending class.Run s false completed code o c r d e h = absurd (omega (arith, ap mailbox_number_of (sym ((due_4 s r d).run o) ∙ e)))
-ending class.NotSupported s true completed code o c r d e h = absurd (omega (arith, ap mailbox_number_of (sym (off_2 s o).not_supported ∙ e)))
-ending class.NotSupported s false completed code o c r d e h = absurd (omega (arith, ap mailbox_number_of (sym ((due_4 s r d).not_supported o) ∙ e)))
+ending class.Acknowledge s false false code o c r d e h = cc (sym ((due_4 s r d).acknowledge o c) ∙ e)
+ending class.Cancel s true completed code o c r d e h = cc (sym (off_2 s o).cancel ∙ e)
+ending class.Cancel s false completed code o c r d e h = cc (sym ((due_4 s r d).cancel o) ∙ e)
+ending class.Enable s off completed code o c r d e h = cc (sym (due_4 s r d).enable ∙ e)
+ending class.Run s true completed code o c r d e h = cc (sym (off_2 s o).run ∙ e)
+ending class.Run s false completed code o c r d e h = cc (sym ((due_4 s r d).run o) ∙ e)
+ending class.NotSupported s true completed code o c r d e h = cc (sym (off_2 s o).not_supported ∙ e)
+ending class.NotSupported s false completed code o c r d e h = cc (sym ((due_4 s r d).not_supported o) ∙ e)
 
 abbrev IsDue : Step → Type 0
 IsDue step = due_of step.state.status ≡ true
@@ -68,13 +66,13 @@ module _ (state : State) (control : Control) where
 stopping : (class : Class) (s : Situation) (off : Bool) (code : ℕ) → s.off ≡ off → s.runs ≡ true → refusal_of class s ≡ Ok tt → Named code class → ResetOrCancel code
 stopping class.Reset s off code o r e h = by_reset h
 stopping class.Cancel s off code o r e h = by_cancel h
-stopping class.Acknowledge s true code o r e h = absurd (omega (arith, ap mailbox_number_of (sym (off_2 s o).acknowledge ∙ e)))
-stopping class.Acknowledge s false code o r e h = absurd (omega (arith, ap mailbox_number_of (sym ((running_3 s r).acknowledge o) ∙ e)))
-stopping class.Enable s off code o r e h = absurd (omega (arith, ap mailbox_number_of (sym (running_3 s r).enable ∙ e)))
-stopping class.Run s true code o r e h = absurd (omega (arith, ap mailbox_number_of (sym (off_2 s o).run ∙ e)))
-stopping class.Run s false code o r e h = absurd (omega (arith, ap mailbox_number_of (sym ((running_3 s r).run o) ∙ e)))
-stopping class.NotSupported s true code o r e h = absurd (omega (arith, ap mailbox_number_of (sym (off_2 s o).not_supported ∙ e)))
-stopping class.NotSupported s false code o r e h = absurd (omega (arith, ap mailbox_number_of (sym ((running_3 s r).not_supported o) ∙ e)))
+stopping class.Acknowledge s true code o r e h = cc (sym (off_2 s o).acknowledge ∙ e)
+stopping class.Acknowledge s false code o r e h = cc (sym ((running_3 s r).acknowledge o) ∙ e)
+stopping class.Enable s off code o r e h = cc (sym (running_3 s r).enable ∙ e)
+stopping class.Run s true code o r e h = cc (sym (off_2 s o).run ∙ e)
+stopping class.Run s false code o r e h = cc (sym ((running_3 s r).run o) ∙ e)
+stopping class.NotSupported s true code o r e h = cc (sym (off_2 s o).not_supported ∙ e)
+stopping class.NotSupported s false code o r e h = cc (sym ((running_3 s r).not_supported o) ∙ e)
 
 pub run_stays : (state : State) (control : Control) → runs_of state.status ≡ true → ((control_step_of state control).state.status ≡ state.status) ⊎ ResetOrCancel control.code
 run_stays state control h =

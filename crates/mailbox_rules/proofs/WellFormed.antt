@@ -13,7 +13,6 @@ use Rattle.commands.specs.declared.control.Control.{Control}
 use Rattle.commands.specs.declared.control.WrongLength.{WrongLength}
 use Rattle.commands.specs.declared.table.Class.{Class}
 use Rattle.commands.specs.declared.table.Class.TheVariants as class
-use Rattle.mailbox_state.specs.Answer.{mailbox_number_of}
 use Rattle.mailbox_state.specs.State.{off_of}
 use Rattle.mailbox_state.specs.Status.{runs_of}
 use Rattle.mailbox_state.specs.declared.state.State.{State}
@@ -57,7 +56,7 @@ module _ (state : State) (control : Control) where
   -- A command is refused with 2 while notifications are off.
   not_off : refusal_of class.Run (situation_of state control) ≡ Ok tt → (off : Bool) → off_of state.notifications ≡ off → off ≡ false
   not_off e false o = refl
-  not_off e true o = absurd (omega (arith, ap mailbox_number_of (sym (off_2 (situation_of state control) o).run ∙ e)))
+  not_off e true o = cc (sym (off_2 (situation_of state control) o).run ∙ e)
 
   starts_well : (entry_of control.code).class ≡ class.Run → refusal_of class.Run (situation_of state control) ≡ Ok tt
       → RunsWell (starts_command state needs_of control).state
