@@ -12,7 +12,7 @@ use Rattle.std.specs.Prelude.{Option, Some, None}
 use Rattle.replay.specs.declared.end.End.{End}
 use Rattle.replay.specs.declared.end.End.TheVariants.{Closed, ReadFailed, WriteFailed}
 use Rattle.replay.specs.declared.progress.Progress.{Progress}
-use Rattle.replay.specs.Turns.{begins, held_most, replay_state_at, turn_from, Took, Turned, EndsAs, Ran}
+use Rattle.replay.specs.Turns.{end_of, begins, held_most, replay_state_at, turn_from, Took, Turned, EndsAs, Ran}
 use Rattle.replay.proofs.Carry.{over_stops}
 
 abbrev played : List (List ℕ) → ReplayState
@@ -77,6 +77,10 @@ module _ (p : Progress) (buffer out : List ℕ) (x : Progress) (after lines : Li
       by (inr (inl e)) = stopped x after WriteFailed going.reads e tt
       by (inr (inr took)) = took_on turn.come took
 
--- A run that is over.
-pub going_ends : (p : Progress) (buffer : List ℕ) (end : End) → Going p buffer → p.end ≡ Some end → Ran end
-going_ends p buffer end going e = record { reads = going.reads; ended = subst (λ (course : Option End). OverAs course (played going.reads)) e going.over }
+pub going_ends : (p : Progress) (buffer : List ℕ) (end : End) → Going p buffer → end ≡ end_of p.end → Ran end
+going_ends p buffer end going e =
+    subst Ran (sym e) (record { reads = going.reads; ended = ends p.end going.over })
+  where
+    ends : (course : Option End) → OverAs course (played going.reads) → EndsAs (end_of course) (played going.reads)
+    ends None o = tt
+    ends (Some end) o = o

@@ -1,4 +1,7 @@
 // Why the program goes no further.
+ghost use Rattle.std.specs.Prelude.{◌≡◌};
+ghost use Rattle.replay.specs.Turns.{end_of};
+
 use playing::Stop;
 
 #[derive(Clone, Copy, Debug, PartialEq, Eq)]
@@ -8,4 +11,11 @@ pub(crate) enum End {
     ReadFailed,
     WriteFailed,
     TooManyReads,
+}
+
+// The end of a run whose turns are counted.
+pub(crate) fn end_of(end: Option<End>) -> End
+    ensures { result ≡ end_of end }
+{
+    end.unwrap_or(End::TooManyReads)
 }

@@ -8,7 +8,7 @@ mod say;
 ghost use Rattle.std.specs.Prelude.{◌≡◌};
 ghost use Rattle.replay.specs.Turns.{status_of, Ran};
 
-use end::End;
+use end::{End, end_of};
 use progress::Progress;
 use std::process::ExitCode;
 
@@ -43,10 +43,10 @@ fn replay(rt: &HostRuntime, buffer: &mut [u8; ROOM], out: &mut [u8; LINES]) -> E
 {
     let mut progress = Progress::begin();
     for _ in 0..u64::MAX {
-        progress = progress.turn(rt, buffer, out);
-        if let Some(end) = progress.end {
-            return end;
+        if progress.end.is_some() {
+            break;
         }
+        progress = progress.turn(rt, buffer, out);
     }
-    End::TooManyReads
+    end_of(progress.end)
 }
