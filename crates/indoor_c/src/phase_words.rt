@@ -1,6 +1,6 @@
 // A phase as words, and back.
 ghost use Rattle.std.specs.Prelude.{◌≡◌};
-ghost use Rattle.indoor_c.specs.PhaseWords.{indoor_phase_of, indoor_reason_of, is_failed_phase, is_indoor_phase, is_plain_phase, is_transfer_phase, phase_words_of};
+ghost use Rattle.indoor_c.specs.PhaseWords.{indoor_phase_of, indoor_reason_of, is_failed_phase, is_indoor_phase, is_plain_phase, is_transfer_phase, phase_words, phase_words_of};
 
 use crate::words::low;
 use indoor_state::phase::{Phase, Progress, Reason};
@@ -49,11 +49,7 @@ impl From<Phase> for PhaseWords {
     fn from(phase: Phase) -> PhaseWords {
         match phase {
             Phase::Identify => IDENTIFIES,
-            Phase::Initiate { wait } => PhaseWords {
-                phase: INITIATE,
-                wait: u32::from(wait),
-                ..IDENTIFIES
-            },
+            Phase::Initiate { wait } => PhaseWords::waiting(INITIATE, wait),
             Phase::Transfer(p) => PhaseWords {
                 phase: TRANSFER,
                 asked: u32::from(p.asked),
@@ -61,11 +57,7 @@ impl From<Phase> for PhaseWords {
                 emptied: u32::from(p.emptied),
                 ..IDENTIFIES
             },
-            Phase::Validate { wait } => PhaseWords {
-                phase: VALIDATE,
-                wait: u32::from(wait),
-                ..IDENTIFIES
-            },
+            Phase::Validate { wait } => PhaseWords::waiting(VALIDATE, wait),
             Phase::Done => PhaseWords {
                 phase: DONE,
                 ..IDENTIFIES
@@ -80,6 +72,17 @@ impl From<Phase> for PhaseWords {
 }
 
 impl PhaseWords {
+    // A phase that has a wait and no more.
+    fn waiting(phase: u32, wait: u16) -> PhaseWords
+        ensures { result ≡ phase_words phase 0 wait 0 0 }
+    {
+        PhaseWords {
+            phase,
+            wait: u32::from(wait),
+            ..IDENTIFIES
+        }
+    }
+
     // A code that is no phase's is read as Identify; `is_phase` is false of it.
     #[tactic(auto, using(basis::specs::Pick::tests), unfolding(crate::specs::PhaseWords::indoor_phase_of))]
     pub(crate) fn phase(self) -> Phase

@@ -34,7 +34,7 @@ impl From<OutOfLimits> for StartRefused {
     ghost from_gives = { λ _ refused. refused ≡ Settings };
 
     fn from(_refusal: OutOfLimits) -> StartRefused {
-        StartRefused::Settings
+        Self::Settings
     }
 }
 

@@ -1,4 +1,4 @@
-use Rattle.std.proofs.Common.{sym, ◌∙◌}
+use Rattle.std.proofs.Common.{rules, arith, sym, ◌∙◌}
 use Rattle.indoor_rules.specs.Start.{indoor_started_of}
 use Rattle.indoor_rules.proofs.Beginning.{begins}
 use Rattle.indoor_rules.proofs.Front.{begun_in_front}
@@ -12,4 +12,4 @@ returns c =
     let front = c.in-Some.ensures.cases in
     rw (← c.in_ok-settings.ensures)
     (begun_in_front _ a.out.now front.enough _ _ (rw (← front.same) c.begun.ensures)
-    ∙ sym (begins settings a.release a.file.now a.out.now c.if-length-eq0.false c.if-length-gt-IMAGE_SIZE_MOST.false front.enough))
+    ∙ sym (begins settings a.release a.file.now a.out.now (search rules) (omega arith) front.enough))
