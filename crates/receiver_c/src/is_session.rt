@@ -64,8 +64,11 @@ fn fit_fields(blocks: u32, silence: u32, resends: u32, flags: u32) -> bool
 fn is_phase(code: u32, blocks: u32, bytes: u32, short: u32) -> bool
     ensures { result ≡ is_receiver_phase code blocks bytes short }
 {
+    // Nearly every call comes in Transfer: its test comes before the match, which would be slower for it (docs/COSTS.md).
+    if code == words::TRANSFER {
+        return short <= 1;
+    }
     match code {
-        words::TRANSFER => short <= 1,
         words::IDLE => short == 0 && blocks == 0 && bytes == 0,
         words::AWAIT | words::GOOD => short == 0,
         _ => false,

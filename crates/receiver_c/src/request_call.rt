@@ -33,13 +33,15 @@ pub extern "C" fn harsolvek_receiver_request_raw(
         *written = 0;
         return NO_SESSION;
     }
+    // Right behind the test of the words, so that the compiler tests the code of the phase once.
+    let phase = unpack_phase(words);
     let later = to_byte(given[2]);
     let given = Given {
         readiness: to_byte(given[0]),
         verdict: verdict_of(given[1], later),
     };
     let heard = receiver::hear(
-        unpack_phase(words),
+        phase,
         words[words::CAPACITY],
         image,
         request,
