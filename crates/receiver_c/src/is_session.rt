@@ -64,13 +64,16 @@ fn fit_fields(blocks: u32, silence: u32, resends: u32, flags: u32) -> bool
 fn is_phase(code: u32, blocks: u32, bytes: u32, short: u32) -> bool
     ensures { result ≡ is_receiver_phase code blocks bytes short }
 {
-    // Nearly every call comes in Transfer: its test comes before the match, which would be slower for it (docs/COSTS.md).
+    // Nearly every call comes in Transfer: one match over the codes would cost it three instructions more (docs/COSTS.md).
     if code == words::TRANSFER {
         return short <= 1;
     }
+    if short != 0 {
+        return false;
+    }
     match code {
-        words::IDLE => short == 0 && blocks == 0 && bytes == 0,
-        words::AWAIT | words::GOOD => short == 0,
+        words::IDLE => blocks == 0 && bytes == 0,
+        words::AWAIT | words::GOOD => true,
         _ => false,
     }
 }
