@@ -1,11 +1,13 @@
 -- Both starts: what is refused, and that the ends are on a clean line once both are made.
 use Prim.Native.Nat.{ℕ, ◌≤◌}
+use mathlib.Core.Bool.{false}
 use mathlib.Core.Path.{◌≡◌, refl, sym, ◌∙◌, ap, subst}
 use mathlib.Core.List.{List, [], ◌∷◌}
 use native.Mathlib.Omega.{arith}
 use borrow.Author.Tests.{ne_eqb, le-ltb, ltb-true}
 use lib.Dec.{eqb, ltb}
 use lib.ListN.{length, take, length-take}
+use Rattle.std.specs.Result.{is_ok}
 use Rattle.std.proofs.Common.{Ok, Err}
 use Rattle.basis.specs.Pick.{pick, pick_all}
 use Rattle.basis.specs.Left.{Left, left}
@@ -23,7 +25,6 @@ use Rattle.receiver_rules.proofs.Fresh.{refused_made}
 use Rattle.indoor_state.specs.declared.plan.Release.{Release}
 use Rattle.indoor_state.specs.Session.{IndoorStart}
 use Rattle.indoor_rules.specs.Start.{indoor_begin_of, indoor_started_of, indoor_start_of}
-use Rattle.indoor_state.specs.declared.session.Indoor.{Indoor}
 use Rattle.indoor_state.specs.declared.session.Started.{Started}
 use Rattle.indoor_rules.proofs.Fresh.{start_fresh}
 use Rattle.line.specs.Line.{Wide}
@@ -49,8 +50,7 @@ made_settings limit resends identity capacity r =
     (λ _. made_checked identity capacity r (settings_of limit resends))
 
 abbrev pub NotMade : IndoorStart → Type 0
-NotMade (Ok begun) = ⊥
-NotMade (Err refused) = Unit
+NotMade x = false ≡ is_ok x
 
 module _ (release : Release) (identity : Identity) (file up memory : List ℕ) (room : 260 ≤ length up) where
   abbrev Refuses : Left IndoorStart → Type 0
@@ -63,7 +63,7 @@ module _ (release : Release) (identity : Identity) (file up memory : List ℕ) (
       (λ a. pick_all Refuses (ltb image_size_most (length file)) _ _ (λ b _. rw (a, b))
       (λ b. pick_all Refuses (ltb (length up) longest) _ _
       (λ short _. let few = ltb-true (length up) longest short in absurd (omega arith))
-      (λ _ h. absurd h)))
+      (λ _ h. cc)))
 
   module _ (limit resends : ℕ) (r : Receiver) (made : receiver_start_of limit resends r.identity (length memory) ≡ Ok r) where
     -- With settings that made a receiver and a buffer of 260 bytes, the start refuses nothing but the file's length (46).

@@ -46,9 +46,8 @@ fn begin(
     ensures { left result image.new ≡ clean_begun_of release receiver.identity file.now image.old }
 {
     let mut up = [0u8; codes::LONGEST];
-    let Ok(begun) = indoor::start(limit, resends, release, file, &mut up) else {
-        return Err(NotRun::FileSize);
-    };
+    let started = indoor::start(limit, resends, release, file, &mut up);
+    let begun = started.map_err(|_| NotRun::FileSize)?;
     let ends = Ends {
         receiver,
         indoor: begun.session,
