@@ -2,13 +2,14 @@
 use mathlib.Core.List.{[], ◌∷◌}
 use mathlib.Core.Path.{◌≡◌, refl}
 use lib.ListN.{replicate}
+use Rattle.std.specs.Prelude.{None, Some, option_map}
 use Rattle.basis.specs.Pick.{pick}
 use Rattle.printing.specs.Digits.{digit_of}
 use Rattle.script.specs.Words.{index_of, first_word_of, script_word_at}
 use Rattle.script.specs.Digits.{digit_read_of as digit_in}
-use Rattle.script.specs.Decimal.{added_of, decimal_step_of}
-use Rattle.script.specs.Fields.{next_field_of, is_last_field}
-use Rattle.saying.specs.Said.{said, empty_text, not_understood, said_text_of, appended_of, character_of, said_lines_of}
+use Rattle.script.specs.Decimal.{added_of, decimal_begun}
+use Rattle.script.specs.Fields.{next_field_of}
+use Rattle.saying.specs.Said.{said, empty_text, said_text_of, appended_of, character_of, said_lines_of}
 use Rattle.saying.specs.Hex.{hex_byte_text_of, hex_word_text_of, hex_shown_of}
 use Rattle.saying.specs.Decimal.{front_of, number_text_of, range_of}
 use Rattle.saying.specs.Look.{look_of}
@@ -28,10 +29,10 @@ pub record Cases : Type 0 where
   pub one : said_text_of (range_of blank 3 3) ≡ 0x20 ∷ 0x33 ∷ []
   pub two : said_text_of (range_of blank 3 5) ≡ 0x20 ∷ 0x33 ∷ 0x2D ∷ 0x35 ∷ []
   pub lines : said_text_of (said_lines_of blank (0x61 ∷ 0x0A ∷ 0x62 ∷ [])) ≡ 0x20 ∷ 0x61 ∷ 0x2F ∷ 0x62 ∷ []
-  pub looked : said_text_of (look_of (0x20 ∷ 0x31 ∷ 0x20 ∷ 0x32 ∷ []) (0xAA ∷ 0x01 ∷ 0x02 ∷ [])) ≡ 0x20 ∷ 0x30 ∷ 0x31 ∷ 0x20 ∷ 0x30 ∷ 0x32 ∷ []
-  pub too_far : look_of (0x20 ∷ 0x32 ∷ 0x20 ∷ 0x32 ∷ []) (0xAA ∷ 0x01 ∷ 0x02 ∷ []) ≡ not_understood
+  pub looked : option_map said_text_of (look_of (0x20 ∷ 0x31 ∷ 0x20 ∷ 0x32 ∷ []) (0xAA ∷ 0x01 ∷ 0x02 ∷ [])) ≡ Some (0x20 ∷ 0x30 ∷ 0x31 ∷ 0x20 ∷ 0x30 ∷ 0x32 ∷ [])
+  pub too_far : look_of (0x20 ∷ 0x32 ∷ 0x20 ∷ 0x32 ∷ []) (0xAA ∷ 0x01 ∷ 0x02 ∷ []) ≡ None
   pub no_lines : said_text_of (said_lines_of blank []) ≡ 0x20 ∷ 0x2D ∷ []
 
 pub cases : Cases
-unfolding pick empty_text appended_of character_of said_lines_of hex_shown_of front_of range_of digit_of index_of first_word_of script_word_at digit_in added_of decimal_step_of next_field_of is_last_field look_of
+unfolding pick empty_text appended_of character_of said_lines_of hex_shown_of front_of range_of digit_of index_of first_word_of script_word_at digit_in added_of decimal_begun next_field_of look_of
 cases = record { byte = refl; wide = refl; bytes = refl; no_bytes = refl; number = refl; one = refl; two = refl; lines = refl; looked = refl; too_far = refl; no_lines = refl }

@@ -1,10 +1,10 @@
 -- Each public contract leaves one answer and one state of the lent memory. Written from the contracts by tools/contracts.
-use Rattle.std.specs.Prelude.{ℕ, ◌≡◌, List}
+use Rattle.std.specs.Prelude.{ℕ, ◌≡◌, Option, List}
 use Rattle.basis.specs.Only.{only}
 use Rattle.saying.specs.Decimal.{number_text_of, range_of}
 use Rattle.saying.specs.Hex.{hex_byte_text_of, hex_word_text_of, hex_bytes_text_of, hex_shown_of}
 use Rattle.saying.specs.Look.{look_of}
-use Rattle.saying.specs.Said.{empty_text, not_understood, appended_of, said_lines_of}
+use Rattle.saying.specs.Said.{empty_text, not_understood, said_text_of, appended_of, said_lines_of}
 use Rattle.saying.specs.declared.said.Said.{Said}
 
 pub one_number : (self : Said) (n : ℕ) (r r' : Said)
@@ -43,7 +43,7 @@ pub one_shown : (self : Said) (s : List ℕ) (r r' : Said)
     → r ≡ r'
 one_shown self s r r' is is' = only is is'
 
-pub one_look : (words memory : List ℕ) (r r' : Said)
+pub one_look : (words memory : List ℕ) (r r' : Option Said)
     → r ≡ look_of words memory
     → r' ≡ look_of words memory
     → r ≡ r'
@@ -60,6 +60,12 @@ pub one_not_understood : (r r' : Said)
     → r' ≡ not_understood
     → r ≡ r'
 one_not_understood r r' is is' = only is is'
+
+pub one_as_bytes : (self : Said) (r r' : List ℕ)
+    → r ≡ said_text_of self
+    → r' ≡ said_text_of self
+    → r ≡ r'
+one_as_bytes self r r' is is' = only is is'
 
 pub one_text : (self : Said) (s : List ℕ) (r r' : Said)
     → r ≡ appended_of self s

@@ -1,6 +1,6 @@
 -- Bytes and a number of 32 bits as capital hex digits.
-use Rattle.std.specs.Prelude.{ℕ, eqb, length}
-use mathlib.Core.List.{List, [], ◌∷◌, foldl}
+use Rattle.std.specs.Prelude.{ℕ, eqb, length, fold}
+use mathlib.Core.List.{List, [], ◌∷◌}
 use Rattle.basis.specs.Pick.{pick}
 use Rattle.printing.specs.Digits.{hex_of}
 use Rattle.printing.specs.Line.{space}
@@ -14,7 +14,7 @@ abbrev pub hex_word_text_of : Said → ℕ → Said
 hex_word_text_of t n = appended_of (appended_of t (space ∷ [])) (hex_of 8 n)
 
 abbrev pub hex_bytes_text_of : Said → List ℕ → Said
-hex_bytes_text_of t s = foldl hex_byte_text_of t s
+hex_bytes_text_of t s = fold hex_byte_text_of t s
 
 -- A hyphen for no bytes.
 unfoldable pub hex_shown_of : Said → List ℕ → Said

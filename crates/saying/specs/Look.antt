@@ -1,25 +1,25 @@
 -- Two numbers of a line that name bytes of a memory: a place and a count.
-use Rattle.std.specs.Prelude.{ℕ, not, List, ltb, length, take, drop}
+use Rattle.std.specs.Prelude.{ℕ, not, Option, None, Some, List, ltb, length, take, drop}
 use Rattle.basis.specs.Pick.{pick}
 use Rattle.script.specs.Fields.{fields_begun, next_field_of, is_last_field}
 use Rattle.script.specs.Spelling.{spelled_room}
 use Rattle.script.specs.declared.field.Field.{Field}
-use Rattle.saying.specs.Said.{empty_text, not_understood}
+use Rattle.saying.specs.Said.{empty_text}
 use Rattle.saying.specs.Hex.{hex_shown_of}
 use Rattle.saying.specs.declared.said.Said.{Said}
 
-abbrev pub look_place_of : List ℕ → List ℕ → Field
-look_place_of words memory = next_field_of fields_begun words (length memory)
+-- The bytes of the memory from the place on, as many as the count says.
+abbrev pub looked_at : List ℕ → ℕ → Option Said
+looked_at behind count = pick (ltb (length behind) count) None (Some (hex_shown_of empty_text (take count behind)))
 
-abbrev pub look_count_of : List ℕ → List ℕ → Field
-look_count_of words memory = next_field_of (look_place_of words memory) words spelled_room
+abbrev pub look_count_of : List ℕ → List ℕ → Field → Option Field → Option Said
+look_count_of words memory place None = None
+look_count_of words memory place (Some count) = pick (not (is_last_field count words)) None (looked_at (drop place.value memory) count.value)
 
-abbrev pub look_from_of : List ℕ → List ℕ → List ℕ
-look_from_of words memory = drop (look_place_of words memory).value memory
+abbrev pub look_place_of : List ℕ → List ℕ → Option Field → Option Said
+look_place_of words memory None = None
+look_place_of words memory (Some place) = look_count_of words memory place (next_field_of place words spelled_room)
 
 -- The line has these two numbers alone, and the memory has that many bytes from the place on.
-unfoldable pub look_of : List ℕ → List ℕ → Said
-look_of words memory =
-    pick (not (is_last_field (look_count_of words memory) words)) not_understood
-    (pick (ltb (length (look_from_of words memory)) (look_count_of words memory).value) not_understood
-    (hex_shown_of empty_text (take (look_count_of words memory).value (look_from_of words memory))))
+unfoldable pub look_of : List ℕ → List ℕ → Option Said
+look_of words memory = look_place_of words memory (next_field_of fields_begun words (length memory))

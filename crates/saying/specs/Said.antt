@@ -1,6 +1,6 @@
 -- A text that is put together piece by piece.
-use Rattle.std.specs.Prelude.{ℕ, ◌+◌, eqb, ltb, length, take, replicate}
-use mathlib.Core.List.{List, [], ◌∷◌, foldl}
+use Rattle.std.specs.Prelude.{ℕ, ◌+◌, fold, eqb, ltb, length, take, replicate}
+use mathlib.Core.List.{List, [], ◌∷◌}
 use Rattle.basis.specs.Pick.{pick}
 use Rattle.lent.specs.Put.{pasted}
 use Rattle.printing.specs.Line.{space, newline}
@@ -44,5 +44,8 @@ none_of t = appended_of t (space ∷ hyphen ∷ [])
 unfoldable pub character_of : Said → ℕ → Said
 character_of t c = pick (eqb c newline) (appended_of t (slash ∷ [])) (appended_of t (c ∷ []))
 
+abbrev pub characters_of : Said → List ℕ → Said
+characters_of t s = fold character_of t s
+
 unfoldable pub said_lines_of : Said → List ℕ → Said
-said_lines_of t s = pick (eqb (length s) 0) (none_of t) (foldl character_of (appended_of t (space ∷ [])) s)
+said_lines_of t s = pick (eqb (length s) 0) (none_of t) (characters_of (appended_of t (space ∷ [])) s)

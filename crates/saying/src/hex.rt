@@ -8,8 +8,8 @@ impl Said {
     pub fn hex(self, b: u8) -> Said
         ensures { result ≡ hex_byte_text_of self b }
     {
-        let digits = printing::hex::digits(b as u32);
-        self.text(&[b' ', digits[6], digits[7]])
+        let [.., high, low] = printing::hex::digits(u32::from(b));
+        self.text(&[b' ', high, low])
     }
 
     // As CCI has (01, The mailbox): eight digits in one word.
@@ -23,13 +23,7 @@ impl Said {
     pub fn all(self, s: &[u8]) -> Said
         ensures { result ≡ hex_bytes_text_of self s.now }
     {
-        let mut said = self;
-        let mut i = 0;
-        while i < s.len() {
-            said = said.hex(s[i]);
-            i += 1;
-        }
-        said
+        s.iter().fold(self, |said, b| said.hex(*b))
     }
 
     // A hyphen for no bytes.
@@ -37,7 +31,7 @@ impl Said {
     pub fn shown(self, s: &[u8]) -> Said
         ensures { result ≡ hex_shown_of self s.now }
     {
-        if s.len() == 0 {
+        if s.is_empty() {
             return self.text(b" -");
         }
         self.all(s)

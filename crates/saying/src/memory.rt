@@ -7,17 +7,17 @@ use script::Field;
 
 // The line's two numbers are a place and a count. Bytes past the memory's end, and more than a line can spell, are not understood.
 #[tactic(auto, using(basis::specs::Pick::tests), unfolding(crate::specs::Look::look_of))]
-pub fn look(words: &[u8], memory: &[u8]) -> Said
+pub fn look(words: &[u8], memory: &[u8]) -> Option<Said>
     ensures { result ≡ look_of words.now memory.now }
 {
-    let place = Field::none().next(words, memory.len());
-    let count = place.next(words, script::ROOM);
+    let place = Field::none().next(words, memory.len())?;
+    let count = place.next(words, script::ROOM)?;
     if !count.is_last(words) {
-        return Said::not_understood();
+        return None;
     }
     let behind = script::from(memory, place.value);
     if behind.len() < count.value {
-        return Said::not_understood();
+        return None;
     }
-    Said::nothing().shown(script::upto(behind, count.value))
+    Some(Said::nothing().shown(script::upto(behind, count.value)))
 }

@@ -1,6 +1,6 @@
 // The text after a line of the script. Each piece has its space in front.
 ghost use Rattle.std.specs.Prelude.{◌≡◌};
-ghost use Rattle.saying.specs.Said.{empty_text, not_understood, appended_of, said_lines_of, character_of};
+ghost use Rattle.saying.specs.Said.{empty_text, not_understood, said_text_of, appended_of, said_lines_of, characters_of, character_of};
 
 // More than the longest text, that of a replay: 4,000 bytes of lines, and the numbers before and after them.
 const ROOM: usize = 4096;
@@ -30,6 +30,13 @@ impl Said {
         Said::nothing().text(b" not understood")
     }
 
+    // The characters that are printed.
+    pub fn as_bytes(&self) -> &[u8]
+        ensures { result.now ≡ said_text_of self.now }
+    {
+        script::upto(&self.bytes, self.len)
+    }
+
     // A piece that has no room is left out.
     pub fn text(self, s: &[u8]) -> Said
         ensures { result ≡ appended_of self s.now }
@@ -51,25 +58,25 @@ impl Said {
     pub fn lines(self, s: &[u8]) -> Said
         ensures { result ≡ said_lines_of self s.now }
     {
-        if s.len() == 0 {
+        if s.is_empty() {
             return self.text(b" -");
         }
-        let mut said = self.text(b" ");
-        let mut i = 0;
-        while i < s.len() {
-            said = said.character(s[i]);
-            i += 1;
-        }
-        said
+        self.text(b" ").characters(s)
+    }
+
+    fn characters(self, s: &[u8]) -> Said
+        ensures { result ≡ characters_of self s.now }
+    {
+        s.iter().fold(self, |said, c| said.character(*c))
     }
 
     #[tactic(auto, using(basis::specs::Pick::tests), unfolding(crate::specs::Said::character_of))]
     fn character(self, c: u8) -> Said
         ensures { result ≡ character_of self c }
     {
-        if c == b'\n' {
-            return self.text(b"/");
+        match c {
+            b'\n' => self.text(b"/"),
+            _ => self.text(&[c]),
         }
-        self.text(&[c])
     }
 }

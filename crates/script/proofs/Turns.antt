@@ -1,26 +1,26 @@
 -- What words spell, word by word.
-use Prim.Native.Nat.{ℕ, zero, suc, ◌+◌, ◌<◌, ◌≤◌}
-use mathlib.Core.Path.{◌≡◌, refl, sym, ◌∙◌, ap}
+use Prim.Native.Nat.{ℕ, zero, suc, ◌<◌, ◌≤◌}
+use mathlib.Core.Path.{◌≡◌, refl, sym, ◌∙◌}
 use mathlib.Core.List.{List, [], ◌∷◌}
 use native.Mathlib.Nat.{le_refl}
 use native.Mathlib.Omega.{arith}
 use borrow.Author.Tests.{eq-eqb, ne_eqb}
 use lib.ListN.{length, drop, length-drop}
+use Rattle.std.specs.Prelude.{Option, None, Some}
 use Rattle.basis.specs.Pick.{pick_yes, pick_no}
 use Rattle.script.specs.Words.{after_first_word_of, script_word_at}
 use Rattle.script.specs.Runs.{byte_run_of}
 use Rattle.script.specs.Spelling.{spelled_in, spelled_grown, spelled_onward, spelled_turns, spelled_behind}
 use Rattle.script.specs.declared.run.Run.{Run}
-use Rattle.script.specs.declared.run.Run.TheVariants.{Of, Other}
 use Rattle.script.specs.declared.spelling.Spelled.{Spelled}
-use Rattle.script.proofs.WordLaws.{rest_short, word_on, rest_on}
+use Rattle.script.proofs.WordLaws.{rest_short}
 
 -- Two ways to read on that agree on the rest agree on a word and the rest.
-rest_same : (f g : List ℕ → Spelled) (read : List ℕ) (run : Run) → ((r : List ℕ) → f r ≡ g r) → spelled_onward f read run ≡ spelled_onward g read run
-rest_same f g read (Of byte times) e = e (spelled_grown read byte times)
-rest_same f g read Other e = refl
+rest_same : (f g : List ℕ → Option Spelled) (read : List ℕ) (run : Option Run) → ((r : List ℕ) → f r ≡ g r) → spelled_onward f read run ≡ spelled_onward g read run
+rest_same f g read None e = refl
+rest_same f g read (Some run) e = e (spelled_grown read run.byte run.times)
 
-turn_end : (left : ℕ) (words read : List ℕ) → length words ≡ 0 → spelled_turns left words read ≡ spelled_in read
+turn_end : (left : ℕ) (words read : List ℕ) → length words ≡ 0 → spelled_turns left words read ≡ Some (spelled_in read)
 unfolding spelled_turns
 turn_end zero words read e = refl
 turn_end (suc left) words read e = pick_yes _ _ _ (eq-eqb (length words) 0 e)
@@ -41,10 +41,10 @@ enough (suc j) (suc k) (c ∷ words) read a b =
     ∙ rest_same (spelled_turns j (after_first_word_of words)) (spelled_turns k (after_first_word_of words)) read (byte_run_of (script_word_at (c ∷ words) 0)) (λ r. enough j k (after_first_word_of words) r (omega arith) (omega arith))
     ∙ sym (turn_more k (c ∷ words) read (omega arith))
 
-pub behind_end : (words read : List ℕ) → length words ≡ 0 → spelled_behind words read ≡ spelled_in read
+pub behind_end : (words read : List ℕ) → length words ≡ 0 → spelled_behind words read ≡ Some (spelled_in read)
 behind_end words read e = turn_end (length words) words read e
 
-behind_more : (words read : List ℕ) → 0 < length words → spelled_behind words read ≡ spelled_onward (λ r. spelled_behind (after_first_word_of (drop 1 words)) r) read (byte_run_of (script_word_at words 0))
+pub behind_more : (words read : List ℕ) → 0 < length words → spelled_behind words read ≡ spelled_onward (λ r. spelled_behind (after_first_word_of (drop 1 words)) r) read (byte_run_of (script_word_at words 0))
 behind_more words read h =
     let rest : List ℕ = after_first_word_of (drop 1 words) in
     let short = rest_short (drop 1 words) in
@@ -52,12 +52,3 @@ behind_more words read h =
     enough (length words) (suc (length words)) words read (le_refl (length words)) (omega arith)
     ∙ turn_more (length words) words read h
     ∙ rest_same (spelled_turns (length words) rest) (λ r. spelled_behind rest r) read (byte_run_of (script_word_at words 0)) (λ r. enough (length words) (length rest) rest r (omega arith) (le_refl (length rest)))
-
--- The same from every place in the words on.
-pub behind_at : (words : List ℕ) (at : ℕ) (read : List ℕ) → at < length words
-    → spelled_behind (drop at words) read ≡ spelled_onward (λ r. spelled_behind (drop (at + 1 + length (script_word_at words at)) words) r) read (byte_run_of (script_word_at words at))
-behind_at words at read h =
-    let more : 0 < length (drop at words) = simp length-drop (omega arith) in
-    behind_more (drop at words) read more
-    ∙ ap (λ (l : List ℕ). spelled_onward (λ r. spelled_behind l r) read (byte_run_of (script_word_at (drop at words) 0))) (rest_on words at)
-    ∙ ap (λ (w : List ℕ). spelled_onward (λ r. spelled_behind (drop (at + 1 + length (script_word_at words at)) words) r) read (byte_run_of w)) (word_on words at)

@@ -1,13 +1,12 @@
 -- Each public contract leaves one answer and one state of the lent memory. Written from the contracts by tools/contracts.
-use Rattle.std.specs.Prelude.{◌≡◌, List, ℕ, Bool, drop, take, min, length}
+use Rattle.std.specs.Prelude.{◌≡◌, Option, List, ℕ, Bool, drop, take, min, length}
 use Rattle.basis.specs.Only.{only}
 use Rattle.script.specs.Decimal.{decimal_read_of}
 use Rattle.script.specs.Fields.{fields_begun, next_field_of, field_byte_of, field_word_of, is_last_field}
 use Rattle.script.specs.Heading.{asks_of}
-use Rattle.script.specs.Spelling.{spell_of}
+use Rattle.script.specs.Spelling.{spelled_bytes_of, spell_of}
 use Rattle.script.specs.Words.{first_word_of, after_first_word_of}
 use Rattle.script.specs.declared.field.Field.{Field}
-use Rattle.script.specs.declared.number.Number.{Number}
 use Rattle.script.specs.declared.spelling.Spelled.{Spelled}
 
 pub one_none : (r r' : Field)
@@ -16,7 +15,7 @@ pub one_none : (r r' : Field)
     → r ≡ r'
 one_none r r' is is' = only is is'
 
-pub one_next : (self : Field) (words : List ℕ) (most : ℕ) (r r' : Field)
+pub one_next : (self : Field) (words : List ℕ) (most : ℕ) (r r' : Option Field)
     → r ≡ next_field_of self words most
     → r' ≡ next_field_of self words most
     → r ≡ r'
@@ -46,7 +45,7 @@ pub one_asks : (line : List ℕ) (r r' : Bool)
     → r ≡ r'
 one_asks line r r' is is' = only is is'
 
-pub one_decimal : (s : List ℕ) (most : ℕ) (r r' : Number)
+pub one_decimal : (s : List ℕ) (most : ℕ) (r r' : Option ℕ)
     → r ≡ decimal_read_of s most
     → r' ≡ decimal_read_of s most
     → r ≡ r'
@@ -70,7 +69,13 @@ pub one_part_of : (memory : List ℕ) (wanted r r' : ℕ)
     → r ≡ r'
 one_part_of memory wanted r r' is is' = only is is'
 
-pub one_spell : (words : List ℕ) (r r' : Spelled)
+pub one_as_bytes : (self : Spelled) (r r' : List ℕ)
+    → r ≡ spelled_bytes_of self
+    → r' ≡ spelled_bytes_of self
+    → r ≡ r'
+one_as_bytes self r r' is is' = only is is'
+
+pub one_spell : (words : List ℕ) (r r' : Option Spelled)
     → r ≡ spell_of words
     → r' ≡ spell_of words
     → r ≡ r'

@@ -4,7 +4,7 @@ use mathlib.Core.Path.{◌≡◌, refl, sym, ◌∙◌, ap}
 use mathlib.Core.List.{List, [], ◌∷◌}
 use native.Mathlib.Omega.{arith}
 use lib.ListN.{length, take, drop, length-take, length-drop}
-use lib.Seq.{length-take-le, drop-drop}
+use lib.Seq.{length-take-le}
 use Rattle.basis.specs.Lists.{tail_all, take_own}
 use Rattle.std.specs.Prelude.{Option, MatchOption, unwrap_or}
 use Rattle.std.specs.List.{AllWithin, HoldsAt}
@@ -52,11 +52,17 @@ module _ (words : List ℕ) (at : ℕ) where
   unfolding script_word_at first_word_of
   word_within h = simp (length-take, length-drop) (omega arith)
 
-  -- From place `at` on, the first word is the word at `at`, and what follows it there is what follows it here.
-  pub word_on : script_word_at (drop at words) 0 ≡ script_word_at words at
+-- The first of the words, and those behind it, as the code takes them behind the first space.
+module _ (words : List ℕ) where
+  pub word_here : (word : List ℕ) → word ≡ first_word_of (take (length words - 1) (drop 1 words)) → word ≡ script_word_at words 0
   unfolding script_word_at
-  word_on = ap first_word_of (drop-drop 1 at words)
+  word_here word e = e ∙ ap first_word_of (tail_all 1 words)
 
-  pub rest_on : after_first_word_of (drop 1 (drop at words)) ≡ drop (at + 1 + length (script_word_at words at)) words
-  unfolding after_first_word_of script_word_at
-  rest_on = ap after_first_word_of (drop-drop 1 at words) ∙ drop-drop (length (first_word_of (drop (at + 1) words))) (at + 1) words
+  pub rest_here : (rest : List ℕ) → rest ≡ after_first_word_of (take (length words - 1) (drop 1 words)) → rest ≡ after_first_word_of (drop 1 words)
+  rest_here rest e = e ∙ ap after_first_word_of (tail_all 1 words)
+
+  pub rest_less : (rest : List ℕ) → rest ≡ after_first_word_of (take (length words - 1) (drop 1 words)) → 0 < length words → length rest < length words
+  rest_less rest e h =
+      let short = rest_short (drop 1 words) in
+      let less = length-drop 1 words in
+      rw (rest_here rest e) (omega arith)

@@ -12,8 +12,5 @@ pub fn asks(line: &[u8]) -> bool
 fn is_heading(line: &[u8]) -> bool
     ensures { result ≡ heading_of line.now }
 {
-    if line.len() == 0 {
-        return true;
-    }
-    line[0] == b'#'
+    matches!(line, [] | [b'#', ..])
 }

@@ -12,7 +12,7 @@ mod words;
 
 pub use field::Field;
 pub use heading::asks;
-pub use number::{Number, decimal};
+pub use number::decimal;
 pub use parts::{from, part_of, upto};
 pub use spelling::{ROOM, Spelled, spell};
 pub use words::{first, rest};

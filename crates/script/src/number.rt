@@ -1,77 +1,39 @@
 // Numbers in decimal.
-ghost use Rattle.std.specs.Prelude.{◌≡◌, ◌+◌, ◌*◌, ltb};
-ghost use Rattle.script.specs.Decimal.{no_number, added_of, decimal_step_of, decimal_read_of};
+ghost use Rattle.std.specs.Prelude.{◌≡◌};
+ghost use Rattle.script.specs.Decimal.{added_of, decimal_begun, decimal_step_of, decimal_read_of};
 
 use crate::digit::digit;
 
-// `value` is 0 where `known` is false.
-#[derive(Clone, Copy)]
-pub struct Number {
-    pub known: bool,
-    pub value: usize,
-}
-
-// A number above `most` is not known.
-pub fn decimal(s: &[u8], most: usize) -> Number
+// A number above `most` is none.
+#[tactic(auto, using(basis::specs::Pick::tests))]
+pub fn decimal(s: &[u8], most: usize) -> Option<usize>
     ensures { result ≡ decimal_read_of s.now most }
 {
-    let mut read = Number {
-        known: 0 < s.len(),
-        value: 0,
-    };
-    let mut i = 0;
-    while i < s.len() {
-        read = step(read, s[i], most);
-        i += 1;
-    }
-    read
+    s.iter().fold(begun(s), |read, c| step(read, *c, most))
 }
 
-#[tactic(auto, using(basis::specs::Pick::tests), unfolding(crate::specs::Decimal::decimal_step_of))]
-fn step(read: Number, c: u8, most: usize) -> Number
+// Without a character there is no number.
+#[tactic(auto, using(basis::specs::Pick::tests), unfolding(crate::specs::Decimal::decimal_begun))]
+fn begun(s: &[u8]) -> Option<usize>
+    ensures { result ≡ decimal_begun s.now }
+{
+    if s.is_empty() { None } else { Some(0) }
+}
+
+fn step(read: Option<usize>, c: u8, most: usize) -> Option<usize>
     ensures { result ≡ decimal_step_of most read c }
 {
-    if !read.known {
-        return unknown();
-    }
-    added(read.value, digit(c), most)
-}
-
-fn unknown() -> Number
-    ensures { result ≡ no_number }
-{
-    Number {
-        known: false,
-        value: 0,
-    }
+    added(read?, digit(c)?, most)
 }
 
 #[tactic(auto, using(basis::specs::Pick::tests), unfolding(crate::specs::Decimal::added_of))]
-fn added(n: usize, d: u8, most: usize) -> Number
+fn added(n: usize, d: u8, most: usize) -> Option<usize>
     ensures { result ≡ added_of most n d }
 {
     if 9 < d {
-        return unknown();
+        return None;
     }
-    if passes(n, d, most) {
-        return unknown();
-    }
-    Number {
-        known: true,
-        value: 10 * n + d as usize,
-    }
-}
-
-// Whether the number with one more digit is above `most`, tested without that number, since it could wrap.
-fn passes(n: usize, d: u8, most: usize) -> bool
-    ensures { result ≡ ltb most (10 * n + d) }
-{
-    let last = d as usize;
-    if most < last {
-        return true;
-    }
-    if (most - last) / 10 < n {
-        return true;
-    }
-    false
+    n.checked_mul(10)?
+        .checked_add(usize::from(d))
+        .filter(|n| *n <= most)
 }

@@ -4,28 +4,18 @@ ghost use Rattle.std.specs.Prelude.{◌≡◌, min, length, take, drop};
 pub fn from(s: &[u8], at: usize) -> &[u8]
     ensures { result.now ≡ drop at s.now }
 {
-    let n = s.len();
-    if n < at {
-        return &s[n..];
-    }
-    &s[at..]
+    s.get(at..).unwrap_or(&[])
 }
 
 pub fn upto(s: &[u8], n: usize) -> &[u8]
     ensures { result.now ≡ take n s.now }
 {
-    if s.len() < n {
-        return s;
-    }
-    &s[..n]
+    s.get(..n).unwrap_or(s)
 }
 
 // How much of a memory a call borrows: as much as is wanted, at most all of it.
 pub fn part_of(memory: &[u8], wanted: usize) -> usize
     ensures { result ≡ min wanted (length memory.now) }
 {
-    if wanted < memory.len() {
-        return wanted;
-    }
-    memory.len()
+    wanted.min(memory.len())
 }

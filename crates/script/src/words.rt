@@ -12,6 +12,7 @@ fn end_of(s: &[u8]) -> usize
     s.iter().position(|c| *c == b' ').unwrap_or(s.len())
 }
 
+#[tactic(auto, using(crate::proofs::WordLaws::first_is))]
 pub fn first(s: &[u8]) -> &[u8]
     ensures { result.now ≡ first_word_of s.now }
 {
@@ -20,6 +21,7 @@ pub fn first(s: &[u8]) -> &[u8]
 }
 
 // What follows the first word, with its space.
+#[tactic(auto, using(crate::proofs::WordLaws::rest_is))]
 pub fn rest(s: &[u8]) -> &[u8]
     ensures { result.now ≡ after_first_word_of s.now }
 {

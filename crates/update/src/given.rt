@@ -109,11 +109,7 @@ fn number(rt: &impl Env, place: usize, usual: u32, most: u32) -> Option<u32> {
     let Some(n) = argument(rt, place, &mut word) else {
         return Some(usual);
     };
-    let read = script::decimal(&word[..n], most as usize);
-    if !read.known {
-        return None;
-    }
-    u32::try_from(read.value).ok()
+    u32::try_from(script::decimal(&word[..n], most as usize)?).ok()
 }
 
 // The argument behind the versions can only be `quiet`, and is the last.
