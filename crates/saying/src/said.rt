@@ -2,6 +2,8 @@
 ghost use Rattle.std.specs.Prelude.{◌≡◌};
 ghost use Rattle.saying.specs.Said.{empty_text, not_understood, said_text_of, appended_of, said_lines_of, characters_of, character_of};
 
+use lent::NoRoom;
+
 // More than the longest text, that of a replay: 4,000 bytes of lines, and the numbers before and after them.
 const ROOM: usize = 4096;
 
@@ -41,15 +43,13 @@ impl Said {
     pub fn text(self, s: &[u8]) -> Said
         ensures { result ≡ appended_of self s.now }
     {
-        let len = self.len;
         let mut bytes = self.bytes;
-        let placed = lent::put(&mut bytes, len, s);
-        match placed {
+        match lent::put(&mut bytes, self.len, s) {
             Ok(()) => Said {
-                len: len + s.len(),
+                len: self.len + s.len(),
                 bytes,
             },
-            Err(_) => Said { len, bytes },
+            Err(NoRoom) => self,
         }
     }
 

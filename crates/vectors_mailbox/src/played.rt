@@ -5,14 +5,14 @@ use saying::Said;
 
 pub(crate) fn show(recording: &[u8], output: &mut [u8]) -> Said {
     let played = playing::play(playing::begin(), recording, output);
-    let stop = played.stop;
     let said = Said::nothing()
         .number(played.taken as u64)
         .number(played.written as u64);
-    close(
-        text(why(said, stop), script::upto(output, played.written)),
-        stop,
-    )
+    why(said, played.stop)
+        .text(b" :")
+        .lines(script::upto(output, played.written))
+        .text(b" :")
+        .lines(playing::closing(played.stop).text())
 }
 
 fn why(said: Said, stop: Stop) -> Said {
@@ -20,13 +20,4 @@ fn why(said: Said, stop: Stop) -> Said {
         Stop::Ended(ending) => ending::add(said, ending),
         Stop::Full => said.text(b" full"),
     }
-}
-
-fn close(said: Said, stop: Stop) -> Said {
-    let line = playing::closing(stop);
-    text(said, line.text())
-}
-
-fn text(said: Said, bytes: &[u8]) -> Said {
-    said.text(b" :").lines(bytes)
 }

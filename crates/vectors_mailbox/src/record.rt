@@ -20,9 +20,9 @@ fn read_text(record: Record) -> Said {
         Record::Control(control) => said.text(b" Control").all(&control),
         Record::Change { connector, reason } => said
             .text(b" Change")
-            .number(connector as u64)
-            .number(reason as u64),
-        Record::Success { length } => said.text(b" Success").number(length as u64),
+            .number(u64::from(connector))
+            .number(u64::from(reason)),
+        Record::Success { length } => said.text(b" Success").number(u64::from(length)),
         Record::Failure => said.text(b" Failure"),
     }
 }
@@ -30,9 +30,8 @@ fn read_text(record: Record) -> Said {
 // All of the room is printed, so that a byte which is not written shows too.
 fn write(said: Said, record: Record, buffer: &mut [u8]) -> Said {
     let written = recording::write(record, buffer);
-    let number = written.number();
     said.text(b" :")
-        .number(number as u64)
+        .number(u64::from(written.number()))
         .text(b" :")
         .shown(buffer)
 }

@@ -1,7 +1,7 @@
 // Lines of a recording: their numbers, and then its bytes (01, Replay program).
 use crate::{played, record};
 use saying::Said;
-use script::Field;
+use script::{Field, Spelled};
 
 // What the lent memory holds before a call, so that what is written shows.
 const UNWRITTEN: u8 = 0xEE;
@@ -12,48 +12,31 @@ const OUTPUT: usize = 4000;
 // Far behind every recording that a line spells.
 const PLACE_MOST: usize = 1048576;
 
-// The record at a place is read, or all are played.
-#[derive(Clone, Copy)]
-enum Query {
-    Record { at: usize },
-    Replay,
+// The record at a place is read. The numbers are the place, and the room for the record that is written.
+pub(crate) fn record(words: &[u8]) -> Option<Said> {
+    let place = Field::none().next(words, PLACE_MOST)?;
+    let room = place.next(words, script::ROOM)?;
+    let recording = recording_behind(room, words)?;
+    let mut output = [UNWRITTEN; script::ROOM];
+    let lent = script::part_of(&output, room.value);
+    Some(record::show(recording.as_bytes(), place.value, &mut output[..lent]))
 }
 
-// The place, and the room for the record that is written.
-pub(crate) fn record(words: &[u8]) -> Said {
-    let place = Field::none().next(words, PLACE_MOST);
-    let room = place.next(words, script::ROOM);
-    spelled(Query::Record { at: place.value }, words, room)
-}
-
-// The room for the lines that are printed.
-pub(crate) fn replay(words: &[u8]) -> Said {
-    let room = Field::none().next(words, OUTPUT);
-    spelled(Query::Replay, words, room)
-}
-
-// The bytes come after the room, which is the last of the numbers.
-fn spelled(query: Query, words: &[u8], room: Field) -> Said {
-    if !room.known {
-        return Said::not_understood();
-    }
-    let spelled = script::spell(script::from(words, room.end));
-    if !spelled.known {
-        return Said::not_understood();
-    }
-    // A recording that fills the room may be cut, and a part of it is not played for the whole.
-    if script::ROOM <= spelled.len {
-        return Said::not_understood();
-    }
-    let bytes = spelled.bytes;
-    shown(query, script::upto(&bytes, spelled.len), room.value)
-}
-
-fn shown(query: Query, recording: &[u8], room: usize) -> Said {
+// All records are played. The number is the room for the lines that are printed.
+pub(crate) fn replay(words: &[u8]) -> Option<Said> {
+    let room = Field::none().next(words, OUTPUT)?;
+    let recording = recording_behind(room, words)?;
     let mut output = [UNWRITTEN; OUTPUT];
-    let lent = script::part_of(&output, room);
-    match query {
-        Query::Record { at } => record::show(recording, at, &mut output[..lent]),
-        Query::Replay => played::show(recording, &mut output[..lent]),
+    let lent = script::part_of(&output, room.value);
+    Some(played::show(recording.as_bytes(), &mut output[..lent]))
+}
+
+// The bytes come after the room, which is the last of the numbers. A recording that fills the room of a line may be cut, and a part of it is
+// not played for the whole.
+fn recording_behind(room: Field, words: &[u8]) -> Option<Spelled> {
+    let spelled = script::spell(script::from(words, room.end))?;
+    if script::ROOM <= spelled.len {
+        return None;
     }
+    Some(spelled)
 }

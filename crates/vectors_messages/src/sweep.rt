@@ -1,85 +1,67 @@
 // One message with every value of one byte, or at every length: which of these are valid.
-ghost use Rattle.std.specs.Prelude.{◌<◌};
-
-use crate::{requests, responses};
+use crate::kind::Kind;
 use saying::Said;
 use script::Spelled;
 
-fn valid(asking: bool, msg: &[u8]) -> bool {
-    if asking {
-        return requests::is_valid(msg);
-    }
-    responses::is_valid(msg)
-}
-
 // A message that has no byte at the place is not understood.
-pub(crate) fn values(asking: bool, message: Spelled, at: u8) -> Said {
-    if message.len <= at as usize {
-        return Said::not_understood();
+pub(crate) fn values(kind: Kind, message: Spelled, at: u8) -> Option<Said> {
+    if message.len <= usize::from(at) {
+        return None;
     }
-    let said = over_values(asking, message, at as usize);
-    if said.len == 0 {
-        return said.text(b" none");
+    let said = over_values(kind, message, at);
+    if said.as_bytes().is_empty() {
+        return Some(said.text(b" none"));
     }
-    said
+    Some(said)
 }
 
 // The values with which the message is valid.
-fn over_values(asking: bool, message: Spelled, at: usize) -> Said
-    requires { at < 256 }
-{
+fn over_values(kind: Kind, message: Spelled, at: u8) -> Said {
     let mut bytes = message.bytes;
-    let len = message.len;
     let mut said = Said::nothing();
     for value in 0..=255 {
-        bytes[at] = value;
-        if valid(asking, script::upto(&bytes, len)) {
+        bytes[usize::from(at)] = value;
+        if kind.is_valid(script::upto(&bytes, message.len)) {
             said = said.hex(value);
         }
     }
     said
 }
 
-// The valid lengths found so far: none, a range, or more than one range.
+// Lengths without a gap.
 #[derive(Clone, Copy)]
-enum Span {
-    Nothing,
-    Of { first: usize, last: usize },
-    Broken,
+struct Span {
+    first: usize,
+    last: usize,
 }
 
-pub(crate) fn lengths(asking: bool, message: Spelled) -> Said {
-    let bytes = message.bytes;
-    let found = over_lengths(asking, &bytes);
-    match found {
-        Span::Nothing => Said::nothing().text(b" none"),
-        Span::Of { first, last } => Said::nothing().range(first as u64, last as u64),
-        Span::Broken => Said::nothing().text(b" broken"),
+// There is more than one range.
+#[derive(Clone, Copy)]
+struct Broken;
+
+pub(crate) fn lengths(kind: Kind, msg: &[u8]) -> Said {
+    match over_lengths(kind, msg) {
+        Ok(None) => Said::nothing().text(b" none"),
+        Ok(Some(span)) => Said::nothing().range(span.first as u64, span.last as u64),
+        Err(Broken) => Said::nothing().text(b" broken"),
     }
 }
 
-fn over_lengths(asking: bool, msg: &[u8]) -> Span {
-    let mut found = Span::Nothing;
+// The lengths at which the message is valid.
+fn over_lengths(kind: Kind, msg: &[u8]) -> Result<Option<Span>, Broken> {
+    let mut found: Option<Span> = None;
     for n in 0..=msg.len() {
-        if valid(asking, script::upto(msg, n)) {
-            found = found.with(n);
+        if kind.is_valid(script::upto(msg, n)) {
+            found = Some(with(found, n)?);
         }
     }
-    found
+    Ok(found)
 }
 
-impl Span {
-    fn with(self, n: usize) -> Span {
-        match self {
-            Span::Nothing => Span::Of { first: n, last: n },
-            Span::Of { first, last } => {
-                if n != 0 && last == n - 1 {
-                    Span::Of { first, last: n }
-                } else {
-                    Span::Broken
-                }
-            }
-            Span::Broken => Span::Broken,
-        }
+fn with(found: Option<Span>, n: usize) -> Result<Span, Broken> {
+    match found {
+        None => Ok(Span { first: n, last: n }),
+        Some(span) if span.last.checked_add(1) == Some(n) => Ok(Span { last: n, ..span }),
+        Some(_) => Err(Broken),
     }
 }

@@ -3,8 +3,7 @@ use saying::Said;
 use wire::request::Versions;
 
 pub(crate) fn add(said: Said, v: Versions) -> Said {
-    said.number(v.first as u64)
-        .number(v.second as u64)
-        .number(v.third as u64)
-        .number(v.fourth as u64)
+    [v.first, v.second, v.third, v.fourth]
+        .iter()
+        .fold(said, |said, version| said.number(u64::from(*version)))
 }

@@ -6,15 +6,15 @@ pub overflow_add-result : goal.overflow_add-result
 overflow_add-result c =
     let a = c.args in
     let room : length a.self.bytes ≡ 4096 = search rules in
-    let fits = stored_fits a.self.bytes a.self.len a.s.now _ c.put-placed.ensures c.in-Stored.is in
+    let fits = stored_fits a.self.bytes a.self.len a.s.now _ c.put.ensures c.in-Ok.is in
     record { fits = omega arith }
 
-pub returns-in-Stored : goal.returns-in-Stored
-returns-in-Stored c =
+pub returns-in-Ok : goal.returns-in-Ok
+returns-in-Ok c =
     let a = c.args in
-    text_added a.self.bytes a.self.len a.s.now _ c.put-placed.ensures c.in-Stored.is
+    text_added a.self.bytes a.self.len a.s.now _ c.put.ensures c.in-Ok.is
 
-pub returns-in-NoRoom : goal.returns-in-NoRoom
-returns-in-NoRoom c =
+pub returns-in-Err : goal.returns-in-Err
+returns-in-Err c =
     let a = c.args in
-    text_kept a.self.bytes a.self.len a.s.now _ c.put-placed.ensures c.in-NoRoom.is
+    text_kept a.self.bytes a.self.len a.s.now _ c.put.ensures c.in-Err.is
