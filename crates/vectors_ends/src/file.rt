@@ -10,18 +10,13 @@ fn byte(at: usize) -> u8 {
 }
 
 pub(crate) fn fill(file: &mut [u8]) {
-    for i in 0..file.len() {
-        file[i] = byte(i);
+    for (at, place) in file.iter_mut().enumerate() {
+        *place = byte(at);
     }
 }
 
 // Whether these are the file's bytes from this block's place on. They are computed anew, so that a change of the lent memory shows.
 pub(crate) fn is_block(number: u16, block: &[u8]) -> bool {
-    let from = 256 * number as usize;
-    for i in 0..block.len() {
-        if block[i] != byte(from + i) {
-            return false;
-        }
-    }
-    true
+    let from = 256 * usize::from(number);
+    (from..).zip(block).all(|(at, b)| *b == byte(at))
 }

@@ -3,23 +3,17 @@ use indoor_state::plan::Release;
 use script::Field;
 use wire::request::Versions;
 
-#[derive(Clone, Copy)]
-pub(crate) enum Offered {
-    As(Release),
-    NotUnderstood,
-}
-
-pub(crate) fn behind(before: Field, words: &[u8]) -> Offered {
-    let vendor = before.next(words, 65535);
-    let product = vendor.next(words, 65535);
-    let first = product.next(words, 65535);
-    let second = first.next(words, 65535);
-    let third = second.next(words, 65535);
-    let fourth = third.next(words, 65535);
+pub(crate) fn behind(before: Field, words: &[u8]) -> Option<Release> {
+    let vendor = before.next(words, 65535)?;
+    let product = vendor.next(words, 65535)?;
+    let first = product.next(words, 65535)?;
+    let second = first.next(words, 65535)?;
+    let third = second.next(words, 65535)?;
+    let fourth = third.next(words, 65535)?;
     if !fourth.is_last(words) {
-        return Offered::NotUnderstood;
+        return None;
     }
-    Offered::As(Release {
+    Some(Release {
         vendor: vendor.word(),
         product: product.word(),
         versions: Versions {

@@ -1,123 +1,110 @@
-// A line of a session of the receiver (01, The receiver's phases).
-use crate::bench::{Lent, Outdoors};
-use crate::call::Called;
-use crate::lend::Lending;
-use crate::word::{Act, Call};
-use crate::{bench, call, lend, outcome};
+// What is printed of a session: what it wrote, its phase, and then silence and resends made.
+use crate::file;
+use indoor_state::phase::{Phase as IndoorPhase, Progress as Asked};
+use indoor_state::session::Indoor;
+use numbers::Numbered;
+use receiver_state::phase::{Accepted, Phase, Progress};
+use receiver_state::session::Receiver;
 use saying::Said;
-use script::Field;
 use wire::codes;
-use wire::request::Versions;
-use wire::response::Identity;
 
-pub(crate) fn run(
-    act: Act,
-    words: &[u8],
-    outdoors: Outdoors,
-    image: &mut [u8],
-    buffer: &mut [u8],
-) -> Outdoors {
-    match act {
-        Act::Start => start(words, outdoors),
-        Act::Lend => lend(words, outdoors),
-        Act::Call(call) => called(call, words, outdoors, image, buffer),
-        Act::Image => outdoors.says(saying::look(words, image)),
-        Act::Buffer => outdoors.says(saying::look(words, buffer)),
-        Act::Other => outdoors.says(Said::not_understood()),
+pub(crate) trait Session: Copy {
+    // The message that a call wrote.
+    fn wrote(said: Said, message: &[u8]) -> Said;
+
+    fn state(self, said: Said) -> Said;
+}
+
+impl Session for Receiver {
+    fn wrote(said: Said, message: &[u8]) -> Said {
+        said.shown(message)
+    }
+
+    fn state(self, said: Said) -> Said {
+        counted(phase(said, self.phase), self.silence, self.resends)
     }
 }
 
-// Every bit that 001 T5-18 calls reserved is set, so that a GET_FW_ID response shows them cleared.
-pub(crate) fn identity() -> Identity {
-    Identity {
-        vendor: 0x1234,
-        product: 0xABCD,
-        hardware: 0x56,
-        silicon: 0xFF,
-        versions: Versions {
-            first: 0x0102,
-            second: 0x0304,
-            third: 0x0506,
-            fourth: 0x0708,
-        },
-        bank: 0x09,
-        flags1: 0xFF,
-        flags2: 0xFF,
-        flags3: 0xFF,
-        flags4: 0xFF,
+impl Session for Indoor {
+    // A block is too long to print: its length is printed, and whether its bytes are the file's.
+    fn wrote(said: Said, message: &[u8]) -> Said {
+        match message {
+            [_, codes::DATA, low, high, block @ ..] => block_text(
+                said.all(&message[..codes::DATA_HEAD]),
+                u16::from_le_bytes([*low, *high]),
+                block,
+            ),
+            _ => said.shown(message),
+        }
+    }
+
+    fn state(self, said: Said) -> Said {
+        counted(
+            indoor_phase(said, self.state.phase),
+            self.state.silence,
+            self.state.resends,
+        )
     }
 }
 
-// A start ends the session before it, also where it is refused (29): then there is no session.
-fn start(words: &[u8], outdoors: Outdoors) -> Outdoors {
-    let limit = Field::none().next(words, 65535);
-    let resends = limit.next(words, 255);
-    let capacity = resends.next(words, 9999999);
-    if !capacity.is_last(words) {
-        return outdoors.says(Said::not_understood());
-    }
-    let started = receiver::start(limit.word(), resends.byte(), identity(), capacity.value);
-    let lent = Lent {
-        memory: capacity.value,
-        buffer: codes::LONGEST,
-    };
-    Outdoors {
-        session: started.ok(),
-        lent,
-        said: outcome::start_text(started),
-    }
+fn counted(said: Said, silence: u16, resends: u8) -> Said {
+    said.text(b" :")
+        .number(u64::from(silence))
+        .number(u64::from(resends))
 }
 
-fn lend(words: &[u8], outdoors: Outdoors) -> Outdoors {
-    let lending = lend::lent_of(words);
-    let Lending::Of(lent) = lending else {
-        return outdoors.says(Said::not_understood());
-    };
-    let session = outdoors.session;
-    Outdoors {
-        session,
-        lent,
-        said: Said::nothing().text(b" lent"),
+// The receiver's phase, with the blocks and bytes that it has accepted (01, The receiver's phases).
+fn phase(said: Said, phase: Phase) -> Said {
+    match phase {
+        Phase::Idle => said.text(b" Idle"),
+        Phase::Transfer(Progress { accepted, short }) => {
+            let said = accepted_text(said.text(b" Transfer"), accepted);
+            if short { said.text(b" short") } else { said }
+        }
+        Phase::Await(accepted) => accepted_text(said.text(b" Await"), accepted),
+        Phase::Good(accepted) => accepted_text(said.text(b" Good"), accepted),
     }
 }
 
-// The call gets only the lent parts of the memory and the buffer.
-fn called(
-    call: Call,
-    words: &[u8],
-    outdoors: Outdoors,
-    image: &mut [u8],
-    buffer: &mut [u8],
-) -> Outdoors {
-    let session = outdoors.session;
-    let Some(receiver) = session else {
-        return outdoors.says(Said::nothing().text(b" no session"));
-    };
-    bench::unwrite(buffer);
-    let room = script::part_of(buffer, outdoors.lent.buffer);
-    let capacity = script::part_of(image, outdoors.lent.memory);
-    let called = call::run(
-        call,
-        words,
-        receiver,
-        &mut image[..capacity],
-        &mut buffer[..room],
-    );
-    after(called, outdoors, buffer)
+fn accepted_text(said: Said, accepted: Accepted) -> Said {
+    said.number(u64::from(accepted.blocks))
+        .number(u64::from(accepted.bytes))
 }
 
-fn after(called: Called, outdoors: Outdoors, buffer: &[u8]) -> Outdoors {
-    match called {
-        Called::Ended(outcome) => {
-            let session = Some(outcome.session);
-            let lent = outdoors.lent;
-            Outdoors {
-                session,
-                lent,
-                said: outcome::outcome_text(outcome, buffer),
+// The indoor end's phase, with the milliseconds left of a wait (01, The indoor end's phases). The block last asked for comes before the wait.
+pub(crate) fn indoor_phase(said: Said, phase: IndoorPhase) -> Said {
+    match phase {
+        IndoorPhase::Identify => said.text(b" Identify"),
+        IndoorPhase::Initiate { wait } => said.text(b" Initiate").number(u64::from(wait)),
+        IndoorPhase::Transfer(
+            Asked {
+                asked,
+                wait,
+                emptied,
+            },
+        ) => {
+            let said = said
+                .text(b" Transfer")
+                .number(u64::from(asked))
+                .number(u64::from(wait));
+            if emptied {
+                said.text(b" emptied")
+            } else {
+                said
             }
         }
-        Called::Summed(summed) => outdoors.says(outcome::sum_text(summed)),
-        Called::NotUnderstood => outdoors.says(Said::not_understood()),
+        IndoorPhase::Validate { wait } => said.text(b" Validate").number(u64::from(wait)),
+        IndoorPhase::Done => said.text(b" Done"),
+        IndoorPhase::Failed(reason) => said
+            .text(b" Failed")
+            .number(u64::from(reason.number())),
     }
+}
+
+fn block_text(said: Said, number: u16, block: &[u8]) -> Said {
+    let said = said.text(b" +").number(block.len() as u64);
+    if file::is_block(number, block) {
+        return said.text(b" of the file");
+    }
+    said.text(b" not of the file")
 }
