@@ -59,9 +59,6 @@ impl Bench {
         }
         let outcome = mailbox_call::run(word, words, mailbox)?;
         self.mailbox = Some(outcome.mailbox);
-        Some(mailbox_outcome::text(
-            outcome.answer.number(),
-            outcome.mailbox,
-        ))
+        Some(mailbox_outcome::text(outcome.answer.number(), outcome.mailbox))
     }
 }
