@@ -31,13 +31,7 @@ fn ask(words: &[u8], receiver: Receiver, image: &mut [u8], buffer: &mut [u8]) ->
         verdict: verdict::verdict_of(script::first(behind))?,
     };
     let request = script::spell(script::rest(behind))?;
-    Some(receiver::request(
-        receiver,
-        image,
-        request.as_bytes(),
-        given,
-        buffer,
-    ))
+    Some(receiver::request(receiver, image, request.as_bytes(), given, buffer))
 }
 
 // The next whole blocks, as many as the line says. Only the last one's answer is printed.
