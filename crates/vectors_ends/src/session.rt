@@ -95,9 +95,7 @@ pub(crate) fn indoor_phase(said: Said, phase: IndoorPhase) -> Said {
         }
         IndoorPhase::Validate { wait } => said.text(b" Validate").number(u64::from(wait)),
         IndoorPhase::Done => said.text(b" Done"),
-        IndoorPhase::Failed(reason) => said
-            .text(b" Failed")
-            .number(u64::from(reason.number())),
+        IndoorPhase::Failed(reason) => said.text(b" Failed").number(u64::from(reason.number())),
     }
 }
 
