@@ -19,14 +19,12 @@ pub put_fits : (d : List ℕ) (at : ℕ) (s : List ℕ) → at + length s ≤ le
 unfolding put_of
 put_fits d at s h = simp tests
 
--- A part that has room and was copied into its place.
-pub put_there : (d s copied : List ℕ) (at : ℕ) → at ≤ length d → length s ≤ length d - at → copied ≡ s
-    → left stored (put_mid at (at + length s - at) d copied) ≡ put_of d at s
-put_there d s copied at p q e =
-    let behind = Post-is at (at + length s) d (omega arith) in
-    let there : put_mid at (at + length s - at) d copied ≡ pasted d at s =
-    ap (λ z. take at d ++ (z ++ post_of at (at + length s - at) d)) e ∙ ap (λ z. take at d ++ (s ++ z)) behind ∙ sym (append_assoc (take at d) s (drop (at + length s) d)) in
-    ap (λ m. left stored m) there ∙ sym (put_fits d at s (omega arith))
+-- A part that was copied into its place.
+pub mid_pasted : (d s copied : List ℕ) (at n : ℕ) → n ≡ length s → copied ≡ s → put_mid at (at + n - at) d copied ≡ pasted d at s
+mid_pasted d s copied at n same copy =
+    let behind : post_of at (at + n - at) d ≡ drop (at + length s) d = Post-is at (at + n) d (omega arith) ∙ ap (λ k. drop (at + k) d) same in
+    ap (λ z. take at d ++ (z ++ post_of at (at + n - at) d)) copy ∙ ap (λ z. take at d ++ (s ++ z)) behind
+    ∙ sym (append_assoc (take at d) s (drop (at + length s) d))
 
 pub put_passes : (d : List ℕ) (at : ℕ) (s : List ℕ) → length d < at + length s → put_of d at s ≡ left no_room d
 unfolding put_of

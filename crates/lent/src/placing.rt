@@ -1,11 +1,24 @@
 // Bytes put into lent memory at a place: blocks, responses and padded arrays all go through this one copy.
-ghost use Rattle.std.specs.Prelude.{◌≡◌};
+ghost use Rattle.std.specs.Prelude.{◌≡◌, ◌+◌, ◌≤◌, length};
 ghost use Rattle.basis.specs.Left.{left};
-ghost use Rattle.lent.specs.Put.{put_of};
+ghost use Rattle.lent.specs.Put.{pasted, put_of};
 
 // The part passes the end of the memory.
 #[derive(Clone, Copy)]
 pub struct NoRoom;
+
+// A block of a file, but for its last (01, Sizes and numbers).
+const BLOCK: usize = 256;
+
+// `n` is the part's length. Where it is a constant, the compiler copies without a call.
+#[inline(always)]
+fn paste(dst: &mut [u8], at: usize, src: &[u8], n: usize)
+    requires n_value { n ≡ length src.now }
+    requires n_in_bounds { at + n ≤ length dst.old }
+    ensures { dst.new ≡ pasted dst.old at src.now }
+{
+    dst[at..at + n].copy_from_slice(src);
+}
 
 // The room is tested without a sum, which could wrap at a large place.
 #[tactic(auto, using(basis::specs::Pick::tests, crate::proofs::Room::room), unfolding(crate::specs::Put::put_of))]
@@ -20,6 +33,10 @@ pub fn put(dst: &mut [u8], at: usize, src: &[u8]) -> Result<(), NoRoom>
     if room - at < n {
         return Err(NoRoom);
     }
-    dst[at..at + n].copy_from_slice(src);
+    if n == BLOCK {
+        paste(dst, at, src, BLOCK);
+    } else {
+        paste(dst, at, src, n);
+    }
     Ok(())
 }
