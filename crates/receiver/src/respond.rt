@@ -26,7 +26,8 @@ pub(crate) fn respond(out: &mut [u8], session: Receiver, answer: Answer) -> usiz
     send_answer(out, session.capacity, answer)
 }
 
-// The answer to GET_FW_ID alone.
+// The answer to GET_FW_ID alone. A caller whose identity is not at hand asks first and then sends one way or the other: a function that is
+// handed a closure for the identity would have to require that it may be called.
 pub fn has_identity(answer: Answer) -> bool
     ensures { result ≡ has_identity answer }
 {

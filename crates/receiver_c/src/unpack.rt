@@ -1,4 +1,5 @@
-// The session that words say. Of a number that does not fit its field the low bits are taken: such words are no session's.
+// The session that words say. Of a number that does not fit its field the low bits are taken, by the definition's own arithmetic: such words
+// are no session's.
 ghost use Rattle.std.specs.Prelude.{◌≡◌};
 ghost use Rattle.receiver_state.specs.Phase.{accepted_counts};
 ghost use Rattle.receiver_c.specs.Words.{identity_at, phase_at, session_at, receiver_phase_of};

@@ -40,6 +40,7 @@ pub fn reply(answer: Answer, identity: Identity, capacity: u32) -> Option<Respon
     }
 }
 
+// A function for each type of response: each fills fields of its own, so that no type parameter would make them one.
 #[tactic(auto, using(basis::specs::Pick::tests), unfolding(receiver_state::specs::Answer::get_fw_id_reply))]
 fn get_fw_id_reply(identity: Identity) -> Option<Response>
     ensures { result ≡ get_fw_id_reply identity }
