@@ -26,12 +26,14 @@ pub struct Played {
 pub fn play(mailbox: Mailbox, part: &[u8], out: &mut [u8]) -> Played
     ensures { left result out.new ≡ play_of mailbox part.now out.old }
 {
+    // MESSAGE_IN apart: it is lent on its own, and settled where it lies.
     let Mailbox {
         mut state,
         mut message,
     } = mailbox;
     let mut taken = 0;
     let mut written = 0;
+    // A loop and no iterator: a line that does not fit leaves it too, with its record not played.
     let stop = loop {
         let found = match recording::next(part, taken) {
             Ok(found) => found,

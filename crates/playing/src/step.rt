@@ -12,6 +12,7 @@ use numbers::Numbered;
 use printing::{Line, line_of};
 use recording::Record;
 
+// Four kinds, and for each its rule with what the record holds: the match is the table (01, Replay program).
 #[tactic(auto, unfolding(crate::specs::Turn::event_in))]
 pub(crate) fn step_of(state: State, record: Record) -> Step
     ensures { result ≡ event_step_of state (event_in «record») }

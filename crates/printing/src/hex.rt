@@ -6,6 +6,7 @@ ghost use Rattle.printing.specs.Digits.{digit_of, hex_of};
 pub fn digits(value: u32) -> [u8; 8]
     ensures { result ≡ hex_of 8 value }
 {
+    // Written out: each is divided by a constant, which costs a shift.
     [
         digit(value / 0x1000_0000),
         digit(value / 0x100_0000),
@@ -22,6 +23,7 @@ pub fn digits(value: u32) -> [u8; 8]
 fn digit(value: u32) -> u8
     ensures { result ≡ digit_of (value % 16) }
 {
+    // A remainder of 16 fits: a conversion that can fail would be no plainer.
     let low = (value % 16) as u8;
     if low < 10 {
         return b'0' + low;

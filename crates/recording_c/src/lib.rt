@@ -21,5 +21,6 @@ pub(crate) const BUFFER_SHORT: u64 = 27;
 pub extern "C" fn harsolvek_recording_layout_1() -> u64
     ensures { result ≡ harsolvek_recording_layout }
 {
+    // There is no From of a usize for a u64.
     RECORD_MOST as u64
 }

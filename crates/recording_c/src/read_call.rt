@@ -67,6 +67,7 @@ fn reading_of(read: Result<Found, Ending>, at: usize) -> Reading
     }
 }
 
+// The numbers of enum harsolvek_found, which C reads.
 fn ending_number(ending: Ending) -> u64
     ensures { result ≡ ending_number_of ending }
 {

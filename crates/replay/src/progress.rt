@@ -32,6 +32,7 @@ impl Progress {
         }
     }
 
+    // How much is held is a clause, and no invariant of the type: it holds of a run that goes on alone.
     // One read. There is room for a byte at least, so that where nothing has come the recording is at its end.
     pub(crate) fn turn(
         self,

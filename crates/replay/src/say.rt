@@ -22,6 +22,7 @@ pub(crate) fn last(rt: &HostRuntime, text: &[u8], stop: Stop) -> bool
     is_written(rt, text)
 }
 
+// The error is told here, and that there was one is all that is handed on.
 fn is_written(rt: &HostRuntime, text: &[u8]) -> bool {
     match rt.write_all(text) {
         Ok(()) => true,
