@@ -1,5 +1,5 @@
 -- Each public contract leaves one answer and one state of the lent memory. Written from the contracts by tools/contracts.
-use Rattle.std.specs.Prelude.{ℕ, ◌≡◌, Option, List}
+use Rattle.std.specs.Prelude.{ℕ, ◌≡◌, List, Option}
 use Rattle.basis.specs.Only.{only}
 use Rattle.saying.specs.Decimal.{number_text_of, range_of}
 use Rattle.saying.specs.Hex.{hex_byte_text_of, hex_word_text_of, hex_bytes_text_of, hex_shown_of}

@@ -36,7 +36,8 @@ impl Said {
     }
 }
 
-// The digits are written at the end of the array; the result is where they begin.
+// The digits are written at the end of the array; the result is where they begin. The number is divided here, where the edit
+// `every_second_digit` divides it wrongly.
 fn spell(n: u64, out: &mut [u8; DIGITS]) -> usize
     requires { length out.old ≡ 20 }
     ensures out_len { length out.new ≡ 20 }

@@ -7,7 +7,7 @@ use lent::NoRoom;
 // More than the longest text, that of a replay: 4,000 bytes of lines, and the numbers before and after them.
 const ROOM: usize = 4096;
 
-// The text is at the start of the array.
+// The text is at the start of the array. There is no model of it as its text alone: the contracts give the bytes behind it too.
 #[derive(Clone, Copy)]
 pub struct Said {
     pub len: usize,

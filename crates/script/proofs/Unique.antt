@@ -1,5 +1,5 @@
 -- Each public contract leaves one answer and one state of the lent memory. Written from the contracts by tools/contracts.
-use Rattle.std.specs.Prelude.{◌≡◌, Option, List, ℕ, Bool, drop, take, min, length}
+use Rattle.std.specs.Prelude.{◌≡◌, List, ℕ, Option, Bool, drop, take, min, length}
 use Rattle.basis.specs.Only.{only}
 use Rattle.script.specs.Decimal.{decimal_read_of}
 use Rattle.script.specs.Fields.{fields_begun, next_field_of, field_byte_of, field_word_of, is_last_field}

@@ -35,7 +35,7 @@ impl Field {
         })
     }
 
-    // The value of a number that was read with at most 8 bits.
+    // The value of a number that was read with at most 8 bits. It cannot fail, as a `TryFrom` could.
     pub fn byte(self) -> u8
         ensures { result ≡ field_byte_of self }
     {

@@ -10,7 +10,8 @@ use crate::words::{first, rest};
 // Room for messages longer than the 260 bytes of document 01, and for more than the 255 of a success.
 pub const ROOM: usize = 320;
 
-// The bytes are at the start of the array, zeros after them.
+// The bytes are at the start of the array, zeros after them. There is no model of it as its bytes alone: the contract of `spell` gives the
+// zeros too.
 #[derive(Clone, Copy)]
 pub struct Spelled {
     pub len: usize,
@@ -25,7 +26,7 @@ impl Spelled {
     }
 }
 
-// What does not fit is left out.
+// What does not fit is left out. The words are not split at their spaces: `spell_of` drops the first byte whatever it is.
 pub fn spell(words: &[u8]) -> Option<Spelled>
     ensures { result ≡ spell_of words.now }
 {
