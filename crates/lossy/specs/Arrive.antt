@@ -8,10 +8,7 @@ use Rattle.indoor_state.specs.declared.session.Indoor.{Indoor}
 use Rattle.indoor_rules.specs.Response.{indoor_response_of}
 use Rattle.luck.specs.Way.{message_on_way}
 use Rattle.luck.specs.declared.way.Way.{Way}
-use Rattle.lossy_ends.specs.Roof.{roof_of}
-use Rattle.lossy_ends.specs.Indoors.{indoors_left}
-use Rattle.lossy_ends.specs.declared.roof.Roof.{Roof}
-use Rattle.lossy_ends.specs.declared.indoors.Indoors.{Indoors}
+use Rattle.lossy_ends.specs.Called.{Roof, roof_of, Indoors, indoors_left}
 
 abbrev pub roof_heard : Way → Effect → Left (Left Roof)
 roof_heard falling x = left (left (roof_of x.outcome falling) x.out) x.image

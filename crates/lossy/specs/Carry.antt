@@ -6,8 +6,7 @@ use Rattle.lossy_ends.specs.Both.{Both, both}
 use Rattle.luck.specs.Way.{after_arrival_of}
 use Rattle.luck.specs.Luck.{goes_of}
 use Rattle.lossy.specs.Arrive.{request_arrives, response_arrives}
-use Rattle.lossy_ends.specs.declared.roof.Roof.{Roof}
-use Rattle.lossy_ends.specs.declared.indoors.Indoors.{Indoors}
+use Rattle.lossy_ends.specs.Called.{Roof, Indoors}
 use Rattle.lossy_ends.specs.Ends.{lossy_ends, roof_ends, indoor_ends}
 use Rattle.luck.specs.Went.{Went, missed_of}
 use Rattle.luck.specs.declared.luck.Luck.{Luck}

@@ -4,9 +4,15 @@ ghost use Rattle.basis.specs.Left.{left};
 ghost use Rattle.lossy_ends.specs.Both.{both};
 ghost use Rattle.lossy.specs.Carry.{carry_of, miss_of, carry_request_of, carry_response_of};
 
-use crate::arrive;
-use lossy_ends::Ends;
+use lossy_ends::{Called, Ends};
 use luck::{Going, Luck, Went};
+use receiver_state::verdict::{Given, Verdict};
+
+// The verdict comes with the request (01, The receiver's phases), and on this line it is always good, with no wait.
+const GOOD: Given = Given {
+    readiness: 0,
+    verdict: Verdict::Good,
+};
 
 // Both ends after it, the message that went, and what became of it.
 #[derive(Clone, Copy)]
@@ -54,7 +60,8 @@ fn miss(ends: Ends, going: Going) -> Carried
     }
 }
 
-// The request arrives.
+// The request in `up` arrives.
+#[tactic(auto, unfolding(crate::specs::Arrive::request_arrives))]
 fn carry_request(
     ends: Ends,
     going: Going,
@@ -66,12 +73,13 @@ fn carry_request(
     ensures { left (both result up.now down.new) image.new ≡ carry_request_of ends going stays image.old up.now down.old }
 {
     let way = going.way;
-    let roof = arrive::request(ends.receiver, way, ends.down, image, up, down);
+    let heard = receiver::request(ends.receiver, image, way.message(up), GOOD, down);
+    let roof = Called::new(heard, ends.down);
     Carried {
         ends: Ends {
-            receiver: roof.receiver,
+            receiver: roof.session,
             up: way.behind(stays),
-            down: roof.down,
+            down: roof.way,
             ..ends
         },
         going,
@@ -79,7 +87,8 @@ fn carry_request(
     }
 }
 
-// The response arrives.
+// The response in `down` arrives.
+#[tactic(auto, unfolding(crate::specs::Arrive::response_arrives))]
 fn carry_response(
     ends: Ends,
     going: Going,
@@ -91,11 +100,12 @@ fn carry_response(
     ensures { both result up.new down.now ≡ carry_response_of ends going stays file.now up.old down.now }
 {
     let way = going.way;
-    let indoors = arrive::response(ends.indoor, way, ends.up, file, up, down);
+    let heard = indoor::response(ends.indoor, file, way.message(down), up);
+    let indoors = Called::new(heard, ends.up);
     Carried {
         ends: Ends {
-            indoor: indoors.indoor,
-            up: indoors.up,
+            indoor: indoors.session,
+            up: indoors.way,
             down: way.behind(stays),
             ..ends
         },

@@ -1,5 +1,4 @@
 pub mod Both
-pub mod Roof
-pub mod Indoors
+pub mod Called
 pub mod Ends
 pub mod Over

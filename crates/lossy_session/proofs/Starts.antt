@@ -10,32 +10,34 @@ use Rattle.basis.specs.Left.{left, answers, leaves}
 use Rattle.wire.specs.declared.response.Identity.{Identity}
 use Rattle.receiver_rules.specs.Session.{receiver_start_of}
 use Rattle.receiver_state.specs.declared.session.Receiver.{Receiver}
-use Rattle.receiver_state.specs.Session as Rec
-use Rattle.std.specs.Prelude.{Ok, Err}
+use Rattle.receiver_state.specs.Session.{Started}
 use Rattle.indoor_rules.specs.Start.{indoor_start_of}
 use Rattle.indoor_state.specs.Session.{IndoorStart}
 use Rattle.indoor_state.specs.declared.plan.Release.{Release}
 use Rattle.line.specs.Line.{Wide, begins}
 use Rattle.lossy_ends.specs.declared.ends.Ends.{Ends}
 use Rattle.lossy_session.specs.declared.start_call.Limits.{Limits}
-use Rattle.lossy_session.specs.declared.start_call.Started.TheVariants.{Made, Refused}
+use Rattle.lossy_session.specs.declared.start_call.NotStarted.{NotStarted}
 use Rattle.luck.specs.Way.{no_message, way_of}
 use Rattle.lossy_ends.specs.Ends.{lossy_ends}
-use Rattle.lossy_session.specs.Start.{joined_of, both_made_of, both_start_of}
+use Rattle.lossy_session.specs.Start.{BothStart, joined_of, both_made_of, both_start_of}
 use Rattle.lossy_ends.specs.Over.{lossy_world, Over}
 
-made_same : (a b : Ends) → Made a ≡ Made b → a ≡ b
+abbrev made : Ends → BothStart
+made e = Ok e
+
+made_same : (a b : Ends) → made a ≡ made b → a ≡ b
 made_same a b e = cc
 
-made_refused : (e : Ends) (n : ℕ) → Made e ≡ Refused n → ⊥
-made_refused e n h = let z : ◌≡◌ {A = ℕ} 0 1 = cc in omega arith
+made_refused : (e : Ends) (refusal : NotStarted) → made e ≡ Err refusal → ⊥
+made_refused e refusal h = let z : ◌≡◌ {A = ℕ} 0 1 = cc in omega arith
 
 module _ (roof indoors : Limits) (identity : Identity) (release : Release) (file memory up down : List ℕ) (wide : Wide release identity) (e : Ends) (up' : List ℕ) where
   abbrev Goes : Type 0
   Goes = Over file e memory up' down
 
-  module _ (r : Receiver) (made : receiver_start_of roof.silence roof.resends identity (length memory) ≡ Ok r) where
-    started_over : (x : IndoorStart) → indoor_start_of indoors.silence indoors.resends release file up ≡ left x up' → Made e ≡ joined_of r x → Goes
+  module _ (r : Receiver) (starts : receiver_start_of roof.silence roof.resends identity (length memory) ≡ Ok r) where
+    started_over : (x : IndoorStart) → indoor_start_of indoors.silence indoors.resends release file up ≡ left x up' → made e ≡ joined_of r x → Goes
     unfolding joined_of
     started_over (Ok begun) started is =
         subst (λ (a : Ends). Over file a memory up' down) (sym (made_same _ _ is))
@@ -48,18 +50,18 @@ module _ (roof indoors : Limits) (identity : Identity) (release : Release) (file
           responses = [];
           reached = begins roof.silence roof.resends indoors.silence indoors.resends
               (lossy_world (lossy_ends r begun.session (way_of begun.written) no_message) memory (take begun.written up' ∷ []) [])
-              (record { receiver = made; out = up; written = begun.written; out' = up'; indoor = started; image = refl; requests = refl; responses = refl });
+              (record { receiver = starts; out = up; written = begun.written; out' = up'; indoor = started; image = refl; requests = refl; responses = refl });
           rising = inr (Memᴰ.head refl);
           falling = inl refl;
         })
     started_over (Err refused) started is = absurd (made_refused e _ is)
 
-  made_over : (x : Rec.Started) → receiver_start_of roof.silence roof.resends identity (length memory) ≡ x → left (Made e) up' ≡ both_made_of x indoors release file up → Goes
+  made_over : (x : Started) → receiver_start_of roof.silence roof.resends identity (length memory) ≡ x → left (made e) up' ≡ both_made_of x indoors release file up → Goes
   unfolding both_made_of
   made_over (Ok r) made did =
       let x = indoor_start_of indoors.silence indoors.resends release file up in
       started_over r made x.answer (subst (λ (m : List ℕ). x ≡ left x.answer m) (sym (leaves did)) refl) (answers did)
-  made_over (Err refusal) made did = absurd (made_refused e 29 (answers did))
+  made_over (Err refusal) made did = absurd (made_refused e _ (answers did))
 
-  pub start_over : left (Made e) up' ≡ both_start_of roof indoors identity release file (length memory) up → Goes
+  pub start_over : left (made e) up' ≡ both_start_of roof indoors identity release file (length memory) up → Goes
   start_over = made_over (receiver_start_of roof.silence roof.resends identity (length memory)) refl

@@ -1,5 +1,5 @@
 -- Each public contract leaves one answer and one state of the lent memory. Written from the contracts by tools/contracts.
-use Rattle.std.specs.Prelude.{List, ℕ, ◌≡◌}
+use Rattle.std.specs.Prelude.{List, ℕ, ◌≡◌, Result}
 use Rattle.basis.specs.Left.{left}
 use Rattle.basis.specs.Only.{only}
 use Rattle.indoor_state.specs.declared.plan.Release.{Release}
@@ -11,7 +11,7 @@ use Rattle.lossy_session.specs.Start.{both_start_of}
 use Rattle.lossy_session.specs.declared.judge_call.Judged.{Judged}
 use Rattle.lossy_session.specs.declared.pass_call.Passed.{Passed}
 use Rattle.lossy_session.specs.declared.start_call.Limits.{Limits}
-use Rattle.lossy_session.specs.declared.start_call.Started.{Started}
+use Rattle.lossy_session.specs.declared.start_call.NotStarted.{NotStarted}
 use Rattle.wire.specs.declared.response.Identity.{Identity}
 
 pub one_judge : (ends : Ends) (file image : List ℕ) (r r' : Judged)
@@ -26,7 +26,7 @@ pub one_pass : (ends : Ends) (elapsed : ℕ) (file up down : List ℕ) (r r' : P
     → both r up_left down_left ≡ both r' up_left' down_left'
 one_pass ends elapsed file up down r r' up_left up_left' down_left down_left' is is' = only is is'
 
-pub one_start : (roof indoors : Limits) (identity : Identity) (release : Release) (file : List ℕ) (capacity : ℕ) (up : List ℕ) (r r' : Started) (up_left up_left' : List ℕ)
+pub one_start : (roof indoors : Limits) (identity : Identity) (release : Release) (file : List ℕ) (capacity : ℕ) (up : List ℕ) (r r' : Result Ends NotStarted) (up_left up_left' : List ℕ)
     → left r up_left ≡ both_start_of roof indoors identity release file capacity up
     → left r' up_left' ≡ both_start_of roof indoors identity release file capacity up
     → left r up_left ≡ left r' up_left'

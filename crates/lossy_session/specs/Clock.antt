@@ -7,10 +7,7 @@ use Rattle.receiver_rules.specs.Time.{receiver_time_of}
 use Rattle.indoor_state.specs.declared.session.Indoor.{Indoor}
 use Rattle.indoor_rules.specs.Time.{indoor_time_of}
 use Rattle.luck.specs.declared.way.Way.{Way}
-use Rattle.lossy_ends.specs.Roof.{roof_of}
-use Rattle.lossy_ends.specs.Indoors.{indoors_left}
-use Rattle.lossy_ends.specs.declared.roof.Roof.{Roof}
-use Rattle.lossy_ends.specs.declared.indoors.Indoors.{Indoors}
+use Rattle.lossy_ends.specs.Called.{Roof, roof_of, Indoors, indoors_left}
 
 abbrev pub roof_timed : Way → Left Outcome → Left Roof
 roof_timed falling x = left (roof_of x.answer falling) x.memory

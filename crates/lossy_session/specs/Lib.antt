@@ -1,3 +1,4 @@
+pub mod Refusal
 pub mod Start
 pub mod Clock
 pub mod Pass

@@ -1,10 +1,9 @@
 // Time passes at both ends: first on the roof, then indoors.
 ghost use Rattle.std.specs.Prelude.{◌≡◌};
 ghost use Rattle.lossy_ends.specs.Both.{both};
-ghost use Rattle.lossy_session.specs.Pass.{both_passed_of, both_pass_of};
+ghost use Rattle.lossy_session.specs.Pass.{both_pass_of};
 
-use crate::clock;
-use lossy_ends::{Ends, Indoors, Roof};
+use lossy_ends::{Called, Ends};
 use luck::Answered;
 
 #[derive(Clone, Copy)]
@@ -14,32 +13,20 @@ pub struct Passed {
     pub below: Answered,
 }
 
-#[tactic(auto, unfolding(crate::specs::Pass::both_pass_of))]
+#[tactic(auto, unfolding(crate::specs::Pass::both_pass_of, crate::specs::Clock::roof_passes, crate::specs::Clock::indoor_passes))]
 pub fn pass(ends: Ends, elapsed: u16, file: &[u8], up: &mut [u8], down: &mut [u8]) -> Passed
     ensures { both result up.new down.new ≡ both_pass_of ends elapsed file.now up.old down.old }
 {
-    let roof = clock::roof_time(ends.receiver, elapsed, ends.down, down);
-    let indoors = clock::indoor_time(ends.indoor, elapsed, ends.up, file, up);
-    outcome(roof, indoors)
-}
-
-fn outcome(roof: Roof, indoors: Indoors) -> Passed
-    ensures { result ≡ both_passed_of roof indoors }
-{
-    let receiver = roof.receiver;
-    let indoor = indoors.indoor;
-    let up = indoors.up;
-    let down = roof.down;
-    let above = roof.answered;
-    let below = indoors.answered;
+    let roof = Called::new(receiver::time(ends.receiver, elapsed, down), ends.down);
+    let indoors = Called::new(indoor::time(ends.indoor, file, elapsed, up), ends.up);
     Passed {
         ends: Ends {
-            receiver,
-            indoor,
-            up,
-            down,
+            receiver: roof.session,
+            indoor: indoors.session,
+            up: indoors.way,
+            down: roof.way,
         },
-        above,
-        below,
+        above: roof.answered,
+        below: indoors.answered,
     }
 }

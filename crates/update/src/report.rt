@@ -9,19 +9,23 @@ use crate::phases::{IndoorEnd, Receiver as Roof};
 use crate::turn::{self, Session};
 use crate::words::Version;
 use indoor_state::phase::{Phase, Reason};
+use indoor_state::session::StartRefused;
 use lossy_ends::Ends;
-use lossy_session::Judged;
+use lossy_session::{Judged, NotStarted};
 use numbers::Numbered;
 use receiver_state::session::Receiver;
 use std::fmt;
 use std::io::Error;
 
-// A start was refused with this number (01, Numbers we answer).
-pub(crate) fn refused(to: Streams, number: u8) {
-    if number == 46 {
-        return to.complain("not started: 46, the file is empty or above 1,048,575 bytes");
+// Why no session was started, by its number (01, Numbers we answer).
+pub(crate) fn refused(to: Streams, refusal: NotStarted) {
+    let number = refusal.number();
+    match refusal {
+        NotStarted::Indoors(StartRefused::FileSize) => to.complain(format_args!(
+            "not started: {number}, the file is empty or above 1,048,575 bytes"
+        )),
+        _ => to.complain(format_args!("not started: {number}")),
     }
-    to.complain(format_args!("not started: {number}"));
 }
 
 // The first line that cannot be written ends the report.

@@ -8,7 +8,7 @@ use crate::page::Streams;
 use crate::turn::Session;
 use crate::view::View;
 use crate::{report, turn};
-use lossy_session::{Limits, Started};
+use lossy_session::Limits;
 use std::io::Error;
 use wire::codes;
 
@@ -57,25 +57,23 @@ pub(crate) fn start(to: Streams, given: Given, file: &[u8], image: &mut [u8]) ->
         image.len(),
         &mut up,
     );
-    match started {
-        Started::Made(ends) => run(
-            to,
-            given.quiet,
-            Session {
-                ends,
-                file,
-                image,
-                up,
-                down: [0u8; codes::LONGEST],
-                counts: Counts::first(),
-                luck: given.luck,
-            },
-        ),
-        Started::Refused(number) => {
-            report::refused(to, number);
-            Ok(())
+    let ends = match started {
+        Ok(ends) => ends,
+        Err(refusal) => {
+            report::refused(to, refusal);
+            return Ok(());
         }
-    }
+    };
+    let session = Session {
+        ends,
+        file,
+        image,
+        up,
+        down: [0u8; codes::LONGEST],
+        counts: Counts::first(),
+        luck: given.luck,
+    };
+    run(to, given.quiet, session)
 }
 
 fn run(to: Streams, quiet: bool, mut session: Session) -> Result<(), Error>

@@ -8,4 +8,4 @@ run-requires c =
     let a = c.args in
     let given = c.well_formed.1.0.1.1 in
     let wide = values_wide a.given.release a.given.identity _ _ given.1.1.0 given.1.0 in
-    start_over _ _ a.given.identity a.given.release a.file.now a.image.now _ _ wide _ _ (rw c.in-Made.is at c.start-started.ensures)
+    start_over _ _ a.given.identity a.given.release a.file.now a.image.now _ _ wide _ _ (rw c.in-Ok.is at c.start-started.ensures)
