@@ -6,6 +6,7 @@ use mathlib.Core.List.Memᴰ
 use mathlib.Core.List.{List, [], ◌∷◌}
 use native.Mathlib.Omega.{arith}
 use lib.ListN.{length, take}
+use Rattle.std.specs.Prelude.{Ok, Err}
 use Rattle.basis.specs.Left.{left, answers, leaves}
 use Rattle.wire.specs.declared.response.Identity.{Identity}
 use Rattle.receiver_rules.specs.Session.{receiver_start_of}

@@ -30,16 +30,16 @@ pub enum NotStarted {
 impl From<OutOfLimits> for NotStarted {
     ghost from_gives = { λ refusal refused. refused ≡ Roof refusal };
 
-    fn from(refusal: OutOfLimits) -> NotStarted {
-        NotStarted::Roof(refusal)
+    fn from(limits: OutOfLimits) -> NotStarted {
+        NotStarted::Roof(limits)
     }
 }
 
 impl From<StartRefused> for NotStarted {
     ghost from_gives = { λ refusal refused. refused ≡ Indoors refusal };
 
-    fn from(refusal: StartRefused) -> NotStarted {
-        NotStarted::Indoors(refusal)
+    fn from(start: StartRefused) -> NotStarted {
+        NotStarted::Indoors(start)
     }
 }
 
