@@ -11,7 +11,7 @@ use mailbox_state::state::State;
 use mailbox_state::step::Step;
 use numbers::Numbered;
 
-// The one end of every event. A refused step stores what stood there.
+// The one end of every event. A refused step stores what stood there. The words and MESSAGE_IN are lent apart, as the calls for C have them.
 pub(crate) fn event<F: FnOnce(State) -> Step>(
     words: &mut [u32; 10],
     message_in: &mut [u8; 256],

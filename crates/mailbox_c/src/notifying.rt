@@ -4,6 +4,7 @@ ghost use Rattle.mailbox_c.specs.Notifying.{on_of, mask_of, notifications_of, no
 
 use mailbox_state::state::Notifications;
 
+// The flag and the mask are a word each, so that each has its function.
 pub(crate) fn on_of(notifications: Notifications) -> u32
     ensures { result ≡ on_of notifications }
 {

@@ -4,6 +4,7 @@ ghost use Rattle.mailbox_c.specs.Status.{status_code_of, data_length_of, running
 
 use mailbox_state::status::{Command, CommandStatus};
 
+// Numbers, since the layout of the words has them (include/harsolvek.h).
 const NOTHING: u32 = 0;
 
 const RESET_DONE: u32 = 1;
