@@ -1,5 +1,5 @@
 -- `is_session` is true of exactly those words that are a session's in the paper's own numbers (specs/Valid.antt).
-use Prim.Native.Nat.{ℕ, ◌≤◌, ◌<◌}
+use Prim.Native.Nat.{ℕ, ◌≤◌}
 use mathlib.Core.Bool.{Bool, true, false, true≢false}
 use mathlib.Core.Path.{◌≡◌, refl, sym, ◌∙◌}
 use mathlib.Core.List.{List}
@@ -177,24 +177,14 @@ session_valid w e =
       in_phase = phase_valid (phase_words_at w) resent.1;
     }
 
--- Where all but the phase has been tested, the phase decides; where one test fails, the words are none.
-pub session_in_phase : (w : List ℕ) → Within (word_at w 0) (word_at w 1) → (word_at w 2 ≡ 0 → ⊥) → word_at w 2 ≤ image_size_most → word_at w 7 ≤ 65535 → word_at w 8 ≤ 255
+-- Where all but the phase has been tested, the phase decides.
+session_in_phase : (w : List ℕ) → Within (word_at w 0) (word_at w 1) → (word_at w 2 ≡ 0 → ⊥) → word_at w 2 ≤ image_size_most → word_at w 7 ≤ 65535 → word_at w 8 ≤ 255
     → is_indoor_session w ≡ is_indoor_phase (phase_words_at w)
 unfolding is_indoor_session
 session_in_phase w within some most silent resent = rw (within_made (word_at w 0) (word_at w 1) within) (search tests)
 
-not_true_false : (b : Bool) → (b ≡ true → ⊥) → b ≡ false
-not_true_false true not = absurd (not refl)
-not_true_false false not = refl
-
-pub apart : (m n : ℕ) → m < n → n ≤ m → ⊥
-apart m n h k = omega arith
-
-pub some_not : (n : ℕ) → 1 ≤ n → n ≡ 0 → ⊥
+some_not : (n : ℕ) → 1 ≤ n → n ≡ 0 → ⊥
 some_not n h e = omega arith
-
-pub not_session : (w : List ℕ) → (IndoorSessionValid w → ⊥) → is_indoor_session w ≡ false
-not_session w not = not_true_false (is_indoor_session w) (λ e. not (session_valid w e))
 
 pub valid_session : (w : List ℕ) → IndoorSessionValid w → is_indoor_session w ≡ true
 valid_session w v =

@@ -1,6 +1,6 @@
 -- A DATA request in a buffer that has room for any message: its head of four bytes, and then the block behind it.
-use Prim.Native.Nat.{ℕ, ◌+◌, ◌≤◌}
-use mathlib.Core.Path.{◌≡◌, refl, ap}
+use Prim.Native.Nat.{ℕ, ◌≤◌}
+use mathlib.Core.Path.{◌≡◌, refl}
 use mathlib.Core.List.{List}
 use native.Mathlib.Omega.{arith}
 use lib.ListN.{length}
@@ -34,12 +34,3 @@ module _ (file : List ℕ) (number : ℕ) where
       let four = head_four (length (block_at file number)) in
       let most = block_most in
       two_written (request_bytes (Req.Data number (length (block_at file number)))) (block_at file number) out (omega arith)
-
--- Head and block together are a message's length at most, whichever block it is.
-pub together_most : (file part : List ℕ) (place number head : ℕ) → part ≡ block_at file place → head ≡ length (request_bytes (Req.Data number (length part)))
-    → head + length part ≤ 260
-together_most file part place number head e h =
-    let most = block_most file place in
-    let same = ap length e in
-    let four = head_four file number (length part) in
-    omega arith

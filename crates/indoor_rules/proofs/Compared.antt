@@ -5,8 +5,8 @@ use mathlib.Core.List.{List, [], ◌∷◌}
 use mathlib.Core.Path.{◌≡◌, refl, sym, ◌∙◌}
 use native.Mathlib.Omega.{arith}
 use lib.Dec.{ltb}
-use borrow.Author.Tests.{lt-ltb, le-ltb, ltb-true}
-use Rattle.basis.specs.Pick.{pick, pick_yes, pick_no, pick_all, differ, differ_false, eq_differ, ne_differ}
+use borrow.Author.Tests.{lt-ltb, ltb-true}
+use Rattle.basis.specs.Pick.{pick_yes, pick_no, pick_all, differ, differ_false, eq_differ, ne_differ}
 use Rattle.wire.specs.declared.response.Identity.{Identity}
 use Rattle.indoor_rules.specs.Newer.{places_of, later_of, newer_of}
 use Rattle.indoor_state.specs.declared.plan.Release.{Release}
@@ -26,12 +26,6 @@ module _ (file reported : ℕ) (within within' : List ℕ) where
   pub agrees : file ≡ reported → later_of (file ∷ within) (reported ∷ within') ≡ later_of within within'
   unfolding later_of
   agrees h = pick_no (differ file reported) _ _ (eq_differ file reported h)
-
--- Equal is not greater, so the last place decides without a test whether it differs.
-pub last_decides : (file reported : ℕ) → pick (differ file reported) (ltb reported file) false ≡ ltb reported file
-last_decides file reported =
-    pick_all (λ t. t ≡ ltb reported file) (differ file reported) (ltb reported file) false (λ _. refl)
-    (λ e. sym (le-ltb reported file (let same = differ_false file reported e in omega arith)))
 
 pub later_yes : {file reported : List ℕ} → Later file reported → later_of file reported ≡ true
 later_yes (greater f r h) = decides f r _ _ (λ e. omega arith) ∙ lt-ltb r f h

@@ -23,12 +23,12 @@ module _ (plan : Plan) (state : State) (wait elapsed : ℕ) where
   over s on ended true e = refl
   over s on ended false e = rw (none_left elapsed wait (ltb-false elapsed wait e))
 
-  pub initiate_waits : request_tick_of plan state wait (Initiate (wait - elapsed)) Initiating elapsed ≡ initiate_tick_of plan state wait elapsed
+  pub initiate_request : request_tick_of plan state wait (Initiate (wait - elapsed)) Initiating elapsed ≡ initiate_tick_of plan state wait elapsed
   unfolding request_tick_of initiate_tick_of
-  initiate_waits = over (resends_of plan state Initiating elapsed) (waits_on state (Initiate (wait - elapsed))) (λ left. wait_over state (Initiate left) Initiating) (ltb elapsed wait) refl
+  initiate_request = over (resends_of plan state Initiating elapsed) (waits_on state (Initiate (wait - elapsed))) (λ left. wait_over state (Initiate left) Initiating) (ltb elapsed wait) refl
 
-  pub validate_waits : request_tick_of plan state wait (Validate (wait - elapsed)) Validating elapsed ≡ validate_tick_of plan state wait elapsed
+  pub validate_request : request_tick_of plan state wait (Validate (wait - elapsed)) Validating elapsed ≡ validate_tick_of plan state wait elapsed
   unfolding request_tick_of validate_tick_of
-  validate_waits = over (resends_of plan state Validating elapsed) (waits_on state (Validate (wait - elapsed))) (λ left. wait_over state (Validate left) Validating) (ltb elapsed wait) refl
+  validate_request = over (resends_of plan state Validating elapsed) (waits_on state (Validate (wait - elapsed))) (λ left. wait_over state (Validate left) Validating) (ltb elapsed wait) refl
 
-pub ruleset waits = (initiate_waits, validate_waits)
+pub ruleset waits = (initiate_request, validate_request)
