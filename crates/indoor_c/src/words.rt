@@ -31,7 +31,7 @@ pub(crate) const VERSIONS: usize = 11;
 
 pub(crate) const VERSIONS_BEHIND: usize = 12;
 
-// The low half of a word, and its high half.
+// The low half of a word, and its high half. A cast loses nothing in this language, so that the rest is cut first.
 pub(crate) fn low(word: u32) -> u16
     ensures { result ≡ low_half word }
 {
