@@ -3,7 +3,7 @@
 
 mod streams;
 
-ghost use Rattle.std.specs.Prelude.{◌≤◌, length, IfOk};
+ghost use Rattle.std.specs.Prelude.{◌<◌, ◌≤◌, length, IfOk};
 
 use saying::Said;
 use std::io::{Error, Read};
@@ -16,8 +16,10 @@ pub trait Answers {
     fn answer(&mut self, line: &[u8]) -> Option<Said>;
 }
 
-// What standard error does not take is lost: there is nowhere else to tell it.
-pub fn run(rt: &HostRuntime, answers: &mut impl Answers) -> ExitCode {
+// 0, or 1 where the script cannot be read or a line not be written. What standard error does not take is lost: there is nowhere else to tell it.
+pub fn run(rt: &HostRuntime, answers: &mut impl Answers) -> ExitCode
+    ensures { result.status < 2 }
+{
     let to = Streams {
         out: rt.stdout(),
         err: rt.stderr(),
