@@ -60,7 +60,7 @@ fn miss(ends: Ends, going: Going) -> Carried
     }
 }
 
-// The request in `up` arrives.
+// The request in `up` arrives. It and the response are functions of their own: each calls another end, with other memory.
 #[tactic(auto, unfolding(crate::specs::Arrive::request_arrives))]
 fn carry_request(
     ends: Ends,

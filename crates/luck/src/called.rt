@@ -5,6 +5,7 @@ ghost use Rattle.luck.specs.Called.{answered_of};
 use crate::way::Way;
 
 // The answer's number (01, Numbers we answer), whether a message was sent, and whether that took the place of one that has never arrived.
+// It is the number and not the answer, since the answers of the two ends have no more in common.
 #[derive(Clone, Copy)]
 pub struct Answered {
     pub number: u8,

@@ -1,4 +1,5 @@
-// A message on its way in one direction: how many bytes of its buffer it takes, 0 for none, and whether it has arrived before.
+// A message on its way in one direction: how many bytes of its buffer it takes, and whether it has arrived before. It takes 0 where there is
+// none, as `written` of the calls for C says it (include/harsolvek.h).
 ghost use Rattle.std.specs.Prelude.{◌≡◌};
 ghost use Rattle.luck.specs.Way.{no_message, way_of, message_on_way, rises_of, next_way, after_arrival_of, after_write_of, pushed_of};
 

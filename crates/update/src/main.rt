@@ -76,7 +76,7 @@ fn update(rt: &HostRuntime, to: Streams, file: &mut [u8], image: &mut [u8]) -> R
     session::start(to, given, &file[..n], image).map_err(Failure::Write)
 }
 
-// Reads until there is no room or the input ends, and returns how many bytes there are.
+// Reads until there is no room or the input ends, and returns how many bytes there are. How many reads that takes is not known before.
 fn fill(from: &mut impl Read, file: &mut [u8]) -> Result<usize, Error>
     ensures { IfOk result (λ n. n ≤ length file.new) }
 {

@@ -22,7 +22,8 @@ pub(crate) fn clock(turns: u32) -> u64 {
     u64::from(turns) * u64::from(TICK)
 }
 
-// A session between two turns: both ends, the memory that is lent to them, what was counted, and the generator for the next message.
+// A session between two turns: both ends, the memory that is lent to them, what was counted, and the generator for the next message. That
+// its ends are over the line is no ghost field, which Rattle does not have beside a field that is a `&mut`: each contract says it.
 #[derive(Drop)]
 pub(crate) struct Session<'a> {
     pub ends: Ends,
