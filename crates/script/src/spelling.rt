@@ -43,6 +43,7 @@ pub fn spell(words: &[u8]) -> Option<Spelled>
     Some(Spelled { len, bytes })
 }
 
+// A function of its own: within the loop the proof does not see what a range that is filled leaves.
 fn fill(out: &mut [u8; ROOM], from: usize, byte: u8, n: usize)
     requires n_bound { from + n ≤ spelled_room }
     requires out_len { length out.old ≡ spelled_room }

@@ -6,7 +6,7 @@ use receiver_state::verdict::{Given, Verdict};
 use script::Field;
 use wire::codes;
 
-// The calls that leave a session.
+// The calls that leave a session. They are not one with those of the indoor end, which borrow other memories.
 pub(crate) fn step(
     word: &[u8],
     words: &[u8],
