@@ -1,15 +1,13 @@
 -- What `put` leaves, said of its parts: for callers that know whether there is room.
-use Prim.Native.Nat.{ℕ, ◌+◌, ◌-◌, ◌<◌, ◌≤◌}
-use mathlib.Core.Path.{◌≡◌, refl, ◌∙◌, ap, sym}
+use Prim.Native.Nat.{ℕ, ◌+◌, ◌<◌, ◌≤◌}
+use mathlib.Core.Path.{◌≡◌, refl, ◌∙◌}
 use mathlib.Core.List.{List, ◌++◌}
 use native.Mathlib.Nat.{zero-add}
 use native.Mathlib.Omega.{arith}
 use borrow.Author.Tests.{ltb-false}
 use lib.ListN.{length, take, drop, length-append, length-take, length-drop}
 use lib.Dec.{ltb}
-use borrow.Rule.Slice.PartMut.{put_mid, post_of, Post-is}
 use lib.Seq.{take_at, drop_at, length-take-le, drop-drop, take-append_seam, drop-append-add}
-use Rattle.std.proofs.lemmas.List.{append_assoc}
 use Rattle.basis.specs.Pick.{tests, pick_all}
 use Rattle.basis.specs.Left.{Left, left}
 use Rattle.lent.specs.Put.{Placed, stored, no_room, pasted, put_of}
@@ -18,13 +16,6 @@ use Rattle.lent.specs.Written.{written_into}
 pub put_fits : (d : List ℕ) (at : ℕ) (s : List ℕ) → at + length s ≤ length d → put_of d at s ≡ left stored (pasted d at s)
 unfolding put_of
 put_fits d at s h = simp tests
-
--- A part that was copied into its place.
-pub mid_pasted : (d s copied : List ℕ) (at n : ℕ) → n ≡ length s → copied ≡ s → put_mid at (at + n - at) d copied ≡ pasted d at s
-mid_pasted d s copied at n same copy =
-    let behind : post_of at (at + n - at) d ≡ drop (at + length s) d = Post-is at (at + n) d (omega arith) ∙ ap (λ k. drop (at + k) d) same in
-    ap (λ z. take at d ++ (z ++ post_of at (at + n - at) d)) copy ∙ ap (λ z. take at d ++ (s ++ z)) behind
-    ∙ sym (append_assoc (take at d) s (drop (at + length s) d))
 
 pub put_passes : (d : List ℕ) (at : ℕ) (s : List ℕ) → length d < at + length s → put_of d at s ≡ left no_room d
 unfolding put_of

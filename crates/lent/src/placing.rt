@@ -10,14 +10,16 @@ pub struct NoRoom;
 // A block of a file, but for its last (01, Sizes and numbers).
 const BLOCK: usize = 256;
 
-// `n` is the part's length. Where it is a constant, the compiler copies without a call.
-#[inline(always)]
+// `n` is the part's length. Where it is a constant, the compiler copies without a loop; it makes a call of `copy_from_slice`, which costs a block
+// 55 instructions more (docs/COSTS.md).
 fn paste(dst: &mut [u8], at: usize, src: &[u8], n: usize)
     requires n_value { n ≡ length src.now }
     requires n_in_bounds { at + n ≤ length dst.old }
     ensures { dst.new ≡ pasted dst.old at src.now }
 {
-    dst[at..at + n].copy_from_slice(src);
+    for j in 0..n {
+        dst[at + j] = src[j];
+    }
 }
 
 // The room is tested without a sum, which could wrap at a large place.

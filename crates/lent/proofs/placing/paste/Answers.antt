@@ -1,5 +1,8 @@
-use Rattle.lent.proofs.Laws.{mid_pasted}
+use Rattle.std.proofs.Common.{◌≡◌, arith, rules, add-one}
+use Rattle.std.proofs.Math.Seq.{paste, paste-suc}
 use Rattle.lent.proofs.placing.paste.Goals as goal
 
-pub returns : goal.returns
-returns c = mid_pasted c.args.dst.now c.args.src.now _ c.args.at c.args.n c.requires.n_value c.copy_from_slice.ensures.after
+pub loop-j-preserved : goal.loop-j-preserved
+loop-j-preserved c =
+    let a = c.args in
+    (search rules, cc (paste-suc a.dst.now a.at a.src.now c.loop-j.j 0 (omega arith) (omega arith), add-one c.loop-j.j))
