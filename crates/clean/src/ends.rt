@@ -8,7 +8,8 @@ use indoor_state::session::Indoor;
 use receiver_state::session::Receiver;
 use receiver_state::verdict::{Given, Verdict};
 
-// `underway` counts the bytes of the request on its way; 0 where there is none.
+// `underway` counts the bytes of the request on its way; 0 where there is none, as `written` of the calls says it.
+// The Ends of crate lossy_ends are another type: a line that loses has a message each way, and of each it knows whether it has come before.
 #[derive(Clone, Copy)]
 pub struct Ends {
     pub receiver: Receiver,

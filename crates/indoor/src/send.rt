@@ -45,7 +45,7 @@ fn send(plan: Plan, answer: Answer, file: &[u8], out: &mut Front) -> usize
     }
 }
 
-// A request without a block, or the head of a DATA request.
+// A request without a block, or the head of a DATA request. The receiver does so with a response: what they share is `Message::send`.
 pub(crate) fn message(request: Request, out: &mut Front) -> usize
     ensures { left result out.new ≡ returns_written (request_bytes request) out.old }
 {

@@ -1,4 +1,5 @@
-// One time call. It borrows the file and the output buffer, so that 28 and 27 can refuse it.
+// One time call. It borrows the file and the output buffer, so that 28 and 27 can refuse it. Their tests stand in the call for a response too:
+// each returns from its own call.
 ghost use Rattle.std.specs.Prelude.{◌≡◌};
 ghost use Rattle.basis.specs.Left.{left};
 ghost use Rattle.indoor_rules.specs.Time.{indoor_time_of};

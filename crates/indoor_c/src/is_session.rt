@@ -10,6 +10,7 @@ use silence::Settings;
 use width::{BYTE_MOST, HALF_MOST};
 use wire::codes;
 
+// A constant calls no From, so that these are cast.
 const LIMIT_LEAST: u32 = Settings::LIMIT_LEAST as u32;
 
 const LIMIT_MOST: u32 = Settings::LIMIT_MOST as u32;
@@ -18,7 +19,8 @@ const RESENDS_MOST: u32 = Settings::RESENDS_MOST as u32;
 
 const LENGTH_MOST: u32 = codes::IMAGE_SIZE_MOST as u32;
 
-// Words that are no session's: 29, as for settings of which none is made (01, Numbers we answer).
+// Words that are no session's: 29, as for settings of which none is made (01, Numbers we answer). A number, since a call for C answers one. The
+// receiver's library has its own, and its own test of the settings (`are_settings`): neither library leans on the other.
 pub(crate) const NO_SESSION: u64 = 29;
 
 #[unsafe(no_mangle)]

@@ -7,6 +7,7 @@ use indoor_state::phase::{Phase, Progress, Reason};
 use numbers::Numbered;
 use width::HALF_MOST;
 
+// A field for each word of a phase, by its name in include/harsolvek.h: in an array it would have its place alone.
 #[derive(Clone, Copy)]
 pub(crate) struct PhaseWords {
     pub phase: u32,
@@ -83,7 +84,7 @@ impl PhaseWords {
         }
     }
 
-    // A code that is no phase's is read as Identify; `is_phase` is false of it.
+    // A code that is no phase's is read as Identify; `is_phase` is false of it. No TryFrom, since the definition has a phase for every code.
     #[tactic(auto, using(basis::specs::Pick::tests), unfolding(crate::specs::PhaseWords::indoor_phase_of))]
     pub(crate) fn phase(self) -> Phase
         ensures { result ≡ indoor_phase_of self }
@@ -152,7 +153,7 @@ impl PhaseWords {
     }
 }
 
-// Of other numbers than 40 to 45 there is no reason; `is_phase` is false of them.
+// Of other numbers than 40 to 45 there is no reason; `is_phase` is false of them. No TryFrom, as for the phase (`indoor_reason_of`).
 #[tactic(auto, using(basis::specs::Pick::tests), unfolding(crate::specs::PhaseWords::indoor_reason_of))]
 fn reason_of(number: u32) -> Reason
     ensures { result ≡ indoor_reason_of number }

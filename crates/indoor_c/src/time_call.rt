@@ -1,4 +1,6 @@
 // One time call: the state is tested first (29); a call that only counts silence ends here, any other is the session's own.
+// It shares `is_session` and `leave` with the call for a response, and no more: between them it counts. The length is cast, since there is no
+// From of a u32 for a usize.
 ghost use Rattle.std.specs.Prelude.{◌≡◌, ◌+◌, ltb};
 ghost use Rattle.indoor_c.specs.Calls.{indoor_called, harsolvek_indoor_time};
 ghost use Rattle.indoor_c.specs.Counting.{only_counts};

@@ -11,8 +11,8 @@ use indoor_state::session::Indoor;
 use silence::Settings;
 use wire::request::Versions;
 
-// What is wider than its field is cut; `is_session` is false of it. The test and the session stand apart, in no Option: a time call that only
-// counts is tested and unpacks none.
+// What is wider than its field is cut, as the definition cuts it (`session_at`); `is_session` is false of it. The test and the session stand
+// apart, in no Option: a time call that only counts is tested and unpacks none.
 pub(crate) fn session_at(words: &[u32; 13]) -> Indoor
     ensures { result ≡ session_at words.now }
 {

@@ -44,7 +44,7 @@ pub(crate) fn high(word: u32) -> u16
     (word / 65536 % 65536) as u16
 }
 
-// The number of words: a caller compares it with its header's.
+// The number of words: a caller compares it with its header's. There is no From of a usize for a u64.
 #[unsafe(no_mangle)]
 pub extern "C" fn harsolvek_indoor_layout_1() -> u64
     ensures { result ≡ 13 }

@@ -57,7 +57,8 @@ fn passes_over(state: State) -> Step
     }
 }
 
-// Every status but OK is 41 (001 T5-29), whatever else the response says.
+// Every status but OK is 41 (001 T5-29), whatever else the response says. The further step is a value and no closure: to decide it touches
+// nothing.
 #[tactic(auto, using(basis::specs::Pick::tests), unfolding(indoor_rules::specs::Decide::where_ok, indoor_rules::specs::Decide::not_ok))]
 fn where_ok(status: u8, further: Step) -> Step
     ensures { result ≡ where_ok status further }

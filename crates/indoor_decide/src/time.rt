@@ -10,7 +10,8 @@ use indoor_state::plan::Plan;
 use indoor_state::step::Step;
 use silence::Event;
 
-// In Done and Failed time does nothing.
+// In Done and Failed time does nothing. The plan and the state come apart, as the definition takes them (`indoor_tick_of`): only the state
+// changes.
 #[tactic(auto, using(indoor_rules::proofs::Waits::waits), unfolding(indoor_rules::specs::Tick::indoor_tick_in))]
 pub fn pass(plan: Plan, state: State, elapsed: u16) -> Step
     ensures { result ≡ indoor_tick_of plan state elapsed }

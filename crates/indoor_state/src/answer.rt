@@ -5,6 +5,8 @@ ghost use Rattle.indoor_state.specs.Answer.{indoor_number_of, aborts_of, sends_o
 use crate::phase::Reason;
 use numbers::Numbered;
 
+// One enum for 0 and for what is refused, and no Result: with each comes the session after the call (`Outcome`), which 40 to 45 change as a 0
+// does.
 #[derive(Clone, Copy)]
 pub enum Answer {
     // 0, by the request that goes out.

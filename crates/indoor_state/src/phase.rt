@@ -30,8 +30,8 @@ impl Numbered for Reason {
     }
 }
 
-// The block last asked for, the milliseconds left of the wait before it is sent (0 for no wait), and whether the empty block has been
-// sent.
+// The block last asked for, the milliseconds left of the wait before it is sent (0 for no wait, as WaitTime has it), and whether the
+// empty block has been sent.
 #[derive(Clone, Copy)]
 pub struct Progress {
     pub asked: u16,

@@ -10,7 +10,7 @@ pub struct Release {
     pub versions: Versions,
 }
 
-// `length` is the file's, in bytes.
+// `length` is the file's, in bytes. It is cast where a slice's length is held against it: there is no From between u32 and usize.
 #[derive(Clone, Copy)]
 pub struct Plan {
     pub settings: Settings,

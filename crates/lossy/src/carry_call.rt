@@ -23,6 +23,7 @@ pub struct Carried {
 }
 
 // Each call draws two words from the generator, also where nothing is on its way. The message that went is still in its buffer.
+// What is lent comes part by part, since the contract says of each what it is left with.
 #[tactic(auto, using(basis::specs::Pick::tests), unfolding(crate::specs::Carry::carry_of, crate::specs::Carry::go_of))]
 pub fn carry(
     ends: Ends,

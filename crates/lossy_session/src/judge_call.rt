@@ -35,7 +35,7 @@ fn done(phase: Phase) -> bool
     matches!(phase, Phase::Done)
 }
 
-// As many bytes were accepted as the file has, and they are the file's.
+// As many bytes were accepted as the file has, and they are the file's. There is no From of a u32 for a usize.
 #[tactic(auto, using(basis::specs::Pick::tests), unfolding(crate::specs::Judge::same_of))]
 fn same(accepted: u32, image: &[u8], file: &[u8]) -> bool
     ensures { result ≡ same_of accepted image.now file.now }

@@ -60,7 +60,8 @@ impl Luck {
         first.next()
     }
 
-    // Lehmer's generator with the prime 2^31 - 1, which needs a word that is not 0.
+    // Lehmer's generator with the prime 2^31 - 1, which needs a word that is not 0. The remainder is below the prime, so that its cast loses
+    // nothing.
     #[tactic(auto, unfolding(crate::specs::Luck::next_luck))]
     fn next(self) -> Luck
         ensures { result ≡ next_luck self }

@@ -16,4 +16,5 @@ mod words;
 mod write;
 
 // Words that are no mailbox's: 29, as for a count of which none is made.
+// A number, since each call for C answers one (`mailbox_called`).
 pub(crate) const NO_MAILBOX: u64 = 29;

@@ -23,6 +23,7 @@ pub(crate) fn mask_of(notifications: Notifications) -> u16
     }
 }
 
+// One number is told apart from all others, so that a match would say no more.
 #[tactic(auto, using(basis::specs::Pick::tests), unfolding(crate::specs::Notifying::notifications_of))]
 pub(crate) fn notifications_of(on: u32, mask: u16) -> Notifications
     ensures { result ≡ notifications_of on mask }

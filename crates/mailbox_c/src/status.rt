@@ -62,7 +62,8 @@ pub(crate) fn running(status: CommandStatus) -> Command
     }
 }
 
-// A code that no status has is read as Nothing; `is_status` says whether there is one.
+// A code that no status has is read as Nothing; `is_status` says whether there is one. No TryFrom, since the definition has a status for every
+// code, and a code has a length and a command beside it.
 #[tactic(auto, using(basis::specs::Pick::tests), unfolding(crate::specs::Status::status_of, crate::specs::Status::rest_of))]
 pub(crate) fn status_of(code: u32, length: u8, command: Command) -> CommandStatus
     ensures { result ≡ status_of code length command }

@@ -15,6 +15,7 @@ pub(crate) fn flags_of(bits: u32) -> [bool; 8]
 }
 
 // Times this, bit 0 of byte k comes to bit k of the highest byte, and no two bits meet.
+// Eight bits are left of the product, so that the cast loses nothing.
 const GATHERS: u64 = 0x0102_0408_1020_4080;
 
 pub(crate) fn bits_of(w: [bool; 8]) -> u32

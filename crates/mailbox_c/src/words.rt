@@ -10,6 +10,7 @@ use mailbox_state::state::{Changes, State};
 use mailbox_state::status::Command;
 
 // A word that is too wide for its field is cut; `is_mailbox` says whether one is.
+// A `TryFrom` could fail, and would have to say what the state is then; the definition cuts the words too (`state_at`).
 #[tactic(auto, unfolding(crate::specs::Words::state_at))]
 pub(crate) fn state_at(words: &[u32; 10]) -> State
     ensures { result ≡ state_at words.now }

@@ -34,6 +34,8 @@ pub(crate) fn next(changes: Changes) -> Changes
     }
 }
 
+// A match, since the proof does not open the clause of a closure that is handed to `map_or`. A place of eight fits a byte, so that its cast
+// loses nothing.
 fn lowest(waiting: [bool; 8]) -> u8
     ensures { result ≡ lowest_of waiting }
 {

@@ -12,6 +12,7 @@ pub struct Mailbox {
     pub message: [u8; 256],
 }
 
+// It has no count of written bytes, as `lent::Outcome` has: MESSAGE_IN is within the mailbox.
 #[derive(Clone, Copy)]
 pub struct Outcome {
     pub mailbox: Mailbox,

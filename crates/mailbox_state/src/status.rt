@@ -1,7 +1,8 @@
 // The status of the last command (000 T3-2). Whether a command runs, whether an acknowledgement is due, and CCI are read off it, so that
 // no flag beside it can contradict it.
 
-// What the port is to do: `connector` is 0 where the command needs none, and `reset_type` is CONNECTOR_RESET's (000 T4-5), else 0.
+// What the port is to do: `connector` is 0 where the command needs none, and `reset_type` is CONNECTOR_RESET's (000 T4-5), else 0:
+// so C has them too (include/harsolvek.h).
 #[derive(Clone, Copy)]
 pub struct Command {
     pub code: u8,

@@ -7,7 +7,8 @@ use crate::step::{line_after, settle_zeros, step_of};
 use mailbox_state::mailbox::Mailbox;
 use recording::Ending;
 
-// Why no further record was played: none is found at the place, or its line does not fit into the output.
+// Why no further record was played: none is found at the place, or its line does not fit into the output. Full is a reason too, which the None
+// of an Option would not be.
 #[derive(Clone, Copy, Debug, PartialEq, Eq)]
 pub enum Stop {
     Ended(Ending),

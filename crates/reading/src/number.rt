@@ -1,4 +1,5 @@
 // Numbers in a message go low byte first (01, Sizes and numbers).
+// They are read by their place, as the tables of 001 count the bytes, and the caller has tested the message's length.
 ghost use Rattle.std.specs.Prelude.{◌≡◌, ◌+◌, ◌<◌, ◌≤◌, length};
 ghost use Rattle.wire.specs.Numbers.{word_at};
 ghost use Rattle.wire.specs.Identity.{versions_at};

@@ -16,6 +16,8 @@ use wire::codes;
 use wire::request::Request;
 
 // An answer in `Err` changes nothing: silence and resends are not set to zero either.
+// What is lent comes part by part, since the contract says of each what it is left with; so do the phase and the capacity, for a caller that
+// has the rest of the session in words (`harsolvek_receiver_request_raw`).
 #[tactic(auto, using(basis::specs::Pick::tests), unfolding(receiver_rules::specs::Hearing::heard_of))]
 pub fn hear(
     phase: Phase,
@@ -56,6 +58,8 @@ fn read(
     Ok(take(phase, capacity, image, request, valid, given))
 }
 
+// `valid` is what was just read in the request. That a block which is put into the image is part of it needs no test: it is a theorem
+// (`decide_has`, docs/DECISIONS.md), which needs the clause.
 fn take(
     phase: Phase,
     capacity: u32,

@@ -1,4 +1,5 @@
-// The image sum, worked out when asked (01, Sizes and numbers). It borrows the image alone, so only 28 can refuse it.
+// The image sum, worked out when asked (01, Sizes and numbers). It borrows the image alone, so only 28 can refuse it. There is no From of a u32
+// for a usize.
 ghost use Rattle.std.specs.Prelude.{◌≡◌};
 ghost use Rattle.receiver_rules.specs.Sum.{receiver_sum_of};
 

@@ -9,6 +9,7 @@ use silence::Settings;
 use width::{BYTE_MOST, HALF_MOST};
 use wire::codes;
 
+// There is no From of a usize for a u32.
 const CAPACITY_MOST: u32 = codes::IMAGE_SIZE_MOST as u32;
 
 // The most that three bytes can be.
@@ -42,6 +43,8 @@ pub(crate) fn is_session(words: &[u32; 14]) -> bool
     )
 }
 
+// The indoor end's words are held to the same limits by a definition of their own (`is_indoor_session`), which has a file's length where this
+// has a capacity.
 #[tactic(auto, using(basis::specs::Pick::tests), unfolding(crate::specs::Words::are_settings))]
 fn are_settings(limit: u32, resends: u32, capacity: u32) -> bool
     ensures { result ≡ are_settings limit resends capacity }

@@ -1,4 +1,5 @@
 // One time call. Most of them only count: they change one word, and the session is not unpacked for them.
+// What is stored is below the limit, a word of 32 bits, so that its cast loses nothing.
 ghost use Rattle.std.specs.Prelude.{◌≡◌, ◌+◌};
 ghost use Rattle.receiver_c.specs.Calls.{receiver_timed, only_counts, timed_at, harsolvek_receiver_time};
 

@@ -70,7 +70,7 @@ pub(crate) fn unpack_phase(words: &[u32; 14]) -> Phase
     )
 }
 
-// A code that is no phase's is read as Idle; no session has one.
+// A code that is no phase's is read as Idle; no session has one. No TryFrom, since the definition has a phase for every code.
 #[tactic(auto, using(basis::specs::Pick::tests), unfolding(crate::specs::Words::receiver_phase_of))]
 fn phase_of(code: u32, blocks: u16, bytes: u32, short: u32) -> Phase
     ensures { result ≡ receiver_phase_of code (accepted_counts blocks bytes) short }

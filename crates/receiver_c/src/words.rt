@@ -41,7 +41,9 @@ pub(crate) const AWAIT: u32 = 2;
 
 pub(crate) const GOOD: u32 = 3;
 
-// What every call answers to words that are no session's, as a start does to settings of which none is made.
+// What every call answers to words that are no session's, as a start does to settings of which none is made. A number, since a call for C
+// answers one. The indoor end's library has its own: neither leans on the other. No call shares more than this test, since each sets other
+// numbers beside it to 0.
 pub(crate) const NO_SESSION: u64 = 29;
 
 // Another layout of the words would have another symbol, so that a caller with another header does not link.

@@ -12,6 +12,7 @@ use wire::request::Request;
 // An image of 1,048,575 bytes has no block above this number (01, Sizes and numbers).
 const LAST_NUMBER: u16 = 4095;
 
+// An arm for each request here, and for each phase below: they are the rows of document 01's table, and no caller chooses a step.
 #[tactic(auto, using(basis::specs::Pick::tests), unfolding(receiver_rules::specs::Decide::receiver_decide_of))]
 pub fn decide(phase: Phase, request: Request, capacity: u32, given: Given) -> Step
     ensures { result ≡ receiver_decide_of phase request capacity given.readiness given.verdict }
@@ -115,6 +116,7 @@ fn close(accepted: Accepted) -> Step
 }
 
 // A number above the last one passes every capacity, also one that no session has: so what `take` adds up cannot wrap.
+// There is no From of a u32 for a usize.
 #[tactic(auto, using(basis::specs::Pick::tests), unfolding(receiver_rules::specs::Decide::passes_capacity))]
 fn passes_capacity(number: u16, size: usize, capacity: u32) -> bool
     ensures { result ≡ passes_capacity number size capacity }
@@ -122,6 +124,8 @@ fn passes_capacity(number: u16, size: usize, capacity: u32) -> bool
     LAST_NUMBER < number || image::passes(number, size, capacity as usize)
 }
 
+// `passes_capacity` is false of both numbers here: so no sum wraps, the cast loses nothing, and a second test would have an arm that no request
+// reaches.
 #[tactic(auto, using(basis::specs::Pick::tests), unfolding(receiver_rules::specs::Decide::take_block_of))]
 fn take(number: u16, size: usize, readiness: u8) -> Step
     requires number_le_last_number { number ≤ last_number }

@@ -8,6 +8,7 @@ use receiver_state::step::Tick;
 use silence::{Event, Grown, Settings};
 
 // Transfer asks for the next number with wait 0, Await repeats the closing answer.
+// The parts of the session come one by one, as the definition takes them (`receiver_tick_of`).
 #[tactic(auto, using(basis::specs::Pick::tests), unfolding(receiver_rules::specs::Tick::receiver_tick_of))]
 pub fn pass(phase: Phase, silence: u16, elapsed: u16, resends: u8, settings: Settings) -> Tick
     ensures { result ≡ receiver_tick_of phase silence elapsed resends settings }

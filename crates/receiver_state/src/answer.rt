@@ -3,6 +3,8 @@ ghost use Rattle.receiver_state.specs.Answer.{receiver_number_of};
 
 use numbers::Numbered;
 
+// One enum for 0 and for what is refused, and no Result: with each comes the session after the call (`Outcome`), which a request that is
+// refused with 21 to 25 changes too.
 #[derive(Clone, Copy)]
 pub enum Answer {
     // 0. A time call answers `Passed`, or `Asking` or `Closed` where it sends its DATA response again.

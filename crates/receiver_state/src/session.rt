@@ -5,6 +5,7 @@ use silence::Settings;
 use wire::response::Identity;
 
 // `silence` is in milliseconds, and `resends` counts the resends made since the last well-formed request.
+// `capacity` is cast where a length is held against it: there is no From between u32 and usize.
 #[derive(Clone, Copy)]
 pub struct Receiver {
     pub settings: Settings,

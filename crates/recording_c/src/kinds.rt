@@ -1,4 +1,5 @@
-// The kinds of records as C has them, enum harsolvek_record_kind.
+// The kinds of records as C has them, enum harsolvek_record_kind: numbers, which the header fixes. Those of crate recording are the bytes that
+// document 01 fixes.
 pub(crate) const CONTROL: u32 = 1;
 
 pub(crate) const CHANGE: u32 = 2;

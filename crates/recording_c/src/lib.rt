@@ -12,7 +12,7 @@ ghost use Rattle.recording_c.specs.Layout.{harsolvek_recording_layout};
 // The bytes of the longest record, CONTROL's (01, Replay program).
 pub(crate) const RECORD_MOST: usize = 9;
 
-// 01, Numbers we answer: a buffer that is too short.
+// 01, Numbers we answer: a buffer that is too short. A number, since a call for C answers one.
 pub(crate) const BUFFER_SHORT: u64 = 27;
 
 // The bytes of the longest record. The 1 of the name is raised when a parameter changes, so that a header and an archive which do not

@@ -6,7 +6,7 @@ use crate::{BUFFER_SHORT, RECORD_MOST, kinds};
 use numbers::Numbered;
 use recording::Record;
 
-// A kind that there is not is malformed (01, Numbers we answer).
+// A kind that there is not is malformed (01, Numbers we answer). A number, since the call for C answers one.
 const MALFORMED: u64 = 20;
 
 #[unsafe(no_mangle)]

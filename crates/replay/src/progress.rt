@@ -33,6 +33,7 @@ impl Progress {
     }
 
     // How much is held is a clause, and no invariant of the type: it holds of a run that goes on alone.
+    // Both arrays come beside it in each step, since the contracts say of each what it is left with.
     // One read. There is room for a byte at least, so that where nothing has come the recording is at its end.
     pub(crate) fn turn(
         self,

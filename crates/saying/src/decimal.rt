@@ -9,6 +9,7 @@ use crate::said::Said;
 const DIGITS: usize = 20;
 
 impl Said {
+    // A length is cast for it: there is no From of a usize for a u64.
     pub fn number(self, n: u64) -> Said
         ensures { result ≡ number_text_of self n }
     {
@@ -37,7 +38,7 @@ impl Said {
 }
 
 // The digits are written at the end of the array; the result is where they begin. The number is divided here, where the edit
-// `every_second_digit` divides it wrongly.
+// `every_second_digit` divides it wrongly. A remainder of 10 fits a byte, so that its cast loses nothing.
 fn spell(n: u64, out: &mut [u8; DIGITS]) -> usize
     requires { length out.old ≡ 20 }
     ensures out_len { length out.new ≡ 20 }

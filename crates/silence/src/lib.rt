@@ -66,7 +66,8 @@ pub struct Grown {
     pub event: Event,
 }
 
-// The sum is taken in a wider type, so that no silence and no elapsed time can wrap.
+// The sum is taken in a wider type, so that no silence and no elapsed time can wrap. Below the limit it has 16 bits, so that its cast loses
+// nothing.
 #[tactic(auto, using(basis::specs::Pick::tests), unfolding(crate::specs::Expiry::grown_of))]
 pub fn grow(silence: u16, elapsed: u16, resends: u8, settings: Settings) -> Grown
     ensures { result ≡ grown_of silence elapsed resends settings }

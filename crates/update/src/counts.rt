@@ -2,7 +2,7 @@
 use luck::{Answered, Going, Lost, Went};
 use std::fmt;
 
-// `pushed` counts those that a newer message replaced before they arrived.
+// `pushed` counts those that a newer message replaced before they arrived. Each of the five counts something else, and has a name for it.
 #[derive(Clone, Copy)]
 pub(crate) struct Counts {
     requests: u32,
@@ -47,7 +47,7 @@ impl Counts {
         counted.below(answered)
     }
 
-    // The receiver was called.
+    // The receiver was called. This and `below` differ in the field that counts what was sent, which no parameter can name.
     pub(crate) fn above(self, answered: Answered) -> Counts {
         Counts {
             responses: plus(self.responses, answered.sent),

@@ -103,7 +103,7 @@ fn half(rt: &impl Env, place: usize, usual: u32) -> Option<u16> {
     u16::try_from(number(rt, place, usual, VERSION_MOST)?).ok()
 }
 
-// The argument at this place, a number of at most `most`; `usual` where there is none.
+// The argument at this place, a number of at most `most`; `usual` where there is none. There is no From of a u32 for a usize.
 fn number(rt: &impl Env, place: usize, usual: u32, most: u32) -> Option<u32> {
     let mut word = [0u8; WORD];
     let Some(n) = argument(rt, place, &mut word) else {

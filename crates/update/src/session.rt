@@ -76,6 +76,7 @@ pub(crate) fn start(to: Streams, given: Given, file: &[u8], image: &mut [u8]) ->
     run(to, given.quiet, session)
 }
 
+// There is no From of a usize for a u64.
 fn run(to: Streams, quiet: bool, mut session: Session) -> Result<(), Error>
     requires { Over session.file.now session.ends session.image.now session.up session.down }
 {

@@ -1,6 +1,7 @@
 // The file that is lent to the indoor end. No two of its whole blocks are alike, so that it shows which one went out.
 
 // The bytes at even places depend on the low byte of the block's number, those at odd places on its high byte too.
+// Both sums are cut to a byte on purpose: a `TryFrom` would fail where they wrap.
 fn byte(at: usize) -> u8 {
     let low = at % 256 + at / 256;
     if at % 2 == 0 {

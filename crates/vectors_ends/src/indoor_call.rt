@@ -16,7 +16,7 @@ pub(crate) fn start(
     Some(indoor::start(limit.word(), resends.byte(), release, file, buffer))
 }
 
-// The calls that need a session.
+// The calls that need a session. They get no Bench, of whose memories they borrow a part alone.
 pub(crate) fn step(
     word: &[u8],
     words: &[u8],

@@ -6,7 +6,8 @@ use receiver_state::verdict::{Given, Verdict};
 use script::Field;
 use wire::codes;
 
-// The calls that leave a session. They are not one with those of the indoor end, which borrow other memories.
+// The calls that leave a session. They are not one with those of the indoor end, which borrow other memories, and they get no Bench, of whose
+// memories they borrow a part alone.
 pub(crate) fn step(
     word: &[u8],
     words: &[u8],

@@ -5,7 +5,7 @@ ghost use Rattle.std.specs.Prelude.{◌≡◌};
 ghost use Rattle.width.specs.Narrow.{at_most};
 ghost use Rattle.width.specs.Halves.{halves_of};
 
-// The most that a number of 8 bits can be.
+// The most that a number of 8 bits can be. A constant calls no From, so that both are cast.
 pub const BYTE_MOST: u32 = u8::MAX as u32;
 
 // The most that a number of 16 bits can be.
@@ -27,6 +27,7 @@ pub fn to_half(number: u32) -> u16
     u16::try_from(number).unwrap_or(u16::MAX)
 }
 
+// The sum is the definition's own (`halves_of`).
 pub fn halves(low: u16, high: u16) -> u32
     ensures { result ≡ halves_of low high }
 {

@@ -8,6 +8,7 @@ use wire::codes;
 // The longest message that has no block is a GET_FW_ID response (001 T5-18).
 const MOST: usize = codes::GET_FW_ID_RESPONSE_LENGTH;
 
+// There is no model of it as its bytes alone: the contracts give the zeros behind them too, and what `send` does with any length.
 #[derive(Clone, Copy)]
 pub struct Message {
     pub bytes: [u8; MOST],
