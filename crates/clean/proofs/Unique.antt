@@ -2,7 +2,7 @@
 use Rattle.std.specs.Prelude.{List, ℕ, ◌≡◌, Result}
 use Rattle.basis.specs.Left.{left}
 use Rattle.basis.specs.Only.{only}
-use Rattle.clean.specs.Run.{clean_run_of}
+use Rattle.clean.specs.Run.{clean_number_of, clean_run_of}
 use Rattle.clean.specs.Turn.{turned, clean_turn_of}
 use Rattle.clean.specs.declared.ends.Ends.{Ends}
 use Rattle.clean.specs.declared.ran.Ended.{Ended}
@@ -15,6 +15,12 @@ pub one_turn : (self : Ends) (file image up down : List ℕ) (r r' : Ends) (imag
     → turned r' image_left' up_left' down_left' ≡ clean_turn_of self file image up down
     → turned r image_left up_left down_left ≡ turned r' image_left' up_left' down_left'
 one_turn self file image up down r r' image_left image_left' up_left up_left' down_left down_left' is is' = only is is'
+
+pub one_number : (ran : Result Ended NotRun) (r r' : ℕ)
+    → r ≡ clean_number_of ran
+    → r' ≡ clean_number_of ran
+    → r ≡ r'
+one_number ran r r' is is' = only is is'
 
 pub one_run : (limit resends : ℕ) (identity : Identity) (release : Release) (file image : List ℕ) (r r' : Result Ended NotRun) (image_left image_left' : List ℕ)
     → left r image_left ≡ clean_run_of limit resends identity release file image

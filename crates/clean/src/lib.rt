@@ -7,5 +7,5 @@ mod ran;
 mod session;
 
 pub use ends::Ends;
-pub use ran::{Ended, NotRun};
+pub use ran::{Ended, NotRun, number};
 pub use session::run;

@@ -1,6 +1,6 @@
 // The result of a session.
 ghost use Rattle.std.specs.Prelude.{◌≡◌};
-ghost use Rattle.clean.specs.Run.{ended_number_of, not_run_number_of};
+ghost use Rattle.clean.specs.Run.{ended_number_of, not_run_number_of, clean_number_of};
 
 use indoor_state::phase::Phase;
 use numbers::Numbered;
@@ -39,5 +39,15 @@ impl Numbered for NotRun {
             NotRun::Settings => 29,
             NotRun::FileSize => 46,
         }
+    }
+}
+
+// The number of a session that was run or not. A Result's own number would be 0 of every one that was run, also where the indoor end failed.
+pub fn number(ran: Result<Ended, NotRun>) -> u8
+    ensures { result ≡ clean_number_of ran }
+{
+    match ran {
+        Ok(ended) => ended.number(),
+        Err(refusal) => refusal.number(),
     }
 }

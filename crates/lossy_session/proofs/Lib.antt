@@ -1,4 +1,5 @@
 pub mod Starts
+pub mod Numbers
 pub mod Passes
 pub mod Judges
 pub mod Unique

@@ -1,7 +1,6 @@
 // A whole session of both ends over a clean line, on the image and the file that the sessions of one end borrow too.
 use crate::{bench, receiver_line, release, session};
 use clean::{Ended, NotRun};
-use numbers::Numbered;
 use saying::Said;
 use script::Field;
 
@@ -31,15 +30,11 @@ pub(crate) fn answer(words: &[u8], file: &[u8], image: &mut [u8]) -> Option<Said
 }
 
 fn run_text(ran: Result<Ended, NotRun>) -> Said {
+    let said = Said::nothing().number(u64::from(clean::number(ran)));
     match ran {
-        Err(refusal) => Said::nothing().number(u64::from(refusal.number())),
-        Ok(ended) => {
-            let said = Said::nothing()
-                .number(u64::from(ended.number()))
-                .text(b" :");
-            session::indoor_phase(said, ended.phase)
-                .text(b" :")
-                .number(u64::from(ended.requests))
-        }
+        Err(_) => said,
+        Ok(ended) => session::indoor_phase(said.text(b" :"), ended.phase)
+            .text(b" :")
+            .number(u64::from(ended.requests)),
     }
 }

@@ -8,3 +8,4 @@ pub mod ResponseBytes
 pub mod Types
 pub mod LayoutWritten
 pub mod LayoutRead
+pub mod Unique
