@@ -16,6 +16,22 @@ impl Streams {
         self.out.println(line)
     }
 
+    // Of two lines neither of which could be written the first is told here, and the second is handed on.
+    pub(crate) fn both(
+        self,
+        first: Result<(), Error>,
+        second: Result<(), Error>,
+    ) -> Result<(), Error> {
+        match (first, second) {
+            (Err(first), Err(second)) => {
+                self.complain(format_args!("write: {first}"));
+                Err(second)
+            }
+            (first, Ok(())) => first,
+            (Ok(()), second) => second,
+        }
+    }
+
     // What stands on standard error makes the status of whoever runs the program (tools/run). What it does not take is lost: there is nowhere
     // else to tell it.
     pub(crate) fn complain<D: Display + Drop>(self, line: D) {

@@ -1,5 +1,5 @@
 // A whole session: both starts, and then turns until the indoor end is done or has failed.
-ghost use Rattle.std.specs.Prelude.{◌≡◌, OnOk};
+ghost use Rattle.std.specs.Prelude.{◌≡◌};
 ghost use Rattle.lossy_ends.specs.Over.{Over};
 
 use crate::counts::Counts;
@@ -30,7 +30,7 @@ const TURNS_MOST: u32 = 10000000;
 // Returns how many turns were taken.
 fn carry(session: &mut Session, start_view: View) -> Result<u32, Error>
     requires { Over session.old.file.now session.old.ends session.old.image.now session.old.up session.old.down }
-    ensures over { OnOk result (Over session.old.file.now session.new.ends session.new.image.now session.new.up session.new.down) }
+    ensures over { Over session.old.file.now session.new.ends session.new.image.now session.new.up session.new.down }
     ensures file { session.new.file ≡ session.old.file }
 {
     start_view.heading()?;

@@ -1,5 +1,5 @@
 // One turn: at most one message arrives or is lost, and then time passes at both ends.
-ghost use Rattle.std.specs.Prelude.{◌≡◌, OnOk};
+ghost use Rattle.std.specs.Prelude.{◌≡◌};
 ghost use Rattle.lossy_ends.specs.Over.{Over};
 
 use crate::counts::Counts;
@@ -36,10 +36,11 @@ pub(crate) struct Session<'a> {
 }
 
 impl Session<'_> {
-    // The message is printed before time passes, since an end may then write another one into its buffer.
+    // The message is printed before time passes, since an end may then write another one into its buffer. A line that cannot be written keeps
+    // nothing back that the turn does.
     pub(crate) fn step(&mut self, view: View) -> Result<(), Error>
         requires { Over self.old.file.now self.old.ends self.old.image.now self.old.up self.old.down }
-        ensures over { OnOk result (Over self.old.file.now self.new.ends self.new.image.now self.new.up self.new.down) }
+        ensures over { Over self.old.file.now self.new.ends self.new.image.now self.new.up self.new.down }
         ensures file { self.new.file ≡ self.old.file }
     {
         let carried = lossy::carry(
@@ -50,7 +51,7 @@ impl Session<'_> {
             &mut self.up,
             &mut self.down,
         );
-        message(carried, view, &self.up, &self.down)?;
+        let told = message(carried, view, &self.up, &self.down);
         let passed = lossy_session::pass(
             carried.ends,
             TICK,
@@ -58,7 +59,7 @@ impl Session<'_> {
             &mut self.up,
             &mut self.down,
         );
-        silence(carried.ends, passed, view)?;
+        let silent = silence(carried.ends, passed, view);
         self.ends = passed.ends;
         self.counts = self
             .counts
@@ -66,7 +67,7 @@ impl Session<'_> {
             .above(passed.above)
             .below(passed.below);
         self.luck = carried.going.luck;
-        Ok(())
+        view.to.both(told, silent)
     }
 
     // The indoor end is done or has failed, and no ABORT is on its way.
@@ -80,6 +81,9 @@ fn message(carried: Carried, view: View, up: &[u8], down: &[u8]) -> Result<(), E
     let Some(arrived) = carried.went else {
         return Ok(());
     };
+    if view.quiet {
+        return Ok(());
+    }
     let going = carried.going;
     let alloc = view.to.alloc;
     let words = worded(going, alloc, up, down)?;
@@ -122,17 +126,20 @@ fn worded(going: Going, alloc: Global, up: &[u8], down: &[u8]) -> Result<String,
 fn silence(before: Ends, passed: Passed, view: View) -> Result<(), Error> {
     let was_idle = phases::idle(before.receiver.phase);
     let is_idle = phases::idle(passed.ends.receiver.phase);
-    if !was_idle && is_idle {
-        view.silence("the receiver gives up and is Idle")?;
+    let above = if !was_idle && is_idle {
+        view.silence("the receiver gives up and is Idle")
     } else if passed.above.sent {
-        view.silence("the receiver sends again")?;
-    }
+        view.silence("the receiver sends again")
+    } else {
+        Ok(())
+    };
     // Time answers 0 or 40, and ABORT goes out with 40 (01, Numbers we answer).
-    if passed.below.number != 0 {
-        return view.silence("the indoor end gives up and sends ABORT: 40");
-    }
-    if passed.below.sent {
-        return view.silence("the indoor end sends again");
-    }
-    Ok(())
+    let below = if passed.below.number != 0 {
+        view.silence("the indoor end gives up and sends ABORT: 40")
+    } else if passed.below.sent {
+        view.silence("the indoor end sends again")
+    } else {
+        Ok(())
+    };
+    view.to.both(above, below)
 }

@@ -28,6 +28,9 @@ impl View {
 
     // A line: the time, the direction of the message or what is told in its place, and the rest.
     pub(crate) fn row<D: Display + Drop>(self, way: &str, rest: D) -> Result<(), Error> {
+        if self.quiet {
+            return Ok(());
+        }
         let time = format!(in self.to.alloc; "{:>8} ms", self.clock)?;
         self.say(format_args!("{time:<12} {way:<12} {rest}"))
     }
