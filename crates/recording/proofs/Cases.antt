@@ -11,6 +11,7 @@ use lib.Seq.{length-take-le}
 use Rattle.basis.specs.Pick.{pick_all}
 use Rattle.basis.specs.Bytes.{byte_at}
 use Rattle.recording.specs.Reading.{found, control_at, change_at, whole, next_record_of}
+use Rattle.recording.specs.Record.{Eight}
 use Rattle.recording.specs.Writing.{record_bytes_of}
 use Rattle.recording.specs.declared.record.Record.{Record}
 use Rattle.recording.specs.declared.record.Record.TheVariants.{Success, Failure}
@@ -75,6 +76,16 @@ next_past s at =
 
 pub found_past : (s : List ℕ) (at : ℕ) (r : Record) (next : ℕ) → next_record_of s at ≡ found r next → Past s at (found r next)
 found_past s at r next e = subst (Past s at) e (next_past s at)
+
+-- A record of CONTROL that is found has its eight bytes.
+abbrev pub FoundEight : Result Found Ending → Type 0
+FoundEight (Ok f) = Eight f.«record»
+FoundEight (Err e) = Unit
+
+pub next_eight : (s : List ℕ) (at : ℕ) → FoundEight (next_record_of s at)
+next_eight s at =
+    next_all FoundEight s at (λ _. tt) (λ _ _. tt) (λ _ _. tt)
+    (λ _ h. length-take-le 8 (drop (at + 1) s) (simp length-drop (omega arith))) (λ _ _. tt) (λ _ _. tt) (λ _ _. tt)
 
 -- After a whole recording no byte is left, and of a cut record at most 8 bytes are: the longest record has 9.
 abbrev pub Short : List ℕ → ℕ → Result Found Ending → Type 0

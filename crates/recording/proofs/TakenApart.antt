@@ -12,7 +12,7 @@ use Rattle.recording.specs.Writing.{record_bytes_of}
 use Rattle.recording.specs.Apart.{Apart, apart, onward, turns, apart_of, written_of}
 use Rattle.recording.proofs.ByKind.{nothing_there}
 use Rattle.recording.proofs.Moved.{moved, next_drop}
-use Rattle.recording.proofs.Cases.{Past, next_past}
+use Rattle.recording.proofs.Cases.{Past, next_past, FoundEight, next_eight}
 use Rattle.basis.specs.Bytes.{Bytes}
 use Rattle.recording.proofs.RoundTrip.{read_back, Consumes, consumed}
 use Rattle.recording.specs.declared.record.Record.{Record}
@@ -80,29 +80,31 @@ one_way rs rs' rest rest' eights eights' b b' e =
           ∙ drop-append_seam (written_of rs') rest',
     )
 
--- The records written again, and then the rest, are the recording.
+-- The records written again, and then the rest, are the recording. Each of CONTROL has its eight bytes, so that `one_way` is of them too.
 pub record Rebuilt (s : List ℕ) (a : Apart) : Type 0 where
   pub rest : List ℕ
   pub whole : s ≡ written_of a.records ++ rest
   pub ended : next_record_of rest 0 ≡ Err a.ending
+  pub eights : AllEight a.records
 
 -- The first record has been read, and the rest is rebuilt.
 again : (bytes : ℕ) → ((t : List ℕ) → length t ≤ bytes → Bytes t → Rebuilt t (apart_of t))
-    → (s : List ℕ) → length s ≤ suc bytes → Bytes s → (x : Result Found Ending) → next_record_of s 0 ≡ x → Past s 0 x → Consumes s 0 x → Rebuilt s (onward apart_of s x)
-again bytes ih s h b (Err ending) e past eats = record { rest = s; whole = refl; ended = e }
-again bytes ih s h b (Ok f) e past eats =
+    → (s : List ℕ) → length s ≤ suc bytes → Bytes s → (x : Result Found Ending) → next_record_of s 0 ≡ x → Past s 0 x → Consumes s 0 x → FoundEight x → Rebuilt s (onward apart_of s x)
+again bytes ih s h b (Err ending) e past eats eight = record { rest = s; whole = refl; ended = e; eights = tt }
+again bytes ih s h b (Ok f) e past eats eight =
     let t = ih (drop f.next s) (simp length-drop (omega (arith, past))) (λ i. rw (get_or-drop f.next s i 0) (b (f.next + i))) in
     record {
       rest = t.rest;
       whole = eats ∙ ap (λ (l : List ℕ). record_bytes_of f.«record» ++ l) t.whole ∙ sym (append_assoc (record_bytes_of f.«record») (written_of (apart_of (drop f.next s)).records) t.rest);
       ended = t.ended;
+      eights = (eight, t.eights);
     }
 
 rebuild : (bytes : ℕ) (s : List ℕ) → length s ≤ bytes → Bytes s → Rebuilt s (apart_of s)
 rebuild zero s h b =
     let e = nothing_there s 0 h in
-    subst (Rebuilt s) (sym (apart_step s ∙ ap (onward apart_of s) e)) (record { rest = s; whole = refl; ended = e })
-rebuild (suc bytes) s h b = subst (Rebuilt s) (sym (apart_step s)) (again bytes (rebuild bytes) s h b (next_record_of s 0) refl (next_past s 0) (consumed s 0 b))
+    subst (Rebuilt s) (sym (apart_step s ∙ ap (onward apart_of s) e)) (record { rest = s; whole = refl; ended = e; eights = tt })
+rebuild (suc bytes) s h b = subst (Rebuilt s) (sym (apart_step s)) (again bytes (rebuild bytes) s h b (next_record_of s 0) refl (next_past s 0) (consumed s 0 b) (next_eight s 0))
 
 pub rebuilt : (s : List ℕ) → Bytes s → Rebuilt s (apart_of s)
 rebuilt s b = rebuild (length s) s (le_refl (length s)) b
