@@ -4,8 +4,7 @@ ghost use Rattle.mailbox_rules.specs.MessageIn.{filled_of, settled_of};
 
 use mailbox_state::step::MessageEffect;
 
-// `bytes` are those that the port reports. A cleared MESSAGE_IN is built as `[0; 256]` at each of the three, as document 01 names it
-// ("a 256-byte MESSAGE_IN inside its state").
+// `bytes` are those that the port reports. A cleared MESSAGE_IN is built as `[0; 256]` at each of the three (01, What to write where).
 #[tactic(auto, unfolding(mailbox_rules::specs::MessageIn::settled_of, mailbox_rules::specs::MessageIn::zero_message_in))]
 pub fn settle(message: &mut [u8; 256], effect: MessageEffect, bytes: &[u8])
     ensures { message.new ≡ settled_of message.old effect bytes.now }
