@@ -13,8 +13,8 @@ pub struct Passed {
     pub below: Answered,
 }
 
-#[tactic(auto, unfolding(crate::specs::Pass::both_pass_of, crate::specs::Clock::roof_passes, crate::specs::Clock::indoor_passes))]
 // What is lent comes part by part, since the contract says of each what it is left with.
+#[tactic(auto, unfolding(crate::specs::Pass::both_pass_of, crate::specs::Clock::roof_passes, crate::specs::Clock::indoor_passes))]
 pub fn pass(ends: Ends, elapsed: u16, file: &[u8], up: &mut [u8], down: &mut [u8]) -> Passed
     ensures { both result up.new down.new ≡ both_pass_of ends elapsed file.now up.old down.old }
 {

@@ -11,8 +11,8 @@ use wire::codes;
 use wire::malformed::Malformed;
 use wire::response::{Identity, Response};
 
-#[tactic(auto, using(basis::specs::Pick::tests), unfolding(wire::specs::Response::parsed_response_of))]
 // It shares the test of the header with `read_request`, and nothing behind it: each has codes, lengths and a type of its own.
+#[tactic(auto, using(basis::specs::Pick::tests), unfolding(wire::specs::Response::parsed_response_of))]
 pub fn read_response(msg: &[u8]) -> Result<Response, Malformed>
     ensures { result ≡ parsed_response_of msg.now }
 {
@@ -70,8 +70,8 @@ fn identity_in(msg: &[u8]) -> Identity
     }
 }
 
-#[tactic(auto, using(basis::specs::Pick::tests), unfolding(wire::specs::Response::initiated_in))]
 // The sum is the definition's own (`initiated_in`), of a number of 20 bits.
+#[tactic(auto, using(basis::specs::Pick::tests), unfolding(wire::specs::Response::initiated_in))]
 fn initiated(msg: &[u8]) -> Result<Response, Malformed>
     ensures { result ≡ initiated_in msg.now }
 {
