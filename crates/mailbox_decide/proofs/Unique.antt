@@ -1,5 +1,5 @@
 -- Each public contract leaves one answer and one state of the lent memory. Written from the contracts by tools/contracts.
-use Rattle.std.specs.Prelude.{ℕ, ◌≡◌, Result}
+use Rattle.std.specs.Prelude.{ℕ, ◌≡◌, Result, ⊤}
 use Rattle.basis.specs.Only.{only}
 use Rattle.commands.specs.declared.control.Control.{Control}
 use Rattle.mailbox_rules.specs.Cci.{cci_bits_of}
@@ -7,11 +7,12 @@ use Rattle.mailbox_rules.specs.Change.{change_step_of}
 use Rattle.mailbox_rules.specs.Report.{success_step_of, failure_step_of}
 use Rattle.mailbox_rules.specs.Write.{control_step_of}
 use Rattle.mailbox_state.specs.Connectors.{connectors_of}
-use Rattle.mailbox_state.specs.Step.{refused}
+use Rattle.mailbox_state.specs.Step.{mailbox_step, refused}
 use Rattle.mailbox_state.specs.declared.answer.Refusal.{Refusal}
 use Rattle.mailbox_state.specs.declared.mailbox.NoMailbox.{NoMailbox}
 use Rattle.mailbox_state.specs.declared.state.State.{State}
 use Rattle.mailbox_state.specs.declared.status.CommandStatus.{CommandStatus}
+use Rattle.mailbox_state.specs.declared.step.MessageEffect.TheVariants.{Kept}
 use Rattle.mailbox_state.specs.declared.step.Step.{Step}
 
 pub one_cci : (status : CommandStatus) (shown r r' : ℕ)
@@ -49,6 +50,12 @@ pub one_fail : (state : State) (r r' : Step)
     → r' ≡ failure_step_of state
     → r ≡ r'
 one_fail state r r' is is' = only is is'
+
+pub one_kept : (state : State) (answer : Result ⊤ Refusal) (r r' : Step)
+    → r ≡ mailbox_step state answer Kept
+    → r' ≡ mailbox_step state answer Kept
+    → r ≡ r'
+one_kept state answer r r' is is' = only is is'
 
 pub one_refused : (state : State) (refusal : Refusal) (r r' : Step)
     → r ≡ refused state refusal

@@ -16,4 +16,4 @@ pub use command::write;
 pub use connectors::count;
 pub use notice::change;
 pub use report::{fail, succeed};
-pub use step::refused;
+pub use step::{kept, refused};
