@@ -24,12 +24,6 @@ use Rattle.indoor_state.specs.declared.session.Indoor.{Indoor}
 use Rattle.indoor_state.specs.Session.{indoor_made}
 use Rattle.indoor_state.specs.declared.session.StartRefused.TheVariants.{Settings, FileSize, BufferShort}
 
--- Where the file has a block and an image's length at most, and the buffer has room, a session is made.
-pub begins : (settings : silence.Settings) (release : Release) (file out : List ℕ) → (length file ≡ 0 → ⊥) → length file ≤ image_size_most → longest ≤ length out
-    → indoor_begin_of settings release file out ≡ indoor_begun (indoor_plan settings release (length file)) out
-unfolding indoor_begin_of
-begins settings release file out some most room = search tests
-
 module _ (limit resends : ℕ) (release : Release) (file out : List ℕ) where
   refused : (x : Checked) → silent.settings_number_of x ≡ 29 → indoor_started_of x release file out ≡ left (Err Settings) out
   unfolding indoor_started_of
@@ -65,3 +59,9 @@ module _ (limit resends : ℕ) (release : Release) (file out : List ℕ) where
       unfolding indoor_started_of indoor_begin_of request_bytes bare_bytes pick
       start_made h =
           rw (within_made limit resends within, ne_eqb (length file) 0 (λ e. omega arith), le-ltb 1048575 (length file) most, le-ltb (length out) 260 h)
+
+-- Where the file has a block and an image's length at most, and the buffer has room, a session is made.
+pub begins : (settings : silence.Settings) (release : Release) (file out : List ℕ) → (length file ≡ 0 → ⊥) → length file ≤ image_size_most → longest ≤ length out
+    → indoor_begin_of settings release file out ≡ indoor_begun (indoor_plan settings release (length file)) out
+unfolding indoor_begin_of
+begins settings release file out some most room = search tests
