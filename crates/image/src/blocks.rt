@@ -8,6 +8,7 @@ use lent::NoRoom;
 // The bytes of a block (001 T5-8); a file's last may have fewer.
 pub const BLOCK: usize = 256;
 
+#[tactic(auto, unfolding(crate::specs::Blocks::blocks_of))]
 pub fn blocks_in(len: usize) -> usize
     ensures { result ≡ blocks_of len }
 {
