@@ -178,12 +178,12 @@ session_valid w e =
     }
 
 -- Where all but the phase has been tested, the phase decides.
-session_in_phase : (w : List ℕ) → Within (word_at w 0) (word_at w 1) → (word_at w 2 ≡ 0 → ⊥) → word_at w 2 ≤ image_size_most → word_at w 7 ≤ 65535 → word_at w 8 ≤ 255
+pub session_in_phase : (w : List ℕ) → Within (word_at w 0) (word_at w 1) → (word_at w 2 ≡ 0 → ⊥) → word_at w 2 ≤ image_size_most → word_at w 7 ≤ 65535 → word_at w 8 ≤ 255
     → is_indoor_session w ≡ is_indoor_phase (phase_words_at w)
 unfolding is_indoor_session
 session_in_phase w within some most silent resent = rw (within_made (word_at w 0) (word_at w 1) within) (search tests)
 
-some_not : (n : ℕ) → 1 ≤ n → n ≡ 0 → ⊥
+pub some_not : (n : ℕ) → 1 ≤ n → n ≡ 0 → ⊥
 some_not n h e = omega arith
 
 pub valid_session : (w : List ℕ) → IndoorSessionValid w → is_indoor_session w ≡ true
