@@ -7,6 +7,7 @@ use Rattle.indoor_state.specs.Answer.{indoor_number_of}
 use Rattle.indoor_state.specs.Session.{IndoorStart, indoor_start_number_of, IndoorOutcome}
 use Rattle.indoor_state.specs.declared.plan.Release.{Release}
 use Rattle.indoor_state.specs.declared.session.Indoor.{Indoor}
+use Rattle.indoor_state.specs.declared.session.StartRefused.TheVariants.{Settings, FileSize, BufferShort}
 use Rattle.indoor_rules.specs.Start.{indoor_start_of}
 use Rattle.indoor_rules.specs.Response.{indoor_response_of}
 use Rattle.indoor_rules.specs.Time.{indoor_time_of}
@@ -37,7 +38,9 @@ filled s written = left written (words_of s)
 -- How many bytes a start wrote, and the words: all zero where it was refused.
 unfoldable pub began_of : IndoorStart → Left ℕ
 began_of (Ok made) = filled made.session made.written
-began_of (Err refused) = left 0 no_words
+began_of (Err Settings) = left 0 no_words
+began_of (Err FileSize) = left 0 no_words
+began_of (Err BufferShort) = left 0 no_words
 
 abbrev pub indoor_started : Left IndoorStart → IndoorCalled
 indoor_started x = indoor_called (indoor_start_number_of x.answer) (began_of x.answer).answer (began_of x.answer).memory x.memory
