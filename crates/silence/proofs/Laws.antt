@@ -13,7 +13,7 @@ use Rattle.silence.specs.declared.Settings.{Settings}
 use Rattle.silence.specs.declared.Grown.{Grown}
 use Rattle.silence.specs.declared.Event.TheVariants.{Quiet, Resend, NoneLeft}
 
--- Settings within the limits are made as they were given; settings outside these: 29.
+-- Settings within the limits are made as they were given: 0; settings outside these: 29.
 pub within_made : (limit resends : ℕ) → Within limit resends → settings_of limit resends ≡ Ok (record { limit = limit; resends = resends })
 unfolding settings_of pick
 within_made limit resends h =
@@ -21,6 +21,9 @@ within_made limit resends h =
     let b : limit ≤ limit_most = omega arith in
     let c : resends ≤ resends_most = omega arith in
     simp (le-ltb limit limit_least a, le-ltb limit_most limit b, le-ltb resends_most resends c)
+
+pub within_0 : (limit resends : ℕ) → Within limit resends → settings_number_of (settings_of limit resends) ≡ 0
+within_0 limit resends h = ap settings_number_of (within_made limit resends h)
 
 pub outside_29 : (limit resends : ℕ) → (Within limit resends → ⊥) → settings_number_of (settings_of limit resends) ≡ 29
 unfolding settings_of
