@@ -25,9 +25,13 @@ use Rattle.replay.specs.declared.end.End.TheVariants.{Closed, WriteFailed}
 use Rattle.replay.specs.declared.progress.Progress.{Progress}
 use Rattle.replay.specs.Turns.{held_most, replay_state_at, turn_from, over_of, course_of, Took, Goes}
 
--- Room for the longest line to every byte, by the lengths of the two arrays.
-pub roomy : (before out : List ℕ) → length before ≡ 65536 → length out ≡ 851968 → line_longest * length before ≤ length out
-roomy before out b o = omega (arith, b, o)
+-- Room for the longest line to every byte, by the lengths of the two arrays: the output has that much or more.
+pub roomy : {lines : ℕ} → 851968 ≤ lines → (before out : List ℕ) → length before ≡ 65536 → length out ≡ lines → line_longest * length before ≤ length out
+roomy room before out b o = omega (arith, room, b, o)
+
+-- The length of the output, as the array has it.
+pub sized : {lines : ℕ} → 851968 ≤ lines → (out : List ℕ) → length out ≡ lines → length out ≡ lines
+sized room out o = o
 
 -- Bytes that come to the front of their own buffer, as they are.
 pub to_front : (before : List ℕ) (from to : ℕ) → from ≤ to → to ≤ length before → paste before 0 (drop from before) (to - from) ≡ written_into (take (to - from) (drop from before)) before

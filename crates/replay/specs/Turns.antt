@@ -10,7 +10,7 @@ use Rattle.replay.specs.declared.end.End.{End}
 use Rattle.replay.specs.declared.end.End.TheVariants.{Closed, ReadFailed, WriteFailed, TooManyReads}
 use Rattle.replay.specs.declared.progress.Progress.{Progress}
 
--- A run that has not ended when its turns are counted down has made too many reads.
+-- A run that has not ended when all its turns are counted has made too many reads.
 abbrev pub end_of : Option End → End
 end_of None = TooManyReads
 end_of (Some end) = end

@@ -51,6 +51,7 @@ impl Progress {
     }
 
     // The read has brought so many bytes, or has failed.
+    #[tactic(auto, using(crate::proofs::Answers::read_nothing))]
     fn came(
         self,
         rt: &HostRuntime,
@@ -83,6 +84,8 @@ impl Progress {
         ensures held_le_held_most { result.end ≡ None → result.held ≤ held_most }
         ensures goes { Goes (turn_from self buffer.old) (take fresh (drop self.held buffer.old)) out.old result buffer.new out.new }
     {
+        // So no record waits for room.
+        prove!(printing::LONGEST * buffer.len() <= out.len());
         let mailbox = self.mailbox;
         let filled = self.held + fresh;
         let played = playing::play(mailbox, &buffer[..filled], out);
