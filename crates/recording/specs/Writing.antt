@@ -3,6 +3,7 @@ use Rattle.std.specs.Prelude.{ℕ, ◌/◌, ◌%◌, List, [], ◌∷◌, length
 use Rattle.basis.specs.Pick.{pick}
 use Rattle.basis.specs.Left.{Left, left}
 use Rattle.lent.specs.Written.{written_into}
+use Rattle.numbers.specs.Number.{number_in}
 use Rattle.recording.specs.declared.record.Record.{Record}
 use Rattle.recording.specs.declared.record.Record.TheVariants.{Control, Change, Success, Failure}
 use Rattle.recording.specs.declared.writer.TooShort.{TooShort}
@@ -34,5 +35,4 @@ abbrev pub too_short_number_of : TooShort → ℕ
 too_short_number_of short = 27
 
 abbrev pub record_write_number_of : Result ℕ TooShort → ℕ
-record_write_number_of (Ok n) = 0
-record_write_number_of (Err short) = too_short_number_of short
+record_write_number_of done = number_in too_short_number_of done
