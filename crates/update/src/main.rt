@@ -26,8 +26,8 @@ const IMAGE: usize = codes::IMAGE_SIZE_MOST;
 
 const FILE: usize = codes::IMAGE_SIZE_MOST + 1;
 
-// The file could not be read, or a line not be written. Crate vectors has such an error and such a `fill` for the programs of the vectors: a
-// library of these lines alone would be no plainer.
+// The file could not be read, or a line not be written. The programs of the vectors have such an error and such a `fill` too: no function of a
+// library reads or prints.
 #[derive(Debug, Drop)]
 enum Failure {
     Read(Error),

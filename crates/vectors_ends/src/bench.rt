@@ -4,7 +4,6 @@ use crate::end::End;
 use indoor_state::session::Indoor;
 use receiver_state::session::Receiver;
 use saying::Said;
-use vectors::Answers;
 use wire::codes;
 
 // One byte more than the largest image or file, so that a script can lend too much (01, Sizes and numbers).
@@ -34,11 +33,9 @@ impl<'f, 'i, 'b> Bench<'f, 'i, 'b> {
             indoor: End::empty(),
         }
     }
-}
 
-// A line of one end leaves the other alone.
-impl Answers for Bench<'_, '_, '_> {
-    fn answer(&mut self, line: &[u8]) -> Option<Said> {
+    // None where the line is not understood. A line of one end leaves the other alone.
+    pub(crate) fn answer(&mut self, line: &[u8]) -> Option<Said> {
         let words = script::rest(line);
         match script::first(line) {
             b"indoor" => self.indoor_line(words.get(1..)?),

@@ -4,16 +4,15 @@ use mailbox_state::mailbox::Mailbox;
 use numbers::Numbered;
 use saying::Said;
 use script::Field;
-use vectors::Answers;
 
 #[derive(Clone, Copy)]
 pub(crate) struct Bench {
     pub mailbox: Option<Mailbox>,
 }
 
-// Only a line of the mailbox changes what is held.
-impl Answers for Bench {
-    fn answer(&mut self, line: &[u8]) -> Option<Said> {
+impl Bench {
+    // None where the line is not understood. Only a line of the mailbox changes what is held.
+    pub(crate) fn answer(&mut self, line: &[u8]) -> Option<Said> {
         let words = script::rest(line);
         match script::first(line) {
             b"mailbox" => self.mailbox_line(words.get(1..)?),
@@ -22,9 +21,7 @@ impl Answers for Bench {
             _ => None,
         }
     }
-}
 
-impl Bench {
     fn mailbox_line(&mut self, line: &[u8]) -> Option<Said> {
         let words = script::rest(line);
         match script::first(line) {
