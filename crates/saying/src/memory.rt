@@ -10,8 +10,8 @@ use script::Field;
 pub fn look(words: &[u8], memory: &[u8]) -> Option<Said>
     ensures { result ≡ look_of words.now memory.now }
 {
-    let place = Field::none().next(words, memory.len())?;
-    let count = place.next(words, script::ROOM)?;
+    let place = Field::none().next(words, memory.len()).ok()?;
+    let count = place.next(words, script::ROOM).ok()?;
     if !count.is_last(words) {
         return None;
     }

@@ -1,5 +1,5 @@
 -- Each public contract leaves one answer and one state of the lent memory. Written from the contracts by tools/contracts.
-use Rattle.std.specs.Prelude.{◌≡◌, List, ℕ, Option, Bool, drop, take, min, length}
+use Rattle.std.specs.Prelude.{◌≡◌, List, ℕ, Result, Bool, Option, drop, take, min, length}
 use Rattle.basis.specs.Only.{only}
 use Rattle.script.specs.Decimal.{decimal_read_of}
 use Rattle.script.specs.Fields.{fields_begun, next_field_of, field_byte_of, field_word_of, is_last_field}
@@ -7,6 +7,7 @@ use Rattle.script.specs.Heading.{asks_of}
 use Rattle.script.specs.Spelling.{spelled_bytes_of, spell_of}
 use Rattle.script.specs.Words.{first_word_of, after_first_word_of}
 use Rattle.script.specs.declared.field.Field.{Field}
+use Rattle.script.specs.declared.field.NoNumber.{NoNumber}
 use Rattle.script.specs.declared.spelling.Spelled.{Spelled}
 
 pub one_none : (r r' : Field)
@@ -15,7 +16,7 @@ pub one_none : (r r' : Field)
     → r ≡ r'
 one_none r r' is is' = only is is'
 
-pub one_next : (self : Field) (words : List ℕ) (most : ℕ) (r r' : Option Field)
+pub one_next : (self : Field) (words : List ℕ) (most : ℕ) (r r' : Result Field NoNumber)
     → r ≡ next_field_of self words most
     → r' ≡ next_field_of self words most
     → r ≡ r'

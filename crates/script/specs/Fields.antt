@@ -1,9 +1,10 @@
 -- The words of a line that are numbers, one after the other.
-use Rattle.std.specs.Prelude.{ℕ, ◌+◌, ◌%◌, Bool, Option, None, Some, List, eqb, leb, length}
+use Rattle.std.specs.Prelude.{ℕ, ◌+◌, ◌%◌, Bool, Option, None, Some, Result, Ok, Err, List, eqb, leb, length}
 use Rattle.basis.specs.Pick.{pick}
 use Rattle.script.specs.Words.{script_word_at}
 use Rattle.script.specs.Decimal.{decimal_read_of}
 use Rattle.script.specs.declared.field.Field.{Field}
+use Rattle.script.specs.declared.field.NoNumber.{NoNumber}
 
 abbrev pub number_field : ℕ → ℕ → Field
 number_field value end = record { value = value; end = end }
@@ -12,15 +13,19 @@ number_field value end = record { value = value; end = end }
 abbrev pub fields_begun : Field
 fields_begun = number_field 0 0
 
--- The number of this word, which stands behind one that is a number too.
-abbrev pub field_behind : Field → List ℕ → Option ℕ → Option Field
-field_behind f word None = None
-field_behind f word (Some n) = Some (number_field n (f.end + 1 + length word))
+-- No number is known; the word ends here.
+abbrev pub unknown_field : ℕ → Result Field NoNumber
+unknown_field end = Err (record { end = end })
 
--- The next word's number; where no word is left there is none.
-unfoldable pub next_field_of : Field → List ℕ → ℕ → Option Field
+-- The number of this word, which stands behind one that is a number too.
+abbrev pub field_behind : Field → List ℕ → Option ℕ → Result Field NoNumber
+field_behind f word None = unknown_field (f.end + 1 + length word)
+field_behind f word (Some n) = Ok (number_field n (f.end + 1 + length word))
+
+-- The next word's number; where no word is left, none is known.
+unfoldable pub next_field_of : Field → List ℕ → ℕ → Result Field NoNumber
 next_field_of f words most =
-    pick (leb (length words) f.end) None
+    pick (leb (length words) f.end) (unknown_field f.end)
     (field_behind f (script_word_at words f.end) (decimal_read_of (script_word_at words f.end) most))
 
 abbrev pub is_last_field : Field → List ℕ → Bool

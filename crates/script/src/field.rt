@@ -12,6 +12,12 @@ pub struct Field {
     pub end: usize,
 }
 
+// A word that is no number: where it ends, so that whoever wants to can read on behind it. Where no word is left, the place stays.
+#[derive(Clone, Copy, Debug, PartialEq, Eq)]
+pub struct NoNumber {
+    pub end: usize,
+}
+
 impl Field {
     // Where a line's numbers begin: none has been read.
     pub fn none() -> Field
@@ -21,18 +27,18 @@ impl Field {
     }
 
     #[tactic(auto, using(basis::specs::Pick::tests), unfolding(crate::specs::Fields::next_field_of))]
-    pub fn next(self, words: &[u8], most: usize) -> Option<Field>
+    pub fn next(self, words: &[u8], most: usize) -> Result<Field, NoNumber>
         ensures { result ≡ next_field_of self words.now most }
     {
         if words.len() <= self.end {
-            return None;
+            return Err(NoNumber { end: self.end });
         }
         let word = word_at(words, self.end);
-        let value = decimal(word, most)?;
-        Some(Field {
-            value,
-            end: self.end + 1 + word.len(),
-        })
+        let end = self.end + 1 + word.len();
+        match decimal(word, most) {
+            Some(value) => Ok(Field { value, end }),
+            None => Err(NoNumber { end }),
+        }
     }
 
     // The value of a number that was read with at most 8 bits. It cannot fail, as a `TryFrom` could.

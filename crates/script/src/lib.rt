@@ -10,7 +10,7 @@ mod run;
 mod spelling;
 mod words;
 
-pub use field::Field;
+pub use field::{Field, NoNumber};
 pub use heading::asks;
 pub use number::decimal;
 pub use parts::{from, part_of, upto};

@@ -6,10 +6,10 @@ use script::Field;
 
 // The run gets only the lent parts of the file and the image.
 pub(crate) fn answer(words: &[u8], file: &[u8], image: &mut [u8]) -> Option<Said> {
-    let limit = Field::none().next(words, 65535)?;
-    let resends = limit.next(words, 255)?;
-    let capacity = resends.next(words, bench::MEMORY)?;
-    let length = capacity.next(words, bench::MEMORY)?;
+    let limit = Field::none().next(words, 65535).ok()?;
+    let resends = limit.next(words, 255).ok()?;
+    let capacity = resends.next(words, bench::MEMORY).ok()?;
+    let length = capacity.next(words, bench::MEMORY).ok()?;
     let release = release::behind(length, words)?;
     let file = script::upto(file, length.value);
     let room = script::part_of(image, capacity.value);

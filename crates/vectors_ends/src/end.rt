@@ -33,8 +33,8 @@ impl<S: Session> End<S> {
 
     // How much of the image or the file, and then of the buffer, the calls from here on borrow: for 28 and 27 (01, Numbers we answer).
     pub(crate) fn lend(&mut self, words: &[u8]) -> Option<Said> {
-        let memory = Field::none().next(words, bench::MEMORY)?;
-        let buffer = memory.next(words, bench::BUFFER)?;
+        let memory = Field::none().next(words, bench::MEMORY).ok()?;
+        let buffer = memory.next(words, bench::BUFFER).ok()?;
         if !buffer.is_last(words) {
             return None;
         }

@@ -10,8 +10,8 @@ pub(crate) fn start(
     file: &[u8],
     buffer: &mut [u8],
 ) -> Option<Result<Started, StartRefused>> {
-    let limit = Field::none().next(words, 65535)?;
-    let resends = limit.next(words, 255)?;
+    let limit = Field::none().next(words, 65535).ok()?;
+    let resends = limit.next(words, 255).ok()?;
     let release = release::behind(resends, words)?;
     Some(indoor::start(limit.word(), resends.byte(), release, file, buffer))
 }
@@ -39,8 +39,8 @@ fn response(words: &[u8], indoor: Indoor, file: &[u8], buffer: &mut [u8]) -> Opt
 
 // DATA responses without a wait, which ask for the blocks from the first number to the last. Only the last one's answer is printed.
 fn blocks(words: &[u8], indoor: Indoor, file: &[u8], buffer: &mut [u8]) -> Option<Outcome> {
-    let first = Field::none().next(words, 65535)?;
-    let last = first.next(words, 65535)?;
+    let first = Field::none().next(words, 65535).ok()?;
+    let last = first.next(words, 65535).ok()?;
     if !last.is_last(words) || last.value < first.value {
         return None;
     }
@@ -62,7 +62,7 @@ fn ask_for(indoor: Indoor, number: u16, file: &[u8], buffer: &mut [u8]) -> Outco
 }
 
 fn time(words: &[u8], indoor: Indoor, file: &[u8], buffer: &mut [u8]) -> Option<Outcome> {
-    let elapsed = Field::none().next(words, 65535)?;
+    let elapsed = Field::none().next(words, 65535).ok()?;
     if !elapsed.is_last(words) {
         return None;
     }

@@ -25,7 +25,7 @@ pub(crate) fn step(
 
 // The readiness wait, the verdict, and then the request's bytes.
 fn ask(words: &[u8], receiver: Receiver, image: &mut [u8], buffer: &mut [u8]) -> Option<Outcome> {
-    let readiness = Field::none().next(words, 255)?;
+    let readiness = Field::none().next(words, 255).ok()?;
     let behind = script::from(words, readiness.end).get(1..)?;
     let given = Given {
         readiness: readiness.byte(),
@@ -42,7 +42,7 @@ fn blocks(
     image: &mut [u8],
     buffer: &mut [u8],
 ) -> Option<Outcome> {
-    let count = Field::none().next(words, 9999)?;
+    let count = Field::none().next(words, 9999).ok()?;
     if !count.is_last(words) || count.value == 0 {
         return None;
     }
@@ -68,7 +68,7 @@ fn block(receiver: Receiver, image: &mut [u8], buffer: &mut [u8]) -> Outcome {
 }
 
 fn time(words: &[u8], receiver: Receiver, buffer: &mut [u8]) -> Option<Outcome> {
-    let elapsed = Field::none().next(words, 65535)?;
+    let elapsed = Field::none().next(words, 65535).ok()?;
     if !elapsed.is_last(words) {
         return None;
     }

@@ -25,9 +25,9 @@ impl Bench<'_, '_, '_> {
 
     // A start ends the session before it, also where it is refused (29): then there is no session.
     fn start_receiver(&mut self, words: &[u8]) -> Option<Said> {
-        let limit = Field::none().next(words, 65535)?;
-        let resends = limit.next(words, 255)?;
-        let capacity = resends.next(words, 9999999)?;
+        let limit = Field::none().next(words, 65535).ok()?;
+        let resends = limit.next(words, 255).ok()?;
+        let capacity = resends.next(words, 9999999).ok()?;
         if !capacity.is_last(words) {
             return None;
         }

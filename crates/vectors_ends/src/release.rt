@@ -4,12 +4,12 @@ use script::Field;
 use wire::request::Versions;
 
 pub(crate) fn behind(before: Field, words: &[u8]) -> Option<Release> {
-    let vendor = before.next(words, 65535)?;
-    let product = vendor.next(words, 65535)?;
-    let first = product.next(words, 65535)?;
-    let second = first.next(words, 65535)?;
-    let third = second.next(words, 65535)?;
-    let fourth = third.next(words, 65535)?;
+    let vendor = before.next(words, 65535).ok()?;
+    let product = vendor.next(words, 65535).ok()?;
+    let first = product.next(words, 65535).ok()?;
+    let second = first.next(words, 65535).ok()?;
+    let third = second.next(words, 65535).ok()?;
+    let fourth = third.next(words, 65535).ok()?;
     if !fourth.is_last(words) {
         return None;
     }

@@ -35,7 +35,7 @@ impl Bench {
 
     // The new mailbox takes the place of the one before, also where it is refused (29): then there is none.
     fn new(&mut self, words: &[u8]) -> Option<Said> {
-        let count = Field::none().next(words, 255)?;
+        let count = Field::none().next(words, 255).ok()?;
         if !count.is_last(words) {
             return None;
         }

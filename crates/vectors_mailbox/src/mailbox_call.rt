@@ -15,8 +15,8 @@ pub(crate) fn run(word: &[u8], words: &[u8], mailbox: Mailbox) -> Option<Outcome
 
 // Every connector number of 8 bits is spelled, for 9 (01, Numbers we answer).
 fn change(words: &[u8], mailbox: Mailbox) -> Option<Outcome> {
-    let connector = Field::none().next(words, 255)?;
-    let reason = connector.next(words, 65535)?;
+    let connector = Field::none().next(words, 255).ok()?;
+    let reason = connector.next(words, 65535).ok()?;
     if !reason.is_last(words) {
         return None;
     }

@@ -14,8 +14,8 @@ const PLACE_MOST: usize = 1048576;
 
 // The record at a place is read. The numbers are the place, and the room for the record that is written.
 pub(crate) fn record(words: &[u8]) -> Option<Said> {
-    let place = Field::none().next(words, PLACE_MOST)?;
-    let room = place.next(words, script::ROOM)?;
+    let place = Field::none().next(words, PLACE_MOST).ok()?;
+    let room = place.next(words, script::ROOM).ok()?;
     let recording = recording_behind(room, words)?;
     let mut output = [UNWRITTEN; script::ROOM];
     let lent = script::part_of(&output, room.value);
@@ -24,7 +24,7 @@ pub(crate) fn record(words: &[u8]) -> Option<Said> {
 
 // All records are played. The number is the room for the lines that are printed.
 pub(crate) fn replay(words: &[u8]) -> Option<Said> {
-    let room = Field::none().next(words, OUTPUT)?;
+    let room = Field::none().next(words, OUTPUT).ok()?;
     let recording = recording_behind(room, words)?;
     let mut output = [UNWRITTEN; OUTPUT];
     let lent = script::part_of(&output, room.value);
