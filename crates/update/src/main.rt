@@ -15,8 +15,7 @@ mod turn;
 mod view;
 mod words;
 
-use page::Streams;
-use std::fmt;
+use page::{Failed, Streams};
 use std::io::{Error, Read};
 use std::process::ExitCode;
 use wire::codes;
@@ -26,36 +25,17 @@ const IMAGE: usize = codes::IMAGE_SIZE_MOST;
 
 const FILE: usize = codes::IMAGE_SIZE_MOST + 1;
 
-// The file could not be read, or a line not be written. The programs of the vectors have such an error and such a `fill` too: no function of a
-// library reads or prints.
-#[derive(Debug, Drop)]
-enum Failure {
-    Read(Error),
-    Write(Error),
-}
-
-impl fmt::Display for Failure {
-    fn fmt<W: fmt::Write>(&self, f: &mut fmt::Formatter<W>) -> fmt::Result {
-        match self {
-            Failure::Read(error) => write!(f, "read: {error}"),
-            Failure::Write(error) => write!(f, "write: {error}"),
-        }
-    }
-}
-
 fn main(rt: HostRuntime) -> ExitCode {
     let to = Streams {
         out: rt.stdout(),
         err: rt.stderr(),
-        alloc: rt.alloc(),
     };
     let mut file = [0u8; FILE];
     let mut image = [0u8; IMAGE];
-    let Err(failure) = over(&rt, to, &mut file, &mut image) else {
-        return ExitCode::SUCCESS;
-    };
-    to.complain(failure);
-    ExitCode::FAILURE
+    match over(&rt, to, &mut file, &mut image) {
+        Ok(()) => ExitCode::SUCCESS,
+        Err(Failed) => ExitCode::FAILURE,
+    }
 }
 
 // The arrays become slices here, where their types give their lengths, so that no proof has to count a million bytes.
@@ -64,17 +44,17 @@ fn over(
     to: Streams,
     file: &mut [u8; FILE],
     image: &mut [u8; IMAGE],
-) -> Result<(), Failure> {
+) -> Result<(), Failed> {
     update(rt, to, file, image)
 }
 
-fn update(rt: &HostRuntime, to: Streams, file: &mut [u8], image: &mut [u8]) -> Result<(), Failure> {
+fn update(rt: &HostRuntime, to: Streams, file: &mut [u8], image: &mut [u8]) -> Result<(), Failed> {
     let Some(given) = given::arguments(rt) else {
         given::usage(to);
         return Ok(());
     };
-    let n = fill(&mut rt.stdin(), file).map_err(Failure::Read)?;
-    session::start(to, given, &file[..n], image).map_err(Failure::Write)
+    let n = fill(&mut rt.stdin(), file).map_err(|error| to.fails("read", error))?;
+    session::start(to, given, &file[..n], image)
 }
 
 // Reads until there is no room or the input ends, and returns how many bytes there are. How many reads that takes is not known before.

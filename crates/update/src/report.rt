@@ -4,7 +4,7 @@ ghost use Rattle.indoor_state.specs.declared.phase.Phase.TheVariants.{Done};
 ghost use Rattle.lossy_session.specs.Judge.{reports_done};
 ghost use Rattle.lossy_ends.specs.Over.{Over, Same, Delivered};
 
-use crate::page::Streams;
+use crate::page::{Failed, Streams};
 use crate::phases::{IndoorEnd, Receiver as Roof};
 use crate::turn::{self, Session};
 use crate::words::Version;
@@ -15,7 +15,6 @@ use lossy_session::{Judged, NotStarted};
 use numbers::Numbered;
 use receiver_state::session::Receiver;
 use std::fmt;
-use std::io::Error;
 
 // Why no session was started, by its number (01, Numbers we answer).
 pub(crate) fn refused(to: Streams, refusal: NotStarted) {
@@ -29,7 +28,7 @@ pub(crate) fn refused(to: Streams, refusal: NotStarted) {
 }
 
 // The first line that cannot be written ends the report.
-pub(crate) fn ended(to: Streams, session: Session, turns: u32) -> Result<(), Error>
+pub(crate) fn ended(to: Streams, session: Session, turns: u32) -> Result<(), Failed>
     requires { Over session.file.now session.ends session.image.now session.up session.down }
 {
     let Session {
@@ -63,14 +62,14 @@ fn judge(ends: Ends, file: &[u8], image: &[u8]) -> Judged
 }
 
 // The two versions by which the indoor end judges whether the file is newer (02 a).
-fn offered(to: Streams, ends: Ends) -> Result<(), Error> {
+fn offered(to: Streams, ends: Ends) -> Result<(), Failed> {
     let offered = Version(ends.indoor.plan.release.versions);
     let reported = Version(ends.receiver.identity.versions);
     to.say(format_args!("offered: {offered}; the receiver reports {reported}"))
 }
 
 // What is not done is told on standard error.
-fn outcome(to: Streams, ends: Ends, judged: Judged, file: &[u8], image: &[u8]) -> Result<(), Error>
+fn outcome(to: Streams, ends: Ends, judged: Judged, file: &[u8], image: &[u8]) -> Result<(), Failed>
     requires { judged.done ≡ true → Delivered file.now ends.receiver image.now }
 {
     if judged.done {
@@ -90,7 +89,7 @@ fn outcome(to: Streams, ends: Ends, judged: Judged, file: &[u8], image: &[u8]) -
 }
 
 // Only this function has the sentence, so that it is proved to be true wherever it is told.
-fn done(to: Streams, _receiver: Receiver, _file: &[u8], _image: &[u8]) -> Result<(), Error>
+fn done(to: Streams, _receiver: Receiver, _file: &[u8], _image: &[u8]) -> Result<(), Failed>
     requires { Delivered _file.now _receiver _image.now }
 {
     to.say("done: the receiver has marked the image good")
@@ -116,7 +115,7 @@ impl fmt::Display for Why {
 }
 
 // How many bytes the receiver has accepted, and their sum (01, Sizes and numbers).
-fn held(to: Streams, receiver: Receiver, image: &[u8]) -> Result<(), Error> {
+fn held(to: Streams, receiver: Receiver, image: &[u8]) -> Result<(), Failed> {
     let bytes = receiver_decide::accepted(receiver.phase).bytes;
     match receiver::sum(receiver, image) {
         Ok(sum) => to.say(format_args!("image: {bytes} bytes, sum {sum}")),
@@ -124,7 +123,7 @@ fn held(to: Streams, receiver: Receiver, image: &[u8]) -> Result<(), Error> {
     }
 }
 
-fn equality(to: Streams, judged: Judged) -> Result<(), Error> {
+fn equality(to: Streams, judged: Judged) -> Result<(), Failed> {
     if judged.same {
         return to.say("the image equals the file");
     }

@@ -4,12 +4,11 @@ ghost use Rattle.lossy_ends.specs.Over.{Over};
 
 use crate::counts::Counts;
 use crate::given::Given;
-use crate::page::Streams;
+use crate::page::{Failed, Streams};
 use crate::turn::Session;
 use crate::view::View;
 use crate::{report, turn};
 use lossy_session::Limits;
-use std::io::Error;
 use wire::codes;
 
 // Both bounds of docs/HAZARDS.md, part 6: the receiver's limit and a round trip are below the indoor end's limit, since the receiver alone
@@ -28,7 +27,7 @@ const INDOORS: Limits = Limits {
 const TURNS_MOST: u32 = 10000000;
 
 // Returns how many turns were taken.
-fn carry(session: &mut Session, start_view: View) -> Result<u32, Error>
+fn carry(session: &mut Session, start_view: View) -> Result<u32, Failed>
     requires { Over session.old.file.now session.old.ends session.old.image.now session.old.up session.old.down }
     ensures over { Over session.old.file.now session.new.ends session.new.image.now session.new.up session.new.down }
     ensures file { session.new.file ≡ session.old.file }
@@ -46,7 +45,12 @@ fn carry(session: &mut Session, start_view: View) -> Result<u32, Error>
 }
 
 // The file goes to a receiver with this identity, offered as this release.
-pub(crate) fn start(to: Streams, given: Given, file: &[u8], image: &mut [u8]) -> Result<(), Error> {
+pub(crate) fn start(
+    to: Streams,
+    given: Given,
+    file: &[u8],
+    image: &mut [u8],
+) -> Result<(), Failed> {
     let mut up = [0u8; codes::LONGEST];
     let started = lossy_session::start(
         ROOF,
@@ -77,7 +81,7 @@ pub(crate) fn start(to: Streams, given: Given, file: &[u8], image: &mut [u8]) ->
 }
 
 // There is no From of a usize for a u64.
-fn run(to: Streams, quiet: bool, mut session: Session) -> Result<(), Error>
+fn run(to: Streams, quiet: bool, mut session: Session) -> Result<(), Failed>
     requires { Over session.file.now session.ends session.image.now session.up session.down }
 {
     let view = View {

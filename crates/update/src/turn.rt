@@ -3,15 +3,14 @@ ghost use Rattle.std.specs.Prelude.{◌≡◌};
 ghost use Rattle.lossy_ends.specs.Over.{Over};
 
 use crate::counts::Counts;
+use crate::page::{Failed, Line};
 use crate::phases::{IndoorEnd, Stands};
-use crate::view::View;
+use crate::view::{self, View};
 use crate::{phases, words};
 use lossy::Carried;
 use lossy_ends::Ends;
 use lossy_session::Passed;
-use luck::{Going, Luck};
-use std::alloc::{AllocError, Global};
-use std::io::Error;
+use luck::{Going, Lost, Luck};
 use wire::codes;
 
 // The milliseconds of a turn.
@@ -38,7 +37,7 @@ pub(crate) struct Session<'a> {
 impl Session<'_> {
     // The message is printed before time passes, since an end may then write another one into its buffer. A line that cannot be written keeps
     // nothing back that the turn does.
-    pub(crate) fn step(&mut self, view: View) -> Result<(), Error>
+    pub(crate) fn step(&mut self, view: View) -> Result<(), Failed>
         requires { Over self.old.file.now self.old.ends self.old.image.now self.old.up self.old.down }
         ensures over { Over self.old.file.now self.new.ends self.new.image.now self.new.up self.new.down }
         ensures file { self.new.file ≡ self.old.file }
@@ -67,7 +66,7 @@ impl Session<'_> {
             .above(passed.above)
             .below(passed.below);
         self.luck = carried.going.luck;
-        view.to.both(told, silent)
+        told.and(silent)
     }
 
     // The indoor end is done or has failed, and no ABORT is on its way.
@@ -76,8 +75,8 @@ impl Session<'_> {
     }
 }
 
-// A line that is longer than its columns goes on a space behind them.
-fn message(carried: Carried, view: View, up: &[u8], down: &[u8]) -> Result<(), Error> {
+// A line with the message that went, and what became of it.
+fn message(carried: Carried, view: View, up: &[u8], down: &[u8]) -> Result<(), Failed> {
     let Some(arrived) = carried.went else {
         return Ok(());
     };
@@ -85,22 +84,27 @@ fn message(carried: Carried, view: View, up: &[u8], down: &[u8]) -> Result<(), E
         return Ok(());
     }
     let going = carried.going;
-    let alloc = view.to.alloc;
-    let words = worded(going, alloc, up, down)?;
-    let Ok(answered) = arrived else {
-        return view.row(way(going), format_args!("{words:<21} lost"));
-    };
-    let number = answered.number;
-    let told = format!(in alloc; "{words:<21} {number}")?;
-    if going.rises {
-        let stands = Stands {
-            phase: carried.ends.receiver.phase,
-            blocks: view.blocks,
-        };
-        return view.row(way(going), format_args!("{told:<29} {stands}"));
+    let mut line = view.line(way(going));
+    worded(&mut line, going, up, down);
+    line.column(view::ANSWER);
+    match arrived {
+        Err(Lost) => line.add("lost"),
+        Ok(answered) => {
+            line.add(answered.number);
+            line.column(view::PHASE);
+            stands(&mut line, going.rises, carried.ends, view.blocks);
+        }
     }
-    let phase = IndoorEnd(carried.ends.indoor.state.phase);
-    view.row(way(going), format_args!("{told:<29} {phase}"))
+    view.print(line)
+}
+
+// The end that answered, and its phase.
+fn stands(line: &mut Line, rises: bool, ends: Ends, blocks: u64) {
+    if rises {
+        let phase = ends.receiver.phase;
+        return line.add(Stands { phase, blocks });
+    }
+    line.add(IndoorEnd(ends.indoor.state.phase))
 }
 
 fn way(going: Going) -> &'static str {
@@ -113,17 +117,17 @@ fn way(going: Going) -> &'static str {
 }
 
 // The message that went, in a few words.
-fn worded(going: Going, alloc: Global, up: &[u8], down: &[u8]) -> Result<String, AllocError> {
+fn worded(line: &mut Line, going: Going, up: &[u8], down: &[u8]) {
     if going.rises {
         let asked = reading::read_request(going.way.message(up));
-        return format!(in alloc; "{}", words::Asked(asked));
+        return line.add(words::Asked(asked));
     }
     let told = reading::read_response(going.way.message(down));
-    format!(in alloc; "{}", words::Told(told))
+    line.add(words::Told(told))
 }
 
 // Prints what silence made the ends do.
-fn silence(before: Ends, passed: Passed, view: View) -> Result<(), Error> {
+fn silence(before: Ends, passed: Passed, view: View) -> Result<(), Failed> {
     let was_idle = phases::idle(before.receiver.phase);
     let is_idle = phases::idle(passed.ends.receiver.phase);
     let above = if !was_idle && is_idle {
@@ -141,5 +145,5 @@ fn silence(before: Ends, passed: Passed, view: View) -> Result<(), Error> {
     } else {
         Ok(())
     };
-    view.to.both(above, below)
+    above.and(below)
 }

@@ -1,7 +1,14 @@
 // The lines that are printed of each turn.
-use crate::page::Streams;
-use std::fmt::Display;
-use std::io::Error;
+use crate::page::{Failed, Line, Streams};
+
+// Where the columns of a line begin.
+const WAY: usize = 13;
+
+const MESSAGE: usize = 26;
+
+pub(crate) const ANSWER: usize = 48;
+
+pub(crate) const PHASE: usize = 56;
 
 // Where the lines are printed, the milliseconds since the start, and the blocks of the file.
 #[derive(Clone, Copy)]
@@ -19,31 +26,41 @@ impl View {
     }
 
     // The headings of the columns.
-    pub(crate) fn heading(self) -> Result<(), Error> {
-        self.say(format_args!(
-            "{:>11}  {:<12} {:<21} {:<7} {}",
-            "time", "way", "message", "answer", "who answers, and where it then stands"
-        ))
+    pub(crate) fn heading(self) -> Result<(), Failed> {
+        let mut line = Line::blank();
+        line.add("       time");
+        line.column(WAY);
+        line.add("way");
+        line.column(MESSAGE);
+        line.add("message");
+        line.column(ANSWER);
+        line.add("answer");
+        line.column(PHASE);
+        line.add("who answers, and where it then stands");
+        self.print(line)
     }
 
-    // A line: the time, the direction of the message or what is told in its place, and the rest.
-    pub(crate) fn row<D: Display + Drop>(self, way: &str, rest: D) -> Result<(), Error> {
-        if self.quiet {
-            return Ok(());
-        }
-        let time = format!(in self.to.alloc; "{:>8} ms", self.clock)?;
-        self.say(format_args!("{time:<12} {way:<12} {rest}"))
+    // The start of a line: the time, and the direction of the message or what is told in its place.
+    pub(crate) fn line(self, way: &str) -> Line {
+        let mut line = Line::blank();
+        line.add(format_args!("{:>8} ms", self.clock));
+        line.column(WAY);
+        line.add(way);
+        line.column(MESSAGE);
+        line
     }
 
     // An end has found the silence limit reached.
-    pub(crate) fn silence(self, words: &str) -> Result<(), Error> {
-        self.row("silence", words)
+    pub(crate) fn silence(self, words: &str) -> Result<(), Failed> {
+        let mut line = self.line("silence");
+        line.add(words);
+        self.print(line)
     }
 
-    fn say<D: Display + Drop>(self, line: D) -> Result<(), Error> {
+    pub(crate) fn print(self, line: Line) -> Result<(), Failed> {
         if self.quiet {
             return Ok(());
         }
-        self.to.say(line)
+        self.to.print(line)
     }
 }
